@@ -6,8 +6,8 @@ Every crate is proved, as many side by side as there are processors, those with 
 crate that is proved is checked as it stands, which says what its last line rests on, and then its tests and must-fail
 edits are tried beside the crates above. `edits.py` says which edits that are; with --all it is every one, and the whole
 of `rt ci` comes first. Over work that is kept in this checkout a step is taken again only if the crate or one below it
-has changed; with --anew each is. With crates named, only they and those below them are proved, and all edits of those
-named are tried.
+has changed; with --anew each is. With crates named, only they and those below them are proved, by `rt ci` too, and all
+edits of those named are tried.
 
 A line for each step has the time, the seconds of a processor and what came of it. What failed stands once more at the
 end. The last line is `N passed, M failed, K skipped`. Exit status 1 if something failed. Which edits were refused is
@@ -161,7 +161,7 @@ def prove(options: argparse.Namespace) -> Counts:
 
 def prove_alone(options: argparse.Namespace) -> Counts:
     begun = time.monotonic()
-    whole = rt_ci.run(options.rt, options.top) if options.all else rt_ci.Whole(Counts(), frozenset())
+    whole = rt_ci.run(options.rt, options.top, options.crates) if options.all else rt_ci.Whole(Counts(), frozenset())
     run = Run(options.top, options.rt, options.anew)
     run.counts += whole.counts
     crates, names, known = chosen(run, options, whole.refused)

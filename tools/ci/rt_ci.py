@@ -1,4 +1,4 @@
-"""The whole of `rt ci`, with its counts and the must-fail edits that it saw refused."""
+"""The whole of `rt ci`, or of what it does for some crates, with its counts and the must-fail edits that it saw refused."""
 
 from __future__ import annotations
 
@@ -6,6 +6,7 @@ import re
 import subprocess
 import sys
 from dataclasses import dataclass
+from typing import Sequence
 
 from tools.counts import Counts
 
@@ -18,12 +19,13 @@ class Whole:
     refused: frozenset[str]
 
 
-def run(rt: str, top: str) -> Whole:
-    """Runs rt ci and passes its output on. No counts, or a status against them, are a failure."""
+def run(rt: str, top: str, crates: Sequence[str] = ()) -> Whole:
+    """Runs rt ci, for these crates and those below them if any are named, and passes its output on. No counts, or a status against
+    them, are a failure."""
     refused: set[str] = set()
     last = ""
     with subprocess.Popen(
-        [rt, "ci"], cwd=top, stdin=subprocess.DEVNULL, stdout=subprocess.PIPE, stderr=subprocess.STDOUT, text=True,
+        [rt, "ci", *crates], cwd=top, stdin=subprocess.DEVNULL, stdout=subprocess.PIPE, stderr=subprocess.STDOUT, text=True,
         errors="replace",
     ) as child:
         assert child.stdout

@@ -59,6 +59,14 @@ import os, re, shutil, sys
 verb = sys.argv[1]
 if verb == "version":
     sys.exit(print("stand-in 1"))
+if verb == "ci":
+    refused = []
+    for crate in sys.argv[2:] or ["low", "high", "apart"]:
+        for edit in os.listdir(f"crates/{crate}/must-fail"):
+            refused.append("WRONG" in open(f"crates/{crate}/must-fail/{edit}").read())
+            print(f"rt: must-fail {crate}/{edit}: {'refused' if refused[-1] else 'NOT REFUSED'}")
+    print(f"{sum(refused)} passed, {refused.count(False)} failed")
+    sys.exit(not all(refused))
 name = os.path.basename(os.getcwd())
 text = ""
 for at, folders, names in os.walk("."):

@@ -12,7 +12,7 @@ import pytest
 from tools.ci import edits, prove, tried
 from tools.ci.small_tree import EDIT, FUNCTIONS, SmallTree
 from tools.counts import Counts
-
+from tools.sources.crates import Tree
 
 
 class Proved:
@@ -114,6 +114,39 @@ def test_only_the_sample_is_tried_where_nothing_is_due(
     monkeypatch.setattr(edits, "SAMPLE", 3)
     ran = Proved(tree, capsys, base=recorded(tree, capsys))
     assert ran.said.count(".edit: refused") == 3
+
+
+def believed(tree: SmallTree) -> str:
+    """Records every edit as refused, whatever it does. Returns the commit."""
+    crates, of_edits = edits.Checksums(Tree(tree.top)).of_all()
+    seen = {crate: {name: tried.Tried(checksum, 1) for name, checksum in of_edits[crate].items()} for crate in crates}
+    record = {crate: tried.Entry(checksum, seen[crate]) for crate, checksum in crates.items()}
+    tried.write_file(os.path.join(tree.top, tried.RECORD), record)
+    return tree.commit("record")
+
+
+@pytest.mark.parametrize("crates", [(), ("high",)])
+def test_all_finds_an_edit_that_is_not_due_and_proved(
+    tree: SmallTree, capsys: pytest.CaptureFixture[str], monkeypatch: pytest.MonkeyPatch, crates: tuple[str, ...],
+) -> None:
+    monkeypatch.setattr(edits, "SAMPLE", 0)
+    tree.change("crates/high/must-fail/lib.last.adds_one.edit", "WRONG", "")
+    base = believed(tree)
+    assert Proved(tree, capsys, base=base).counts.failed == 0
+    ran = Proved(tree, capsys, *crates, all=True, base=base)
+    assert "rt: must-fail high/lib.last.adds_one.edit: NOT REFUSED" in ran.said
+    assert ran.failed() == ["high/lib.last.adds_one.edit"]
+    # What `rt ci` saw refused is not tried again.
+    assert not re.search(r"\S+\.edit: refused: ", ran.said)
+
+
+def test_a_definition_below_that_is_weakened_makes_edits_due(tree: SmallTree, capsys: pytest.CaptureFixture[str]) -> None:
+    base = believed(tree)
+    tree.change("crates/low/specs/Next.antt", "1 ≤ 2", "1 ≤ 3")
+    tree.change("crates/low/must-fail/lib.next.adds_two.edit", "WRONG", "")
+    ran = Proved(tree, capsys, base=base)
+    assert ran.failed() == ["low/lib.next.adds_two.edit"], ran.said
+    assert "due: 1 of high: something that it reads has changed" in ran.said
 
 
 def test_crates_by_name_try_all_of_their_edits(tree: SmallTree, capsys: pytest.CaptureFixture[str]) -> None:
