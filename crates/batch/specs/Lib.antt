@@ -62,7 +62,7 @@
 -- Seen.antt
 --   vertex_at: The vertex of this index; past the end one of zeros, which no triangle of a batch names.
 --   CanBeSeen: The vertex is in the guard band, and also as it is seen.
---   AreSeen: The same of each vertex that an index names.
+--   AreSeen: Each vertex that an index names is in the guard band, and also as it is seen.
 --   NameSeenVertices: Each of these indices names a vertex, which can be seen.
 --   vertex_seen: The vertex as it is seen.
 --   draws_seen: The triangles of draws in draw order, as a draw list has them, seen from the corner of pixel (x, y).

@@ -20,7 +20,7 @@ pub record CanBeSeen (x y : ℤ) (v : BatchVertex) : Type 0 where
   pub in_range : IsVertexInRange v
   pub in_band : IsInGuardBand (moved_position x y (record { x = v.x; y = v.y }))
 
--- The same of each vertex that an index names.
+-- Each vertex that an index names is in the guard band, and also as it is seen.
 abbrev pub AreSeen : ℤ → ℤ → List BatchVertex → List ℕ → Type 0
 AreSeen x y vertices indices = All (λ k. CanBeSeen x y (vertex_at vertices k)) indices
 

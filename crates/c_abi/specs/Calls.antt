@@ -41,7 +41,7 @@ IsReport checks IsFirst status error =
     (Pass checks × (status ≡ 0) × (error ≡ alone 0))
     ⊎ ((e : CallError) × IsFirstError checks IsFirst e × (status ≡ status_number e.status) × (error ≡ error_of e))
 
--- The same of a call that has no error beside its status.
+-- The status is that of the first check that fails, and none if each holds: for a call that has no error beside its status.
 abbrev pub IsStatus : Checks Status → ℕ → Type 0
 IsStatus checks status = (Pass checks × (status ≡ 0)) ⊎ ((failed : Status) × FirstIs checks failed × (status ≡ status_number failed))
 

@@ -18,7 +18,8 @@ pub enum Format {
     /// Red, green, blue and alpha, of which the first three are divided by alpha when they are written, and multiplied by
     /// it when they are loaded.
     Rgba8Straight,
-    /// The same in the order blue, green, red and alpha.
+    /// Blue, green, red and alpha, of which the first three are divided by alpha when they are written, and multiplied by
+    /// it when they are loaded.
     Bgra8Straight,
 }
 
@@ -55,7 +56,7 @@ fn rgba_run(rgb: u8x32, alphas: u8x32) -> u8x32
     )
 }
 
-/// The same in the order blue, green, red and alpha.
+/// Blue, green, red and alpha of eight pixels, from what `rgba_run` takes.
 #[inline(always)]
 fn bgra_run(rgb: u8x32, alphas: u8x32) -> u8x32
     requires rgb { length rgb ≡ 32 }

@@ -112,7 +112,8 @@ impl TileRows {
         })
     }
 
-    /// The same of entries of the samples of index `s`. Also returns `Sample` if a pixel has no such sample.
+    /// Where a buffer of `size` entries of the samples of index `s`, `unit` each, has the rows of these tile rows. Returns
+    /// `Sample` if a pixel has no such sample, and `Pixels` if the buffer is too small.
     pub(crate) fn entry_rows(
         &self,
         s: u32,

@@ -52,7 +52,7 @@
 --   AreInBand: The corners are in the guard band.
 --   weights_checks: The checks of a call that writes edge functions: the corners are in the guard band, and so is the point.
 --   AreEdgesOf: The edge functions at a point, each of the edge across from its corner, the doubled area, and whether the point is covered.
---   AreEdges: The same, of the corners as the caller gives them.
+--   AreEdges: The edge functions at a point, of the corners as the caller gives them.
 --
 -- PolygonChecks.antt
 --   origin_of: The origin of the caller's canvas.

@@ -43,6 +43,6 @@ pub record AreEdgesOf (t : Tri) (p : Position) (edges : Edges) : Type 0 where
   pub doubled : edges.doubled ≡ doubled_area t.a t.b t.c
   pub covered : ((edges.covered ≡ 1) × Covers t.a t.b t.c p) ⊎ ((edges.covered ≡ 0) × ¬ Covers t.a t.b t.c p)
 
--- The same, of the corners as the caller gives them.
+-- The edge functions at a point, of the corners as the caller gives them.
 abbrev pub AreEdges : Corners → Position → Edges → Type 0
 AreEdges t p edges = AreEdgesOf (record { a = a_of t; b = b_of t; c = c_of t }) p edges

@@ -30,7 +30,7 @@
 -- History.antt
 --   AreEvents: The events of the triangles at sample s of pixel (i, j), one for each, in draw order.
 --   Place: Where a history stands: the triangles to come at sample s of pixel (i, j), and the sample that is stored there.
---   moved_behind: The same sample behind these triangles, with those to come, and this sample stored.
+--   moved_behind: The place of the sample behind these triangles, with those to come, and this sample stored.
 --   EndsWith: What the sample becomes by the triangles to come.
 --   IsNext: The event is that of the first triangle to come, and the history stands behind it.
 --   IsCoveredBy: The triangle covers the sample.

@@ -99,7 +99,7 @@ pub(crate) fn nearest_sum(a: u16x16, b: u16x16) -> u16x16
     nearest(least(saturated_sum(a, b), u16x16::splat(65025)))
 }
 
-/// The same for a sum that is at most 255 * 255.
+/// The nearest bytes to two terms' sum divided by 255, where the sum is at most 255 * 255.
 #[inline(always)]
 pub(crate) fn nearest_small_sum(a: u16x16, b: u16x16) -> u16x16
     requires { (i : ℕ) → i < 16 → slice_index a i + slice_index b i ≤ 65025 }

@@ -123,9 +123,9 @@ fn is_whole(mask: u64) -> bool
     mask == u64::MAX
 }
 
-/// The same, and nothing for a block that is not drawn. One that is drawn whole needs no masks: the compiler makes code
-/// of its own for it. Two calls in place of one would be too large to stand in line, and what is known of the merge
-/// would be lost.
+/// Draws a block where its mask is set: nothing if the mask is empty. A block that is drawn whole needs no masks: the
+/// compiler makes code of its own for it. Two calls in place of one would be too large to stand in line, and what is
+/// known of the merge would be lost.
 #[inline(always)]
 fn draw_by_mask(
     merge: &Merge,
@@ -175,8 +175,9 @@ fn draw_planes(
     }
 }
 
-/// The same with code of its own for each source of colour and of depth, for a merge that writes all colour channels by
-/// an equation of draw lists, and alpha with `ALPHA`. What is made here is known in the code that stands in line.
+/// Draws a block's samples by a merge that writes all colour channels by an equation of draw lists, and alpha with
+/// `ALPHA`. Each source of colour and of depth has code of its own, since what is made here is known in the code that
+/// stands in line.
 #[inline(never)]
 fn draw_by_sources<const OVER: bool, const ALPHA: bool>(
     placed: &Placed,
@@ -231,7 +232,7 @@ fn draw_by_sources<const OVER: bool, const ALPHA: bool>(
     }
 }
 
-/// The same for any other merge, with code of its own for each equation of draw lists.
+/// Draws a block's samples by any other merge. Each equation of draw lists has code of its own.
 #[inline(never)]
 fn draw_otherwise(
     known: KnownEquation,

@@ -25,7 +25,7 @@ use planes::Corrections;
 use shade::{Merge, Placed};
 use std::simd::prelude::*;
 
-/// The same byte in each lane.
+/// A byte in all lanes.
 #[inline(always)]
 fn same_lanes(byte: u8) -> u16x16
     ensures bytes { AreByteLanes result }
@@ -215,7 +215,7 @@ fn test_depths(merge: &Merge, mask: u16x16, z: u16x16, stored: &mut [u16], at: u
     passed
 }
 
-/// The same by where the depths come from; the first of the samples is at (x, y).
+/// Tests the depths of a source, and stores those that pass, as `test_depths` does. The first of the samples is at (x, y).
 #[inline(always)]
 fn test_depths_of(
     source: &DepthSource<'_>,

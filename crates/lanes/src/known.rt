@@ -48,8 +48,8 @@ pub(crate) fn with_known(known: KnownEquation, m: &Merge) -> Merge
     remade(known, m, m.write, m.blend.write_alpha)
 }
 
-/// The same for a merge that writes red, green and blue by an equation of draw lists: what it writes is known too. With
-/// `ALPHA` it writes alpha.
+/// A merge that writes red, green and blue by an equation of draw lists, made again so that its equation and what it
+/// writes are known if the code is inlined. With `ALPHA` it writes alpha.
 #[inline(always)]
 pub(crate) fn whole<const OVER: bool, const ALPHA: bool>(merge: &Merge) -> Merge
     requires known { IsKnown (known_of OVER) merge.now.blend.colour }

@@ -47,7 +47,7 @@ pub(crate) fn choose(m: u16x16, yes: u16x16, no: u16x16) -> u16x16
     m.simd_ge(u16x16::splat(32768)).select(yes, no)
 }
 
-/// The same for bytes.
+/// The bytes of `yes` where the mask is set, and those of `no` where it is not.
 #[inline(always)]
 pub(crate) fn choose_bytes(m: u16x16, yes: u8x16, no: u8x16) -> u8x16
     ensures whole { length result ≡ 16 }

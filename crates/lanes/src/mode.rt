@@ -35,13 +35,13 @@ pub(crate) enum DrawMode {
     Each,
     /// Sixteen samples at once; the colour takes the place of the stored one.
     Replace,
-    /// The same, but it is laid over the stored one.
+    /// Sixteen samples at once; the colour is laid over the stored one.
     Over,
     /// Sixteen samples at once; the colour takes the place of the stored one, and alpha is written too.
     ReplaceWithAlpha,
-    /// The same, but it is laid over the stored one.
+    /// Sixteen samples at once; the colour is laid over the stored one, and alpha is written too.
     OverWithAlpha,
-    /// The same for a merge that leaves a colour channel, or blends by another equation.
+    /// Sixteen samples at once, by a merge that leaves a colour channel, or blends by another equation.
     Otherwise(KnownEquation),
 }
 

@@ -32,7 +32,7 @@ pub(crate) enum ColourSource<'a> {
     Planes(&'a Placed, &'a ColourPlanes),
 }
 
-/// The same colour in each lane.
+/// A colour in all lanes.
 #[inline(always)]
 fn flat_colours(rgba: [u8; 4]) -> Colours
     ensures length { (length result.r ≡ 16) × (length result.g ≡ 16) × (length result.b ≡ 16) × (length result.a ≡ 16) }

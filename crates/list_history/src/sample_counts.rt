@@ -62,7 +62,7 @@ pub fn counts_of(alloc: Global, list: &DrawList, number: usize) -> Result<Sample
     Ok(counts)
 }
 
-/// The same of the samples of row `py` alone.
+/// What the triangle of this number does to the samples of row `py`, counted.
 fn counts_of_row(
     alloc: Global,
     list: &DrawList,

@@ -15,7 +15,7 @@ followed_by done later = later
 followed_by (check holds reported rest) later = check holds reported (followed_by rest later)
 followed_by (allocate reported rest) later = allocate reported (followed_by rest later)
 
--- The same checks, of which each reports what f makes of its report.
+-- These checks, each of which reports what f makes of its report.
 abbrev pub reported_as : {R S : Type 0} → (R → S) → Checks R → Checks S
 reported_as f done = done
 reported_as f (check holds reported rest) = check holds (f reported) (reported_as f rest)

@@ -32,7 +32,7 @@ abbrev pub first_fault : {T : Type 0} → List (Check T) → Option T
 first_fault [] = None
 first_fault (p ∷ ps) = if p.fails then Some p.reported else first_fault ps
 
--- The same checks, of which each reports what f makes of its report.
+-- These checks, each of which reports what f makes of its report.
 abbrev pub reported_as : {T U : Type 0} → (T → U) → List (Check T) → List (Check U)
 reported_as f checks = map (λ p. check p.fails (f p.reported)) checks
 

@@ -16,10 +16,10 @@
 --   CoversScreen: The triangle covers each sample of the screen, which is 4096 by 4096 pixels.
 --   IsAlikeOverScreen: The triangle makes the same of a sample wherever on the screen its pixel lies.
 --   TilePaints: The triangle is drawn at those samples of the tile that are in this part, and the others are unchanged.
---   RowsPaint: The same of tile rows.
+--   RowsPaint: The triangle is drawn at those samples of the tile rows that are in this part, and the others are unchanged.
 --   IsInTilePart: The sample is in the part that begins with sample `from`, and the state lets it be drawn.
 --   IsInColumn: The sample is in column `bx` of blocks and is drawn there.
---   IsFlagged: The same in the first n columns of blocks, from column `first` on.
+--   IsFlagged: The sample is in the first n columns of blocks, from column `first` on, and is drawn there.
 --   MeetsHere: The polygon meets sample s of pixel (i, j) of the canvas.
 --   HoldsSamples: Each sample of the canvas that lies in the box is in a column of blocks and a tile row of the window.
 --

@@ -49,7 +49,7 @@ pub record TilePaints (t : Placed) (tile : Tile) (part : ℕ → ℕ → ℕ →
       → IsCanvasDrawnAt t (sample_position (8 * tile.bx + column) (8 * tile.by + row) s tile.count) (stored_in_tile tile.count old column row s) (stored_in_tile tile.count new column row s)
   pub missed : (row column s : ℕ) → IsSampleOf tile row column s → ¬ part row column s → stored_in_tile tile.count new column row s ≡ stored_in_tile tile.count old column row s
 
--- The same of tile rows.
+-- The triangle is drawn at those samples of the tile rows that are in this part, and the others are unchanged.
 pub record RowsPaint (t : Placed) (c : Canvas) (first end : ℕ) (part : ℕ → ℕ → ℕ → Type 0) (old new : List BlockSamples) : Type 0 where
   pub met : (i j s : ℕ) → IsStoredIn c first end i j s → part i j s → IsCanvasDrawnAt t (sample_position i j s c.count) (stored c first old i j s) (stored c first new i j s)
   pub missed : (i j s : ℕ) → IsStoredIn c first end i j s → ¬ part i j s → stored c first new i j s ≡ stored c first old i j s
@@ -69,7 +69,8 @@ pub record IsInColumn (state : State) (tile : Tile) (bx from n : ℕ) (words : L
   pub in_masks : IsBitSet (slice_index words (4 * (row / 8) + (s - from))) (8 * (row % 8) + column % 8)
   pub allowed : Allows state (8 * tile.bx + column) (8 * tile.by + row) s
 
--- The same in the first n columns of blocks, from column `first` on.
+-- The sample is in the first n columns of blocks, from column `first` on, and is drawn there. It is in the part, its bit is set in the
+-- words of its column, and the state lets it be drawn.
 pub record IsFlagged (state : State) (count : SampleCount) (first from n : ℕ) (flags : List (List ℕ)) (i j s : ℕ) : Type 0 where
   pub left : 8 * first ≤ i
   pub right : i < 8 * (first + n)

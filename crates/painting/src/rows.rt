@@ -84,7 +84,7 @@ pub fn draw_polygon(
     draw_by_runs(piece, polygon, origin, &mut runs, flags, counters);
 }
 
-/// The same, with memory for the boxes of runs of corners, whatever is in it.
+/// Draws the polygon as `draw_polygon` does, with memory for the boxes of runs of corners, whatever is in it.
 pub(crate) fn draw_by_runs(
     piece: &mut Piece<'_>,
     polygon: &Polygon<'_>,

@@ -85,7 +85,7 @@ impl AttributePlane {
         candidates(self.lanes, self.plane.height(x, y))
     }
 
-    /// The same if the attribute is read, and else candidates that are no reason to correct anything.
+    /// The candidates at a group of an attribute that is read, and else candidates that are no reason to correct anything.
     #[inline(always)]
     pub(crate) fn candidates_if(&self, read: bool, x: i32, y: i32) -> u32x16
         requires { IsGroupOnScreen (record { x = x; y = y }) }

@@ -144,7 +144,7 @@ impl ColourPlanes {
         }
     }
 
-    /// The same if they are used, and else planes that nobody reads.
+    /// The planes of channels that are used, and else planes that nobody reads.
     #[inline(always)]
     pub fn of_used(
         used: bool,

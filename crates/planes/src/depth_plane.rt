@@ -37,7 +37,7 @@ impl DepthPlane {
         }
     }
 
-    /// The same if it is used, and else a plane that nobody reads.
+    /// The plane of a depth that is used, and else a plane that nobody reads.
     #[inline(always)]
     pub fn of_used(used: bool, slope: &Slope, reciprocal: Reciprocal, search: bool) -> DepthPlane
         requires { IsLevel 48 reciprocal.area slope.now }

@@ -17,7 +17,8 @@ pub(crate) struct Plane {
 /// and a sixteenth for the gradients' errors.
 const ABOVE: u64 = (2 << 32) + (1 << 28);
 
-/// The same if the gradients have no error: three units, so that a candidate of an integer value is sure.
+/// How far a plane lies above its attribute if its gradients have no error: three units, so that a candidate of an integer
+/// value is sure.
 const ABOVE_EXACT: u64 = 3 << 32;
 
 /// How much higher a plane of whole values is: three units of the high half.

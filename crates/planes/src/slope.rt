@@ -74,7 +74,7 @@ impl Slope {
         }
     }
 
-    /// The same if it is asked for, and else a slope that does not grow.
+    /// The slope of an attribute that is used, and of another one a slope that does not grow.
     #[inline(always)]
     pub fn of_used(used: bool, t: &Tri, values: [u16; 3]) -> Slope
         ensures slope { IsTrue used → IsSlope t.now.a t.now.b t.now.c (slice_index values 0) (slice_index values 1)

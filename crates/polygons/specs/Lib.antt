@@ -57,7 +57,7 @@
 --   covering: How many of the cells p is inside of, by the rule.
 --   AreSameEdges: The lists have the same edges, each in either direction.
 --   IsOutline: The cells have the edges of the outline once, and besides only edges that occur twice, in any directions.
---   IsFitted: The same, and of the edges that occur twice one cell has one direction and its neighbour the other.
+--   IsFitted: The cells have the edges of the outline once, and besides only edges that occur twice, once in each direction.
 --   HasParityOf: By the even-odd rule p is inside of an odd number of cells if and only if it is inside of their outline.
 --   WindForwards: No cell winds backwards around p, as none does whose rings run clockwise around its inside.
 --   IsPartition: If the outline winds around p once, p is inside of exactly one cell, and of none if the outline does not wind around p.

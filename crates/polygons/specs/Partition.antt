@@ -31,7 +31,7 @@ pub record IsOutline (outline : List Edge) (cells : List (List Edge)) : Type 0 w
   pub same : AreSameEdges shared again
   pub edges : IsPermutation (outline ++ (shared ++ again)) (all_edges cells)
 
--- The same, and of the edges that occur twice one cell has one direction and its neighbour the other.
+-- The cells have the edges of the outline once, and besides only edges that occur twice, once in each direction.
 pub record IsFitted (outline : List Edge) (cells : List (List Edge)) : Type 0 where
   pub shared : List Edge
   pub edges : IsPermutation (outline ++ (shared ++ map reversed shared)) (all_edges cells)

@@ -70,7 +70,7 @@ fn plot_sample(
     }
 }
 
-/// The same in the rows `first` to before `end`, which are those that the edge runs through.
+/// Marks where the edge is crossed by samples of index `s`, in the rows `first` to before `end`: those that it runs through.
 fn plot_rows(
     flags: &mut [Flags],
     counters: &mut [Counters],
@@ -108,7 +108,7 @@ fn plot_rows(
     }
 }
 
-/// The same of all samples of the part.
+/// Marks where the edge is crossed by samples of each index of the part.
 fn plot_samples(
     flags: &mut [Flags],
     counters: &mut [Counters],

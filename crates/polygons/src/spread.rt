@@ -25,7 +25,8 @@ fn spread(word: u64) -> u64
     doubled(half, 32)
 }
 
-/// The same with a flag before the word, if `carry` is set. A word without flags is filled or left empty at once.
+/// The word whose bit i is the parity of the bits 0 to i, and of a flag before them if `carry` is set. A word without
+/// flags is filled or left empty at once.
 #[inline(always)]
 fn fill_word(word: u64, carry: bool) -> u64
     ensures { (i : ℕ) → i < 64 → bit_at result i ≡ (parity (λ k. bit_at word k) (i + 1) + cond carry 1 0) % 2 }

@@ -42,7 +42,7 @@ fn sum_row(counters: &mut Counters, q: usize, sum: u32) -> (u64, u32)
     (bits & 255, sum)
 }
 
-/// The same of a row in which no counter is other than 0.
+/// The bits of a row whose counters are all 0: all or none, by the sum before it.
 #[inline(always)]
 fn level_row(sum: u32) -> u64
     ensures bits { (j : ℕ) → j < 8 → bit_at result j ≡ nonzero_bit sum }
@@ -51,7 +51,7 @@ fn level_row(sum: u32) -> u64
     if sum == 0 { 0 } else { 255 }
 }
 
-/// The same of any row of a word, by the flags of its counters.
+/// What `sum_row` makes of row `q`, without reading its counters if no flag of theirs is set in `marks`.
 #[inline(always)]
 fn sum_marked(marks: u64, counters: &mut Counters, q: usize, sum: u32) -> (u64, u32)
     requires row { q < 256 }

@@ -65,7 +65,7 @@ fn logarithm_and_half(count: SampleCount) -> (u16, u16)
     }
 }
 
-/// The same as `colours`, by the sums of the samples.
+/// What `colours` returns, by the sums of any number of samples.
 #[inline(never)]
 fn colours_of_more(tile: &Tile, samples: &[BlockSamples], row: u32, column: u32) -> u8x32
     requires samples { length samples.now ≡ planes_of tile.now.side tile.now.count }
@@ -80,7 +80,7 @@ fn colours_of_more(tile: &Tile, samples: &[BlockSamples], row: u32, column: u32)
     colours_by_sums(planes, 8 * (row % 8) as usize, half, bits)
 }
 
-/// The same as `colours`, with one sample a pixel or four.
+/// What `colours` returns, for one sample a pixel or four.
 #[inline(always)]
 fn colours_of_few(tile: &Tile, samples: &[BlockSamples], row: u32, column: u32) -> u8x32
     requires samples { length samples.now ≡ planes_of tile.now.side tile.now.count }
@@ -109,7 +109,7 @@ fn colours_of_few(tile: &Tile, samples: &[BlockSamples], row: u32, column: u32) 
     }
 }
 
-/// The same as `colours`, with code of its own for one sample a pixel or four, and for the other numbers.
+/// What `colours` returns: code for any number of samples with `MORE`, else for one sample a pixel or four.
 #[inline(always)]
 pub fn colours_by<const MORE: bool>(
     tile: &Tile,
@@ -179,7 +179,7 @@ fn alphas_by_sums(samples: &[BlockSamples], from: usize, half: u16, bits: u16) -
     means_of_sums(alpha_sums(samples, from), half, bits)
 }
 
-/// The same as `alphas_by`, by the sums of the samples.
+/// What `alphas_by` returns, by the sums of any number of samples.
 #[inline(never)]
 fn alphas_of_more(tile: &Tile, samples: &[BlockSamples], row: u32, column: u32) -> u8x8
     requires samples { length samples.now ≡ planes_of tile.now.side tile.now.count }
@@ -204,7 +204,7 @@ fn eight_from(bytes: &[u8], from: usize) -> u8x8
     u8x8::from_slice(&bytes[from..])
 }
 
-/// The same as `alphas_by`, with one sample a pixel or four.
+/// What `alphas_by` returns, for one sample a pixel or four.
 #[inline(always)]
 fn alphas_of_few(tile: &Tile, samples: &[BlockSamples], row: u32, column: u32) -> u8x8
     requires samples { length samples.now ≡ planes_of tile.now.side tile.now.count }

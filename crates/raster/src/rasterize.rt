@@ -260,7 +260,7 @@ pub fn draw_triangle(triangle: &Placed, tile: &Tile, samples: &mut [BlockSamples
     draw_next(triangle, tile, samples, &mut interpolants);
 }
 
-/// The same for one triangle of many: it is made ready in the memory of the one before.
+/// Draws one triangle of many at the samples of the tile that it meets: it is made ready in the memory of the one before.
 pub fn draw_next(
     triangle: &Placed,
     tile: &Tile,

@@ -25,7 +25,8 @@ pub fn tiles_met(triangle: &Placed, setup: &Setup, side: TileSide) -> (Span, Spa
     (columns, rows)
 }
 
-/// The same of tiles of 64 by 64 pixels, for a triangle that is not made ready.
+/// The columns and the rows of tiles of 64 by 64 pixels in which the triangle can meet a sample; nowhere if it is culled or
+/// has no area.
 pub(crate) fn tiles_of(triangle: &Placed) -> (Span, Span)
     ensures first_column { result.0.first ≤ 64 }
     ensures columns { result.0.end ≤ 64 }

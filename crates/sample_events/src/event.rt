@@ -26,9 +26,9 @@ pub struct SampleEvent {
     /// How the sample fails the top-left rule at the edge from the first to the second vertex: 0 not at all, 1 outside,
     /// 2 on an edge that is neither top nor left.
     pub failure_ab: u32,
-    /// The same at the edge from the second to the third vertex.
+    /// Which it is at the edge from the second to the third vertex.
     pub failure_bc: u32,
-    /// The same at the edge from the third to the first vertex.
+    /// Which it is at the edge from the third to the first vertex.
     pub failure_ca: u32,
     /// What the triangle did: 0 missed, 1 depth failed, 2 drawn.
     pub result: u32,

@@ -41,7 +41,7 @@
 --   replace: The source replaces the stored channel.
 --   keep: The stored channel is left.
 --   over: The source over the stored channel (Porter and Duff 1984), for a colour that is not multiplied by its alpha.
---   premultiplied_over: The same for a colour that is multiplied by its alpha, and for alpha itself.
+--   premultiplied_over: The source over the stored channel, for a colour that is multiplied by its alpha, and for alpha itself.
 --   add: The sum.
 --   add_by_alpha: The sum, with the source multiplied by its alpha.
 --   multiply: The product, the stored channel as the factor of the source.

@@ -33,7 +33,7 @@ keep = record { source = Zero; stored = One; operation = Add }
 abbrev pub over : Equation
 over = record { source = SourceAlpha; stored = InverseSourceAlpha; operation = Add }
 
--- The same for a colour that is multiplied by its alpha, and for alpha itself.
+-- The source over the stored channel, for a colour that is multiplied by its alpha, and for alpha itself.
 abbrev pub premultiplied_over : Equation
 premultiplied_over = record { source = One; stored = InverseSourceAlpha; operation = Add }
 

@@ -35,7 +35,7 @@ impl Equation {
         stored: BlendFactor::InverseSourceAlpha,
         operation: BlendOperation::Add,
     };
-    /// The same for a colour that is multiplied by its alpha, and for alpha itself.
+    /// The source over the stored channel, for a colour that is multiplied by its alpha, and for alpha itself.
     pub const PREMULTIPLIED_OVER: Equation = Equation {
         source: BlendFactor::One,
         stored: BlendFactor::InverseSourceAlpha,
@@ -76,7 +76,7 @@ impl Blend {
         constant: [0; 4],
         write_alpha: false,
     };
-    /// The same for colours that are multiplied by their alpha.
+    /// The new colour over the stored one, for colours that are multiplied by their alpha.
     pub const PREMULTIPLIED: Blend = Blend {
         colour: Equation::PREMULTIPLIED_OVER,
         alpha: Equation::PREMULTIPLIED_OVER,

@@ -28,7 +28,8 @@ pub fn apply(m: &Merge, new: &Shaded, old: Sample) -> Sample
     apply_on_canvas(m, new, old.with_alpha(255)).colour_and_depth()
 }
 
-/// The same on a canvas, which stores alpha. Every equation reads the alpha that was stored before.
+/// The stored sample of a canvas, which stores alpha, after a triangle's sample. Every equation reads the alpha that was
+/// stored before.
 pub fn apply_on_canvas(m: &Merge, new: &Shaded, old: CanvasSample) -> CanvasSample
     ensures { IsCanvasApplied m.now new.now old result }
 {

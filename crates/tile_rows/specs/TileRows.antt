@@ -26,7 +26,7 @@ pub record HaveBins (l : Scene) (g : TileGrid) (first end : ℕ) (bins : TileBin
   pub has : (n : ℕ) → n < (end - first) * columns_of g → HasBin bins (first * columns_of g + n)
   pub each : AreOfTiles l g bins
 
--- The same of these tile rows.
+-- Bins that have those of all tiles of these tile rows, and may have others.
 abbrev pub HaveBinsOf : TileRows → TileBins → Type 0
 HaveBinsOf rows bins = HaveBins rows.list.now rows.tiling.now rows.first rows.end bins
 

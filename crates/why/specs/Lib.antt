@@ -16,7 +16,7 @@
 --   counts_in: The numbers of a triangle's samples, in this form.
 --   counts_text: The text of a report of a triangle with these numbers.
 --   value_json: What the picture shows at a pixel, in a JSON text.
---   value_table: The same as the last line of a table.
+--   value_table: What the picture shows at a pixel, as the last line of a table.
 --   pixel_in: A report of a pixel in this form, with the histories of its samples.
 --   pixel_text: The text of a report of a pixel, with the histories of its samples.
 --

@@ -52,7 +52,7 @@ value_json Color pixel =
     ++ codes "," ++ decimal (slice_index pixel.colour 2) ++ codes "]"
 value_json Depth pixel = codes "\"depth\":" ++ decimal pixel.depth
 
--- The same as the last line of a table.
+-- What the picture shows at a pixel, as the last line of a table.
 abbrev pub value_table : Output → Pixel → List ℕ
 value_table Color pixel =
     codes "colour (" ++ decimal (slice_index pixel.colour 0) ++ codes ", " ++ decimal (slice_index pixel.colour 1)

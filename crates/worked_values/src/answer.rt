@@ -18,7 +18,7 @@ pub(crate) enum Answer {
     Mask(u64),
     /// The number of samples, and their words; those of the others are zero.
     Covered(u32, Masks),
-    /// The same of two triangles.
+    /// The number of samples, and the words of each of two triangles.
     BothCovered(u32, Masks, Masks),
     Classed(Class),
     /// A square's column and row in blocks, its size and its class.

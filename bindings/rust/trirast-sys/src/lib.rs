@@ -12,7 +12,7 @@ pub const TRIRAST_VERSION_PATCH: u32 = 0;
 pub const TRIRAST_INTERFACE: u32 = 2;
 /// Bytes of stack that are enough for each call.
 pub const TRIRAST_STACK: usize = 262_144;
-/// The same for a call that reads a draw list.
+/// Bytes of stack that are enough for each call that reads a draw list.
 pub const TRIRAST_STACK_TEXT: usize = 196_608;
 /// No index: what an error names is in no draw, or is no element.
 pub const TRIRAST_NONE: usize = usize::MAX;

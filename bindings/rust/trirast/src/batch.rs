@@ -40,7 +40,7 @@ impl Vertex {
         Vertex { x, y, depth: 0, red, green, blue, alpha, unused: 0 }
     }
 
-    /// The same at this depth.
+    /// Sets the depth.
     #[must_use]
     pub const fn at_depth(self, depth: u16) -> Vertex {
         Vertex { depth, ..self }
@@ -179,7 +179,7 @@ impl<'a> Draw<'a> {
         Draw { vertices: vertices.into(), indices: indices.into(), state: State::default() }
     }
 
-    /// The same in this state.
+    /// Sets the state.
     #[must_use]
     pub fn state(self, state: State) -> Draw<'a> {
         Draw { state, ..self }
@@ -271,7 +271,7 @@ fn joined_vertices(draws: &[Draw<'_>]) -> Result<Vec<Vertex>, Error> {
     Ok(all)
 }
 
-/// The indices of all draws, which may be of both sizes. The same otherwise.
+/// The indices of all draws, which may be of both sizes. If the memory cannot be allocated, returns the error of that.
 fn joined_indices(draws: &[Draw<'_>]) -> Result<Vec<u32>, Error> {
     let mut all: Vec<u32> = Vec::new();
     for draw in draws {

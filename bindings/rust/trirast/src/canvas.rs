@@ -19,12 +19,13 @@ pub enum Format {
     Rgb8 = sys::TRIRAST_FORMAT_RGB8 as isize,
     /// Red, green, blue and alpha, as they are stored. Without stored alpha 255 is written, and none is read.
     Rgba8 = sys::TRIRAST_FORMAT_RGBA8 as isize,
-    /// The same in the order blue, green, red and alpha.
+    /// Blue, green, red and alpha, as they are stored. Without stored alpha 255 is written, and none is read.
     Bgra8 = sys::TRIRAST_FORMAT_BGRA8 as isize,
     /// Red, green, blue and alpha as image files have them: colours are divided by alpha when they are written, and multiplied
     /// by it when they are loaded.
     Rgba8Straight = sys::TRIRAST_FORMAT_RGBA8_STRAIGHT as isize,
-    /// The same in the order blue, green, red and alpha.
+    /// Blue, green, red and alpha as image files have them: colours are divided by alpha when they are written, and multiplied
+    /// by it when they are loaded.
     Bgra8Straight = sys::TRIRAST_FORMAT_BGRA8_STRAIGHT as isize,
 }
 
@@ -297,7 +298,7 @@ impl TileRows<'_> {
         })
     }
 
-    /// Makes a picture the colour of one sample of its pixels. The same otherwise.
+    /// Makes a picture the colour of one sample of its pixels, where [`load`](TileRows::load) makes it that of all.
     ///
     /// # Errors
     ///

@@ -91,8 +91,8 @@ impl TileRows<'_> {
         self.pieces(self.threads.min(self.raw.end - self.raw.first).max(1))
     }
 
-    /// The same, each with its part of a buffer. If that is too small, there is one part, so that none is done before the library
-    /// reports it.
+    /// The parts among which a call shares these tile rows, each with its part of a buffer. If that is too small, there is one
+    /// part, so that none is done before the library reports it.
     pub(crate) fn with_parts_of<B: Cut>(&self, buffer: B, rows: Rows) -> Vec<(TileRows<'_>, B)> {
         let stride = rows.stride_in(buffer.length(), self.height());
         let parts = if stride.is_some() { self.shared() } else { self.pieces(1) };

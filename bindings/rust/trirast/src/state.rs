@@ -127,49 +127,49 @@ impl State {
         State::default()
     }
 
-    /// The same with indices of this kind.
+    /// Sets how indices make triangles.
     #[must_use]
     pub fn topology(self, topology: Topology) -> State {
         State { topology, ..self }
     }
 
-    /// The same with these triangles dropped.
+    /// Sets which triangles are dropped.
     #[must_use]
     pub fn cull(self, cull: Cull) -> State {
         State { cull, ..self }
     }
 
-    /// The same with this test.
+    /// Sets the depth test.
     #[must_use]
     pub fn depth_test(self, depth_test: DepthTest) -> State {
         State { depth_test, ..self }
     }
 
-    /// The same with the new depth stored, or not.
+    /// Sets whether the new depth is stored.
     #[must_use]
     pub fn depth_write(self, depth_write: bool) -> State {
         State { depth_write, ..self }
     }
 
-    /// The same with this blending.
+    /// Sets the blending.
     #[must_use]
     pub fn blend(self, blend: Blend) -> State {
         State { blend, ..self }
     }
 
-    /// The same with these channels not written.
+    /// Sets the channels that are not written.
     #[must_use]
     pub fn keep(self, keep: Channels) -> State {
         State { keep, ..self }
     }
 
-    /// The same with these samples not drawn.
+    /// Sets the samples that are not drawn: those whose bits are 1.
     #[must_use]
     pub fn skip_samples(self, skip_samples: u16) -> State {
         State { skip_samples, ..self }
     }
 
-    /// The same in this scissor: left, top, right, bottom, the last two outside.
+    /// Sets the scissor: left, top, right, bottom, the last two outside.
     #[must_use]
     pub fn scissor(self, scissor: [i32; 4]) -> State {
         State { scissor: Some(scissor), ..self }
