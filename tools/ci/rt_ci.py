@@ -35,7 +35,8 @@ def run(rt: str, top: str, crates: Sequence[str] = ()) -> Whole:
             last = line.strip() or last
             if found := REFUSED.match(line):
                 refused.add(found[1])
-    counts = Counts.in_line(last)
+    # Of crates by name the line also says, in brackets, that this is not the gate.
+    counts = Counts.in_line(last.partition(" (")[0])
     if counts is None or (child.returncode and not counts.failed):
         print(f"rt ci ended with status {child.returncode}" + ("" if counts else " and printed no counts"), flush=True)
         counts = (counts or Counts()) + Counts(failed=1)
