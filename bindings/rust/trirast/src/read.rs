@@ -32,7 +32,7 @@ impl TileRows<'_> {
         Ok(found)
     }
 
-    /// Writes the colour of one sample of each pixel. The same otherwise as [`resolve`](TileRows::resolve).
+    /// Writes the colour of one sample of each pixel, unresolved, to rows as of [`resolve`](TileRows::resolve).
     ///
     /// # Errors
     ///
@@ -81,7 +81,8 @@ impl TileRows<'_> {
         Ok(found)
     }
 
-    /// Writes the id of one sample of each pixel: its red + 256 * green + 65536 * blue. The same otherwise.
+    /// Writes the id of one sample of each pixel: its red + 256 * green + 65536 * blue. `stride` is in bytes. Entries between the
+    /// rows of pixels are unchanged.
     ///
     /// # Errors
     ///

@@ -70,7 +70,7 @@ impl TileRows<'_> {
     }
 
     /// Stores the colours of all samples of one tile, red + 256 * green + 65536 * blue each, of which the upper byte is not read.
-    /// Depths and other tiles are unchanged. One colour is that of all samples of the tile. Storing what
+    /// Depths, alpha and other tiles are unchanged. One colour is that of all samples of the tile. Storing what
     /// [`tile_ids`](TileRows::tile_ids) has returned changes nothing.
     ///
     /// # Errors
