@@ -4,7 +4,8 @@ use trirast_sys as sys;
 
 use crate::error::done;
 use crate::parts::ROW_PIXELS;
-use crate::{Error, TileRows};
+use crate::values::Values;
+use crate::{Error, ErrorKind, TileRows};
 
 /// The width and height of a tile of a canvas, in pixels.
 pub const CANVAS_TILE_SIZE: u32 = ROW_PIXELS;
@@ -64,7 +65,8 @@ impl TileRows<'_> {
         let mut uniform = 0;
         let (start, count) = (entries.as_mut_ptr(), entries.len());
         // SAFETY: the struct has the memory of its tile rows, the slice its length, and the library keeps neither.
-        done(unsafe { sys::trirast_canvas_tile_ids(&self.raw, column, row, start, count, &mut uniform) })?;
+        done(unsafe { sys::trirast_canvas_tile_ids(&self.raw, column, row, start, count, &mut uniform) })
+            .map_err(|error| self.explain(error, [column, row], count, false))?;
         let written = if uniform == 1 { 1 } else { self.tile_entries() };
         Ok(entries.get(..written).unwrap_or_default())
     }
@@ -80,5 +82,16 @@ impl TileRows<'_> {
     pub fn tile_store(&mut self, column: u32, row: u32, colors: &[u32]) -> Result<(), Error> {
         // SAFETY: as for tile_ids.
         done(unsafe { sys::trirast_canvas_tile_store(&mut self.raw, column, row, colors.as_ptr(), colors.len()) })
+            .map_err(|error| self.explain(error, [column, row], colors.len(), true))
+    }
+
+    /// An error of a call on a tile and as many entries, with its values.
+    fn explain(&self, error: Error, tile: [u32; 2], given: usize, or_one: bool) -> Error {
+        let rows = [self.raw.first, self.raw.end];
+        match error.kind() {
+            ErrorKind::BadTile => error.with(Values::Tile { given: tile, columns: self.tile_columns(), rows }),
+            ErrorKind::BufferTooSmall => error.with(Values::Entries { given, wanted: self.tile_entries(), or_one }),
+            _ => error,
+        }
     }
 }
