@@ -264,12 +264,12 @@ class Canvas:
         return self._resolved("rgb", out, threads)
 
     def rgba(self, out: Optional[Any] = None, *, straight: bool = False, threads: SupportsIndex = 1) -> Any:
-        """The same with alpha, of the shape (height, width, 4). It is 255 on a canvas without alpha. If it is `straight`, colours
-        are divided by alpha, as image files have them."""
+        """The colours with alpha, of the shape (height, width, 4): an array as that of `rgb`, or what `out` is. Alpha is 255 on a
+        canvas without it. If it is `straight`, colours are divided by alpha, as image files have them."""
         return self._resolved("rgba_straight" if flag("straight", straight) else "rgba", out, threads)
 
     def bgra(self, out: Optional[Any] = None, *, straight: bool = False, threads: SupportsIndex = 1) -> Any:
-        """The same in the order blue, green, red, alpha."""
+        """The colours in the order blue, green, red, alpha, of the shape (height, width, 4); all else is as for `rgba`."""
         return self._resolved("bgra_straight" if flag("straight", straight) else "bgra", out, threads)
 
     def save(self, path: Path, *, dpi: Optional[SupportsFloat] = None, threads: SupportsIndex = 1) -> None:

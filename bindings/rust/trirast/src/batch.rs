@@ -41,7 +41,7 @@ impl Vertex {
         Vertex { x, y, depth: 0, red, green, blue, alpha, unused: 0 }
     }
 
-    /// The same at this depth.
+    /// Returns this vertex at another depth.
     #[must_use]
     pub const fn at_depth(self, depth: u16) -> Vertex {
         Vertex { depth, ..self }
@@ -185,7 +185,7 @@ impl<'a> Draw<'a> {
         Draw { vertices: vertices.into(), indices: indices.into(), state: State::default() }
     }
 
-    /// The same in this state.
+    /// Returns this draw in another state.
     #[must_use]
     pub fn state(self, state: State) -> Draw<'a> {
         Draw { state, ..self }

@@ -20,12 +20,12 @@ pub enum Format {
     Rgb8 = sys::TRIRAST_FORMAT_RGB8 as isize,
     /// Red, green, blue and alpha, as they are stored. Without stored alpha 255 is written, and none is read.
     Rgba8 = sys::TRIRAST_FORMAT_RGBA8 as isize,
-    /// The same in the order blue, green, red and alpha.
+    /// Blue, green, red and alpha, as they are stored, otherwise as [`Rgba8`](Format::Rgba8).
     Bgra8 = sys::TRIRAST_FORMAT_BGRA8 as isize,
     /// Red, green, blue and alpha as image files have them: colours are divided by alpha when they are written, and multiplied
     /// by it when they are loaded.
     Rgba8Straight = sys::TRIRAST_FORMAT_RGBA8_STRAIGHT as isize,
-    /// The same in the order blue, green, red and alpha.
+    /// Blue, green, red and alpha as image files have them: see [`Rgba8Straight`](Format::Rgba8Straight).
     Bgra8Straight = sys::TRIRAST_FORMAT_BGRA8_STRAIGHT as isize,
 }
 

@@ -84,11 +84,11 @@ impl std::error::Error for ClipError {}
 pub struct Clip {
     /// The first pixel of the viewport on the screen, to the right: -16,384 to 16,384.
     pub left: i32,
-    /// The same downwards.
+    /// The first pixel of the viewport on the screen, downwards: -16,384 to 16,384.
     pub top: i32,
     /// The pixels over which x / w goes from -1 to 1: 1 to 16,384.
     pub width: u32,
-    /// The same of y / w.
+    /// The pixels over which y / w goes from -1 to 1: 1 to 16,384.
     pub height: u32,
     /// What z / w is at the near plane.
     pub near_plane: NearPlane,
@@ -105,25 +105,25 @@ impl Clip {
         Clip { left: 0, top: 0, width, height, near_plane, sides, depths: [0, u16::MAX] }
     }
 
-    /// The same from this pixel of the screen.
+    /// Returns this viewport from another pixel of the screen.
     #[must_use]
     pub const fn at(self, left: i32, top: i32) -> Clip {
         Clip { left, top, ..self }
     }
 
-    /// The same with this near plane.
+    /// Returns this viewport with another near plane.
     #[must_use]
     pub const fn near_plane(self, near_plane: NearPlane) -> Clip {
         Clip { near_plane, ..self }
     }
 
-    /// The same with these sides.
+    /// Returns this viewport with other sides.
     #[must_use]
     pub const fn sides(self, sides: Sides) -> Clip {
         Clip { sides, ..self }
     }
 
-    /// The same with these depths at the near plane and at the far plane.
+    /// Returns this viewport with other depths at the near plane and at the far plane.
     #[must_use]
     pub const fn depths(self, depths: [u16; 2]) -> Clip {
         Clip { depths, ..self }

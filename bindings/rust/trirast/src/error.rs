@@ -72,7 +72,7 @@ impl Error {
         Error { raw, values: Values::None }
     }
 
-    /// The same error with values in its text.
+    /// Returns this error with values in its text.
     pub(crate) fn with(self, values: Values) -> Error {
         Error { values, ..self }
     }

@@ -69,19 +69,19 @@ impl<'a> Polygons<'a> {
         Polygons { corners, ring_ends, polygon_ends, colors: &[], depths: &[], fill_rule: FillRule::EvenOdd }
     }
 
-    /// The same in these colours: red, green, blue and alpha of each polygon.
+    /// Returns these polygons in other colours: red, green, blue and alpha of each.
     #[must_use]
     pub const fn colors(self, colors: &'a [[u8; 4]]) -> Polygons<'a> {
         Polygons { colors, ..self }
     }
 
-    /// The same at these depths, one of each polygon.
+    /// Returns these polygons at other depths, one of each.
     #[must_use]
     pub const fn depths(self, depths: &'a [u16]) -> Polygons<'a> {
         Polygons { depths, ..self }
     }
 
-    /// The same by this rule.
+    /// Returns these polygons by another rule.
     #[must_use]
     pub const fn fill_rule(self, fill_rule: FillRule) -> Polygons<'a> {
         Polygons { fill_rule, ..self }

@@ -127,49 +127,49 @@ impl State {
         State::default()
     }
 
-    /// The same with indices of this kind.
+    /// Returns this state with indices of another kind.
     #[must_use]
     pub fn topology(self, topology: Topology) -> State {
         State { topology, ..self }
     }
 
-    /// The same with these triangles dropped.
+    /// Returns this state with other triangles dropped.
     #[must_use]
     pub fn cull(self, cull: Cull) -> State {
         State { cull, ..self }
     }
 
-    /// The same with this test.
+    /// Returns this state with another depth test.
     #[must_use]
     pub fn depth_test(self, depth_test: DepthTest) -> State {
         State { depth_test, ..self }
     }
 
-    /// The same with the new depth stored, or not.
+    /// Returns this state with the new depth stored, or not.
     #[must_use]
     pub fn depth_write(self, depth_write: bool) -> State {
         State { depth_write, ..self }
     }
 
-    /// The same with this blending.
+    /// Returns this state with another blending.
     #[must_use]
     pub fn blend(self, blend: Blend) -> State {
         State { blend, ..self }
     }
 
-    /// The same with these channels not written.
+    /// Returns this state with other channels that are not written.
     #[must_use]
     pub fn keep(self, keep: Channels) -> State {
         State { keep, ..self }
     }
 
-    /// The same with these samples not drawn.
+    /// Returns this state with other samples that are not drawn.
     #[must_use]
     pub fn skip_samples(self, skip_samples: u16) -> State {
         State { skip_samples, ..self }
     }
 
-    /// The same in this scissor: left, top, right, bottom, the last two outside.
+    /// Returns this state with another scissor: left, top, right, bottom in pixels, the last two outside.
     #[must_use]
     pub fn scissor(self, scissor: [i32; 4]) -> State {
         State { scissor: Some(scissor), ..self }
