@@ -84,7 +84,7 @@ PROGRAM_x86_64 := $(PROGRAM)
 PROGRAM_aarch64 := bin/aarch64/trirast
 CMAKE_FILES := trirast-config.cmake trirast-config-version.cmake
 HEADERS := trirast.h trirast.hpp trirast_clip.h trirast_clip.hpp trirast_lanes.hpp trirast_shade.h trirast_shade.hpp \
-    $(addprefix trirast/,canvas.hpp edges.hpp error.hpp list.hpp polygons.hpp span.hpp state.hpp tile_rows.hpp)
+    $(addprefix trirast/,canvas.hpp edges.hpp error.hpp list.hpp polygons.hpp span.hpp state.hpp tile_rows.hpp values.hpp)
 # What is installed: the mode of each file, where it lies here, and below PREFIX. And the files that are made there.
 INSTALLED := 755:$(STUB):bin/trirast 755:$(WHY):bin/trirast_why \
     755:lib/$(FIRST_LEVEL)/program.so:lib/trirast/program.so \

@@ -88,15 +88,18 @@ typedef enum trirast_status {
     TRIRAST_STATUS_BAD_TILE_SIZE = 5,    /* the tile size is none of 8, 16, 32 and 64 */
     TRIRAST_STATUS_BAD_TILE_ROWS = 6,    /* the picture or the canvas has no such tile rows: the call says which it takes */
     TRIRAST_STATUS_BAD_STRUCT_SIZE = 7,  /* a size member is neither 0 nor the library's own */
-    TRIRAST_STATUS_BAD_CANVAS = 8,       /* no such canvas: trirast_canvas says which there are */
+    TRIRAST_STATUS_BAD_CANVAS = 8,       /* no such canvas: it has 1 to 4096 pixels a side, 1, 2, 4, 8 or 16 samples a pixel, and 3 or
+                                          * 4 channels */
     TRIRAST_STATUS_BAD_MEMORY = 9,       /* the memory of the samples is not of the size that the tile rows need, NULL or misaligned */
-    TRIRAST_STATUS_BAD_FORMAT = 10,      /* the number is none of trirast_format */
-    TRIRAST_STATUS_BAD_SAMPLE = 11,      /* a pixel has no sample of this index */
-    TRIRAST_STATUS_BAD_POSITION = 12,    /* a position is outside of -8388608 to 8388607, or an origin of -32768 to 28672 */
+    TRIRAST_STATUS_BAD_FORMAT = 10,      /* the number is none of trirast_format: 0 to 4 */
+    TRIRAST_STATUS_BAD_SAMPLE = 11,      /* a pixel has no sample of this index: 0 to its samples less 1 */
+    TRIRAST_STATUS_BAD_POSITION = 12,    /* a position is outside of -8388608 to 8388607 in 1/256 pixel, which is -32768 to before 32768
+                                          * pixels, or an origin outside of -32768 to 28672 pixels */
     TRIRAST_STATUS_BAD_PIXEL = 13,       /* the picture has no such pixel */
     TRIRAST_STATUS_BAD_TRIANGLE = 14,    /* the list has no such draw, or the draw no such triangle */
     TRIRAST_STATUS_BAD_BATCH = 15,       /* the batch cannot be drawn: `cause`, `draw` and `element` of the error say why and where */
-    TRIRAST_STATUS_BAD_STRIDE = 16,      /* a stride of vertices, points or entries is too short, too long or not aligned */
+    TRIRAST_STATUS_BAD_STRIDE = 16,      /* a stride of vertices is no multiple of 4 from 16 to TRIRAST_MAX_STRIDE bytes, one of points
+                                          * none from 8 on, or one of entries no multiple of their 2 or 4 bytes; 0 is always right */
     TRIRAST_STATUS_BAD_TILE = 17,        /* the tile rows have no such tile */
     TRIRAST_STATUS_BAD_INDEX_SIZE = 18   /* an index has none of these sizes: 2 or 4 bytes */
 } trirast_status;
@@ -123,7 +126,8 @@ typedef enum trirast_batch_cause {
     TRIRAST_BATCH_NOT_WHOLE = 4,        /* the indices of the draw, or without any its vertices, make no whole triangles or quads */
     TRIRAST_BATCH_TOO_MANY_IDS = 5,     /* the id of a triangle would be greater than 16,777,215 (trirast_canvas_draw_ids) */
     TRIRAST_BATCH_BAD_INDEX = 6,        /* an index is not less than the draw's vertex_count; element: its place; value */
-    TRIRAST_BATCH_BAD_POSITION = 7,     /* a vertex that an index names, or a corner, is too far away; element: the vertex or corner */
+    TRIRAST_BATCH_BAD_POSITION = 7,     /* a vertex that an index names, or a corner, is outside of -8388608 to 8388607 in 1/256 pixel,
+                                         * on the screen or as seen from the canvas's origin; element: the vertex or corner */
     TRIRAST_BATCH_NOT_CONVEX = 8,       /* a quad is not strictly convex; element: the quad */
     TRIRAST_BATCH_LEFT_OVER = 9,        /* a vertex or an index is in no draw, or a corner or a ring is in no polygon */
     TRIRAST_BATCH_TOO_MANY_CORNERS = 10, /* polygons have 2^32 corners or more */
@@ -264,9 +268,9 @@ typedef struct trirast_blend {
     uint8_t color_source;    /* a trirast_factor: what the new colour is multiplied by */
     uint8_t color_stored;    /* a trirast_factor: what the stored colour is multiplied by */
     uint8_t color_operation; /* a trirast_operation */
-    uint8_t alpha_source;    /* the same of alpha */
-    uint8_t alpha_stored;
-    uint8_t alpha_operation;
+    uint8_t alpha_source;    /* a trirast_factor: what the new alpha is multiplied by */
+    uint8_t alpha_stored;    /* a trirast_factor: what the stored alpha is multiplied by */
+    uint8_t alpha_operation; /* a trirast_operation */
     uint8_t constant[4];     /* red, green, blue, alpha */
 } trirast_blend;
 
@@ -283,7 +287,7 @@ typedef struct trirast_blend {
 #define TRIRAST_BLEND_OVER \
     TRIRAST_BLEND_VALUE{TRIRAST_FACTOR_SOURCE_ALPHA, TRIRAST_FACTOR_INVERSE_SOURCE_ALPHA, TRIRAST_OPERATION_ADD, \
                         TRIRAST_FACTOR_ONE, TRIRAST_FACTOR_INVERSE_SOURCE_ALPHA, TRIRAST_OPERATION_ADD, {0, 0, 0, 0}}
-/* The same for colours that are multiplied by their alpha. */
+/* The new colour, which is multiplied by its alpha already, over the stored one. */
 #define TRIRAST_BLEND_PREMULTIPLIED \
     TRIRAST_BLEND_VALUE{TRIRAST_FACTOR_ONE, TRIRAST_FACTOR_INVERSE_SOURCE_ALPHA, TRIRAST_OPERATION_ADD, \
                         TRIRAST_FACTOR_ONE, TRIRAST_FACTOR_INVERSE_SOURCE_ALPHA, TRIRAST_OPERATION_ADD, {0, 0, 0, 0}}
@@ -528,7 +532,8 @@ typedef enum trirast_format {
     TRIRAST_FORMAT_BGRA8_STRAIGHT = 4
 } trirast_format;
 
-/* Makes a picture the colour of all samples of its pixels. Depths are unchanged.
+/* Makes a picture the colour of all samples of its pixels, whose alpha is 255 on a canvas without alpha. Depths are
+ * unchanged.
  *
  * @canvas: the tile rows.
  * @format: a trirast_format.
@@ -548,7 +553,8 @@ trirast_status trirast_proved_canvas_draw(trirast_canvas *canvas, const trirast_
 /* Draws a batch over what is stored: each sample ends as the batch's triangles make it, one after another, in the order
  * in which they stand. So a picture does not depend on the batches into which its triangles are split.
  *
- * Only vertices that an index names are looked at; without indices, all. A batch may have any number of vertices, triangles and draws.
+ * Only vertices that an index names are looked at; without indices, all. A batch may have any number of vertices,
+ * triangles and draws.
  *
  * @canvas: the tile rows.
  * @batch: what is drawn on them.
@@ -577,12 +583,15 @@ inline trirast_status trirast_canvas_draw(trirast_canvas *canvas, const trirast_
 trirast_status trirast_proved_canvas_draw_ids(trirast_canvas *canvas, const trirast_proved_batch *batch, uint32_t first_id,
                                               trirast_error *error);
 
-/* Draws a batch in the same way, and stores in place of a colour the id of each triangle: first_id and its index in the
+/* Draws a batch over what is stored, with the id of each triangle in place of a colour: first_id and its index in the
  * batch, counted over all draws. Ids are written unblended, whatever channels a draw keeps; the alpha of a canvas that
  * has one becomes 255, unless the draw keeps it. So each sample has the id of the last triangle that passed there, or
  * the number of the colour to which it was cleared: white is 16,777,215.
  *
- * @first_id: the id of the first triangle. */
+ * @canvas, @batch, @error: as for trirast_canvas_draw.
+ * @first_id: the id of the first triangle.
+ *
+ * Returns what trirast_canvas_draw returns. */
 inline trirast_status trirast_canvas_draw_ids(trirast_canvas *canvas, const trirast_batch *batch, uint32_t first_id,
                                               trirast_error *error) {
     const trirast_proved_batch proved = trirast_proved_batch_of(batch);
@@ -686,10 +695,13 @@ trirast_status trirast_proved_canvas_draw_polygon_ids(trirast_canvas *canvas, co
                                                       uint32_t first_id, void *flags, size_t flag_columns, void *counters,
                                                       size_t counter_columns, trirast_error *error);
 
-/* Draws polygons in the same way, and stores in place of a colour the id of each: first_id and its index. What the state
+/* Draws polygons over what is stored, with the id of each in place of a colour: first_id and its index. What the state
  * keeps and its blending are not used.
  *
- * @first_id: the id of the first polygon. */
+ * @canvas, @polygons, @scratch, @scratch_size, @error: as for trirast_canvas_draw_polygons.
+ * @first_id: the id of the first polygon.
+ *
+ * Returns what trirast_canvas_draw_polygons returns. */
 inline trirast_status trirast_canvas_draw_polygon_ids(trirast_canvas *canvas, const trirast_polygons *polygons, uint32_t first_id,
                                                       void *scratch, size_t scratch_size, trirast_error *error) {
     const size_t columns = trirast_polygons_scratch(canvas, TRIRAST_FILL_EVEN_ODD) / TRIRAST_FLAGS_BYTES;
@@ -702,7 +714,8 @@ inline trirast_status trirast_canvas_draw_polygon_ids(trirast_canvas *canvas, co
                                                   error ? error : &unread);
 }
 
-/* Writes the colour of each pixel: each channel is the mean of its samples, rounded to the nearest, halves up. Bytes between the rows of pixels are unchanged.
+/* Writes the colour of each pixel: each channel is the mean of its samples, rounded to the nearest, halves up. Bytes
+ * between the rows of pixels are unchanged.
  *
  * @canvas, @format, @stride: as for trirast_canvas_load.
  * @pixels: where the first pixel of the first row of pixels of these tile rows goes.
@@ -727,15 +740,21 @@ trirast_status trirast_canvas_resolve(const trirast_canvas *canvas, trirast_form
 trirast_status trirast_canvas_depths(const trirast_canvas *canvas, uint32_t sample, uint16_t *depths, size_t count,
                                      size_t stride);
 
-/* Writes the id of one sample of each pixel: its red + 256 * green + 65536 * blue. The same otherwise. */
+/* Writes the id of one sample of each pixel: its red + 256 * green + 65536 * blue. Entries between the rows of pixels are
+ * unchanged.
+ *
+ * @canvas, @sample, @count, @stride: as for trirast_canvas_depths.
+ * @ids: where that of the first pixel of the first row of pixels of these tile rows goes.
+ *
+ * Returns what trirast_canvas_depths returns. */
 trirast_status trirast_canvas_ids(const trirast_canvas *canvas, uint32_t sample, uint32_t *ids, size_t count, size_t stride);
 
 /* ---- The colours of samples, to be shaded ---- */
 
 /* A caller who draws ids can shade what is seen, and put colours in their place: trirast_canvas_draw_ids, then for each
  * tile trirast_canvas_tile_ids, colours of the caller's own, and trirast_canvas_tile_store. Depths stay, so more can be
- * drawn over it, and trirast_canvas_resolve gives the picture. Or the same for one sample index of all pixels at a time,
- * by trirast_canvas_ids and trirast_canvas_store.
+ * drawn over it, and trirast_canvas_resolve gives the picture. By trirast_canvas_ids and trirast_canvas_store it does so
+ * for one sample index of all pixels at a time.
  *
  * trirast_canvas_colors and trirast_canvas_tile_ids only read samples, and the other two change them: what the comment
  * of trirast_canvas says of threads holds for them too. */
@@ -756,8 +775,8 @@ trirast_status trirast_canvas_ids(const trirast_canvas *canvas, uint32_t sample,
 trirast_status trirast_canvas_colors(const trirast_canvas *canvas, uint32_t sample, trirast_format format, void *pixels,
                                      size_t size, size_t stride);
 
-/* Makes a picture the colour of one sample of its pixels. Depths and other samples are unchanged.
- * What trirast_canvas_colors then writes are the same colours.
+/* Makes a picture the colour of one sample of its pixels, whose alpha is 255 on a canvas without alpha. Depths and other
+ * samples are unchanged. What trirast_canvas_colors then writes are the same colours.
  *
  * @canvas, @sample, @format, @size, @stride: as for trirast_canvas_colors.
  * @pixels: the first pixel of the first row of pixels of these tile rows.
@@ -788,8 +807,9 @@ trirast_status trirast_canvas_tile_ids(const trirast_canvas *canvas, uint32_t co
                                        size_t count, uint32_t *uniform);
 
 /* Stores the colours of all samples of one tile, red + 256 * green + 65536 * blue each; the upper byte is not read.
- * Depths, alpha and other tiles are unchanged. Storing what trirast_canvas_tile_ids wrote changes nothing, and what was stored
- * is what it then writes.
+ * Depths and other tiles are unchanged, and so is alpha, also on a canvas without alpha, where trirast_canvas_load and
+ * trirast_canvas_store make it 255: such a canvas has to be cleared or loaded before. Storing what
+ * trirast_canvas_tile_ids wrote changes nothing, and what was stored is what it then writes.
  *
  * @canvas, @column, @row: as for trirast_canvas_tile_ids.
  * @colors: as trirast_canvas_tile_ids writes ids.

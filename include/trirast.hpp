@@ -18,5 +18,6 @@
 #include "trirast/span.hpp"
 #include "trirast/state.hpp"
 #include "trirast/tile_rows.hpp"
+#include "trirast/values.hpp"
 
 #endif

@@ -207,7 +207,7 @@ private:
 
 } // namespace detail
 
-/* The same by threads of the caller: what is made is the same for any number of parts.
+/* Clips and projects triangles by threads of the caller: what is made is the same for any number of parts.
  *
  * @parts: in how many the work is done, at least 1: as many as threads, or a few times that.
  * @each: called as each(parts, job) it calls job(k), which does not throw, once for each k below parts, on any threads

@@ -16,6 +16,7 @@
 #include "error.hpp"
 #include "state.hpp"
 #include "tile_rows.hpp"
+#include "values.hpp"
 
 namespace trirast {
 
@@ -57,10 +58,10 @@ public:
      * std::bad_alloc. */
     explicit Canvas(const CanvasOptions &options) {
         trirast_canvas canvas{};
-        canvas.width = options.width, canvas.height = options.height, canvas.samples = options.samples;
+        canvas.width = options.width, canvas.height = options.height, canvas.samples = options.samples ? options.samples : 1;
         canvas.channels = options.alpha ? 4 : 3, canvas.origin_x = options.origin.x, canvas.origin_y = options.origin.y;
         const std::size_t bytes = trirast_canvas_size(&canvas);
-        if (bytes == 0) throw Error(TRIRAST_STATUS_BAD_CANVAS);
+        if (bytes == 0) throw Error(TRIRAST_STATUS_BAD_CANVAS, detail::canvas_values(canvas));
         memory_ = detail::memory_for_samples(bytes);
         detail::check(trirast_canvas_init(&canvas, memory_.get(), bytes));
         detail::check(trirast_canvas_clear(&canvas, nullptr));

@@ -12,11 +12,13 @@
 
 namespace trirast {
 
-/* A call that failed. Its text is the message of trirast.h, as "draw 3: the indices make no whole triangles or quads". */
+/* A call that failed. Its text is the message of trirast.h, as "draw 3: the indices make no whole triangles or quads", and behind a colon
+ * the values that were passed and what they may be, as "no such sample: 0 to 3, and not 4". */
 class Error : public std::runtime_error {
 public:
-    explicit Error(const trirast_error &error) : std::runtime_error(message_of(error)), error_(error) {}
-    explicit Error(trirast_status status) : Error(of_status(status)) {}
+    explicit Error(const trirast_error &error, const std::string &values = {})
+        : std::runtime_error(message_of(error) + (values.empty() ? "" : ": " + values)), error_(error) {}
+    explicit Error(trirast_status status, const std::string &values = {}) : Error(of_status(status), values) {}
 
     trirast_status status() const noexcept { return static_cast<trirast_status>(error_.status); }
 
@@ -66,11 +68,24 @@ inline void check(trirast_status status) {
     if (status != TRIRAST_STATUS_OK) throw Error(status);
 }
 
+/* values(status) is asked for the values only if the call failed. */
+template <class Values>
+void check(trirast_status status, const Values &values) {
+    if (status != TRIRAST_STATUS_OK) throw Error(status, values(status));
+}
+
 /* Makes a call that writes an error. */
 template <class Call>
 void check_call(Call call) {
     trirast_error error{};
     if (call(&error) != TRIRAST_STATUS_OK) throw Error(error);
+}
+
+/* values(error) is asked for the values only if the call failed. */
+template <class Call, class Values>
+void check_call(Call call, const Values &values) {
+    trirast_error error{};
+    if (call(&error) != TRIRAST_STATUS_OK) throw Error(error, values(error));
 }
 
 }  // namespace detail

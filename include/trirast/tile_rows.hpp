@@ -7,6 +7,7 @@
 #include <cstdint>
 #include <exception>
 #include <functional>
+#include <string>
 #include <thread>
 #include <utility>
 #include <vector>
@@ -16,6 +17,7 @@
 #include "polygons.hpp"
 #include "span.hpp"
 #include "state.hpp"
+#include "values.hpp"
 
 namespace trirast {
 
@@ -60,7 +62,9 @@ public:
     /* Those from `first` to before `end`. Throws Error, BAD_TILE_ROWS, if these lack one of them. */
     TileRows rows(std::uint32_t first, std::uint32_t end) {
         TileRows part;
-        detail::check(trirast_canvas_split(&rows_, first, end, &part.rows_));
+        detail::check(trirast_canvas_split(&rows_, first, end, &part.rows_), [&](trirast_status status) {
+            return status == TRIRAST_STATUS_BAD_TILE_ROWS ? detail::tile_row_values(rows_, first, end) : std::string{};
+        });
         return part;
     }
 
@@ -94,8 +98,8 @@ public:
         share(threads, work, start, wait);
     }
 
-    /* The same by an executor: start(task) runs a copy of a std::function<void()> now or later on any thread, and wait() waits until all
-     * of them have ended. Neither may throw. */
+    /* Splits these tile rows, and calls work(part) once for each part by an executor: start(task) runs a copy of a
+     * std::function<void()> now or later on any thread, and wait() waits until all of them have ended. Neither may throw. */
     template <class Work, class Start, class Wait>
     void share(std::uint32_t threads, const Work &work, const Start &start, const Wait &wait) {
         std::vector<TileRows> parts = split(threads);
@@ -126,14 +130,16 @@ public:
         detail::check(trirast_canvas_clear(&rows_, &clear));
     }
 
-    /* `stride` is in bytes, as in all calls; 0 is a row of pixels. */
+    /* Makes a picture the colour of all samples of its pixels. `stride` is in bytes, as in all calls; 0 is a row of pixels. */
     void load(trirast_format format, Span<const std::uint8_t> pixels, std::size_t stride = 0) {
-        detail::check(trirast_canvas_load(&rows_, format, pixels.data(), pixels.size(), stride));
+        detail::check(trirast_canvas_load(&rows_, format, pixels.data(), pixels.size(), stride),
+                      detail::ImageValues{rows_, height(), format, pixels.size(), stride});
     }
 
-    /* The same of one sample of each pixel. */
+    /* Makes a picture the colour of one sample of each pixel. `stride` is in bytes; 0 is a row of pixels. */
     void store(std::uint32_t sample, trirast_format format, Span<const std::uint8_t> pixels, std::size_t stride = 0) {
-        detail::check(trirast_canvas_store(&rows_, sample, format, pixels.data(), pixels.size(), stride));
+        detail::check(trirast_canvas_store(&rows_, sample, format, pixels.data(), pixels.size(), stride),
+                      detail::ImageValues{rows_, height(), format, pixels.size(), stride, sample});
     }
 
     /* Draws triangles of one state, by this number of threads. */
@@ -144,8 +150,9 @@ public:
 
     /* Draws a batch of C, whose arrays are as it says. */
     void draw_batch(const trirast_batch &batch, std::uint32_t threads = 1) {
-        each(threads, [&batch](TileRows &part) {
-            detail::check_call([&](trirast_error *error) { return trirast_canvas_draw(&part.rows_, &batch, error); });
+        each(threads, [&](TileRows &part) {
+            detail::check_call([&](trirast_error *error) { return trirast_canvas_draw(&part.rows_, &batch, error); },
+                               detail::BatchValues{rows_, batch});
         });
     }
 
@@ -155,8 +162,9 @@ public:
     }
 
     void draw_batch_ids(const trirast_batch &batch, std::uint32_t first_id, std::uint32_t threads = 1) {
-        each(threads, [&batch, first_id](TileRows &part) {
-            detail::check_call([&](trirast_error *error) { return trirast_canvas_draw_ids(&part.rows_, &batch, first_id, error); });
+        each(threads, [&](TileRows &part) {
+            detail::check_call([&](trirast_error *error) { return trirast_canvas_draw_ids(&part.rows_, &batch, first_id, error); },
+                               detail::BatchValues{rows_, batch});
         });
     }
 
@@ -184,7 +192,8 @@ public:
     }
 
     void resolve(trirast_format format, Span<std::uint8_t> pixels, std::size_t stride = 0) const {
-        detail::check(trirast_canvas_resolve(&rows_, format, pixels.data(), pixels.size(), stride));
+        detail::check(trirast_canvas_resolve(&rows_, format, pixels.data(), pixels.size(), stride),
+                      detail::ImageValues{rows_, height(), format, pixels.size(), stride});
     }
 
     /* The pixels without padding. */
@@ -196,7 +205,8 @@ public:
 
     /* The colour of one sample of each pixel. */
     void colors(std::uint32_t sample, trirast_format format, Span<std::uint8_t> pixels, std::size_t stride = 0) const {
-        detail::check(trirast_canvas_colors(&rows_, sample, format, pixels.data(), pixels.size(), stride));
+        detail::check(trirast_canvas_colors(&rows_, sample, format, pixels.data(), pixels.size(), stride),
+                      detail::ImageValues{rows_, height(), format, pixels.size(), stride, sample});
     }
 
     std::vector<std::uint8_t> colors(std::uint32_t sample, trirast_format format = TRIRAST_FORMAT_RGBA8) const {
@@ -206,7 +216,8 @@ public:
     }
 
     void depths(std::uint32_t sample, Span<std::uint16_t> entries, std::size_t stride = 0) const {
-        detail::check(trirast_canvas_depths(&rows_, sample, entries.data(), entries.size(), stride));
+        detail::check(trirast_canvas_depths(&rows_, sample, entries.data(), entries.size(), stride),
+                      detail::EntryValues{rows_, height(), sample, sizeof(std::uint16_t), entries.size(), stride});
     }
 
     std::vector<std::uint16_t> depths(std::uint32_t sample = 0) const {
@@ -216,7 +227,8 @@ public:
     }
 
     void ids(std::uint32_t sample, Span<std::uint32_t> entries, std::size_t stride = 0) const {
-        detail::check(trirast_canvas_ids(&rows_, sample, entries.data(), entries.size(), stride));
+        detail::check(trirast_canvas_ids(&rows_, sample, entries.data(), entries.size(), stride),
+                      detail::EntryValues{rows_, height(), sample, sizeof(std::uint32_t), entries.size(), stride});
     }
 
     std::vector<std::uint32_t> ids(std::uint32_t sample = 0) const {
@@ -234,13 +246,16 @@ public:
      * since it was cleared one, which is that of all of its samples. */
     Span<const std::uint32_t> tile_ids(std::uint32_t column, std::uint32_t row, Span<std::uint32_t> entries) const {
         std::uint32_t uniform = 0;
-        detail::check(trirast_canvas_tile_ids(&rows_, column, row, entries.data(), entries.size(), &uniform));
+        detail::check(trirast_canvas_tile_ids(&rows_, column, row, entries.data(), entries.size(), &uniform),
+                      detail::TileValues{rows_, column, row, entries.size()});
         return {entries.data(), uniform ? 1 : tile_entries()};
     }
 
-    /* Stores the colours of all samples of one tile, as tile_ids has written ids, or one colour for all of them. */
+    /* Stores the colours of all samples of one tile, as tile_ids has written ids, or one colour for all of them. Depths and alpha
+     * stay. */
     void tile_store(std::uint32_t column, std::uint32_t row, Span<const std::uint32_t> colors) {
-        detail::check(trirast_canvas_tile_store(&rows_, column, row, colors.data(), colors.size()));
+        detail::check(trirast_canvas_tile_store(&rows_, column, row, colors.data(), colors.size()),
+                      detail::TileValues{rows_, column, row, colors.size(), "1 or "});
     }
 
 protected:
@@ -256,9 +271,7 @@ private:
         return row < rows_.height ? row : rows_.height;
     }
 
-    std::size_t bytes_of(trirast_format format) const noexcept {
-        return std::size_t{width()} * height() * (format == TRIRAST_FORMAT_RGB8 ? 3 : 4);
-    }
+    std::size_t bytes_of(trirast_format format) const noexcept { return std::size_t{width()} * height() * detail::pixel_bytes(format); }
 
     /* One call, also if there are no tile rows: it checks what is drawn. */
     template <class Work>
@@ -267,7 +280,8 @@ private:
         else work(*this);
     }
 
-    /* The same, with scratch memory for each part. All of it is there before one part is drawn, so that nothing is changed if it is not. */
+    /* Makes a call on each part with scratch memory of its own. All of it is there before one part is drawn, so that nothing is changed
+     * if it is not. */
     template <class Call>
     void each_with_scratch(const trirast_polygons &polygons, std::uint32_t threads, const Call &call) {
         const std::size_t words = trirast_polygons_scratch(&rows_, static_cast<trirast_fill_rule>(polygons.fill_rule)) / 8;
@@ -276,7 +290,8 @@ private:
         std::atomic<std::size_t> taken{0};
         each(threads, [&](TileRows &part) {
             std::uint64_t *const own = scratch.data() + words * taken++;
-            detail::check_call([&](trirast_error *error) { return call(part, own, 8 * words, error); });
+            detail::check_call([&](trirast_error *error) { return call(part, own, 8 * words, error); },
+                               detail::PolygonValues{rows_, polygons});
         });
     }
 

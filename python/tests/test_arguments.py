@@ -101,8 +101,8 @@ class Numbers(Refusals):
             (lambda: draw(DRAW_LIST, threads="4"), TypeError, "threads: an integer, and not '4'"),
             (lambda: why(DRAW_LIST, 1.5, 0), TypeError, "x: an integer, and not 1.5"),
             (lambda: why(DRAW_LIST, 1, 0, all_triangles="yes"), TypeError, "all_triangles: True or False, and not 'yes'"),
-            (lambda: edges_at((0, 0), (1, 0), (0, 1.5), []), TypeError, "c: an integer, and not 1.5"),
-            (lambda: edges_at((0, 0), (1, 0), (0, 1), [(0, 1 << 31)]), ValueError, "points: row 0, y: -8388608 to 8388607, and not 2147483648"),
+            (lambda: edges_at((0, 0), (1, 0), (0, 1.5), []), TypeError, "c: an integer in 1/256 pixel, and not 1.5"),
+            (lambda: edges_at((0, 0), (1, 0), (0, 1), [(0, 1 << 31)]), ValueError, "points: row 0, y: -8388608 to 8388607 in 1/256 pixel, and not 2147483648"),
             (lambda: edges_at((0, 0), (1, 0), (0, 1), (0, 0)), TypeError, "points: row 0: a sequence of 2 values, and not 0"),
             (lambda: edges_at((0, 0), (1, 0, 0), (0, 1), []), ValueError, "b: 2 values, and not 3"),
             (lambda: draw(DRAW_LIST).pixel(0.0, 1), TypeError, "column: an integer, and not 0.0"),
@@ -128,7 +128,7 @@ class Rows(Refusals):
         self.must_say(
             (draw([[0] * 7, [0, 0.5] + [0] * 5]), TypeError, "vertices: row 1, y: an integer in 1/256 pixel, and not 0.5" + SNAP),
             (draw([[0] * 3 + [0.5] + [0] * 3]), TypeError, "vertices: row 0, red: an integer of 0 to 255, and not 0.5"),
-            (draw([[0] * 7, [1 << 31] + [0] * 6]), ValueError, "vertices: row 1, x: -8388608 to 8388607, and not 2147483648"),
+            (draw([[0] * 7, [1 << 31] + [0] * 6]), ValueError, "vertices: row 1, x: -8388608 to 8388607 in 1/256 pixel, and not 2147483648"),
             (draw([[0] * 7, [0] * 6]), ValueError, "vertices: row 1: 7 values, and not 6"),
             (draw([[0] * 3]), ValueError, "vertices: row 0: 2 or 7 values, and not 3"),
             (draw([[0] * 7, 5]), TypeError, "vertices: row 1: a sequence of 7 values, and not 5"),
@@ -197,7 +197,7 @@ class Rows(Refusals):
              "vertices: row 5000, depth: 0 to 65535, and not 70000"),
             (draw(VERTICES, np.array([[0, 1, 2], [0, 1, -2]])), ValueError, "triangles: row 1, index 2: 0 to 4294967295, and not -2"),
             (draw(np.array([[0] * 7, [0, 1 << 40] + [0] * 5])), ValueError,
-             "vertices: row 1, y: -8388608 to 8388607, and not 1099511627776"),
+             "vertices: row 1, y: -8388608 to 8388607 in 1/256 pixel, and not 1099511627776"),
         )
 
     def test_come_in_any_layout(self) -> None:
@@ -216,18 +216,27 @@ class Rows(Refusals):
         far[2][0] = 1 << 23
         canvas, window, other = cleared(), cleared(origin=(40000, 0)), cleared(origin=(-5, 0))
         triangle = [[0, 1, 2]]
+        below, beyond = "which is not less than the number of vertices: 3", "vertex 2 is out of range"
+        place = "x 8388608 and y 640 in 1/256 pixel (32768 and 2.5 pixels)"
+        everywhere = "x: -8388608 to 8388607 (-32768 to 32767.99609375 pixels)"
         cases: List[Tuple[Callable[[], Any], str, int, Any, str]] = [
-            (lambda: canvas.draw(VERTICES, triangle * 5 + [[0, 3, 2]]), "BadIndex", 0, 16, "index 16 is 3, which is not less than the number of vertices"),
-            (lambda: canvas.draw(VERTICES, strip=[0, 1, 9]), "BadIndex", 0, 2, "index 2 is 9, which is not less than the number of vertices"),
+            (lambda: canvas.draw(VERTICES, triangle * 5 + [[0, 3, 2]]), "BadIndex", 0, 16, f"index 16 is 3, {below}; triangles: row 5, index 1"),
+            (lambda: canvas.draw(VERTICES, strip=[0, 1, 9]), "BadIndex", 0, 2, f"index 2 is 9, {below}; strip: row 2"),
             (lambda: canvas.draw_batch([trirast.Draw(VERTICES, triangle), trirast.Draw(VERTICES, quads=[[0, 1, 2, 7]])]), "BadIndex", 1, 3,
-             "index 3 is 7, which is not less than the number of vertices"),
-            (lambda: canvas.draw(far, triangle, threads=2), "BadPosition", 0, 2, "vertex 2 is out of range"),
-            (lambda: canvas.draw(far), "BadPosition", 0, 2, "vertex 2 is out of range"),
-            (lambda: other.draw(far, triangle), "BadPosition", 0, 2, "vertex 2 is out of range"),
-            (lambda: window.draw(VERTICES, triangle), "BadPosition", 0, 0, "vertex 0 is out of range"),
+             f"index 3 is 7, {below}; quads: row 0, index 3"),
+            (lambda: canvas.draw(far, triangle, threads=2), "BadPosition", 0, 2, f"{beyond}: {place}; {everywhere}"),
+            (lambda: canvas.draw_batch([trirast.Draw(VERTICES * 2), trirast.Draw(far)]), "BadPosition", 1, 2, f"{beyond}: {place}; {everywhere}"),
+            (lambda: other.draw(far, triangle), "BadPosition", 0, 2,
+             f"{beyond}: {place}; x with the origin -5: -8388608 to 8387327 (-32768 to 32762.99609375 pixels)"),
+            (lambda: window.draw(VERTICES, triangle), "BadPosition", 0, 0, "vertex 0 is out of range: x 128 and y 128 in 1/256 pixel (0.5 and "
+             "0.5 pixels); x with the origin 40000: 1851392 to 8388607 (7232 to 32767.99609375 pixels)"),
+            (lambda: trirast.Canvas(3, 3, origin=(0, -70000)).draw(VERTICES, triangle), "BadPosition", 0, 0,
+             "vertex 0 is out of range: x 128 and y 128 in 1/256 pixel (0.5 and 0.5 pixels); y with the origin -70000: none"),
             (lambda: canvas.draw(VERTICES + [[0, 640] + [0] * 5], quads=[[2, 3, 0, 1], [0, 1, 2, 0]]), "NotConvex", 0, 1,
-             "quad 1 is not strictly convex"),
-            (lambda: canvas.draw(VERTICES[:2]), "NotWhole", 0, None, "the indices make no whole triangles or quads"),
+             "quad 1 is not strictly convex: vertices 0, 1, 2, 0 at (128, 128), (640, 128), (128, 640), (128, 128) in 1/256 pixel"),
+            (lambda: canvas.draw(VERTICES[:2]), "NotWhole", 0, None,
+             "the indices make no whole triangles or quads: 2 vertices, and not three for each triangle"),
+            (lambda: canvas.draw(VERTICES, first_id=1 << 24), "TooManyIds", 0, None, "an id is greater than 16777215: the first is 16777216"),
         ]
         for call, name, draw, element, line in cases:
             with self.assertRaises(trirast.BatchError) as caught:

@@ -232,7 +232,7 @@ class Errors(unittest.TestCase):
             except trirast.TileSizeError as error:
                 kept = error
             out.append(1)
-            self.assertEqual(str(kept), "no such tile size")
+            self.assertEqual(str(kept), "tile_size: 8, 16, 32 or 64 pixels, and not 9")
 
     def test_are_those_of_the_first_part(self) -> None:
         def part(number: int) -> None:

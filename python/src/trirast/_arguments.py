@@ -8,7 +8,7 @@ import math
 import operator
 import reprlib
 from numbers import Complex, Real
-from typing import Any, Collection, Sequence, SupportsIndex, Tuple
+from typing import Any, Callable, Collection, Sequence, SupportsIndex, Tuple
 
 NUMBERS = 1 << 32
 LONGEST = 60
@@ -36,11 +36,13 @@ def number(name: str, value: SupportsIndex, otherwise: int = NUMBERS - 1) -> int
     return given if 0 <= given < NUMBERS else otherwise
 
 
-def between(name: str, value: SupportsIndex, least: int, greatest: int) -> int:
-    """An integer in a range. Raises ValueError at any other."""
-    given = integer(name, value)
+def between(
+    name: str, value: SupportsIndex, least: int, greatest: int, refused: Callable[[str], Exception] = ValueError, unit: str = ""
+) -> int:
+    """An integer in a range. Raises ValueError at any other, or what is made of the message."""
+    given = integer(name, value, unit)
     if not least <= given <= greatest:
-        raise ValueError(f"{name}: {least} to {greatest}, and not {given}")
+        raise refused(f"{name}: {least} to {greatest}{unit}, and not {given}")
     return given
 
 

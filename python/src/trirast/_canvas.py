@@ -10,14 +10,15 @@ from ._batch import batch_of, draws_of
 from ._blend import Blend, Preset
 from ._buffers import Buffer, Form, check_writable, raw, readable
 from ._draw import EVERY_SAMPLE, Cull, DepthTest, Draw, state_in_c
-from ._errors import CanvasError
+from ._errors import BatchError, CanvasError, PositionError, SampleError, TileError, adding
 from ._ffi import CCanvas, CClear, CCorners, CError, library
 from ._fragments import Fragments, Rate, fragments_of
 from ._picture import Path, Picture, save_png
 from ._png import png_chunks
 from ._polygons import RULES, Rule, polygons_of, scratch_of
-from ._records import table_of
+from ._records import HIGH, LOW, POSITION, table_of
 from ._threads import share
+from ._values import BatchValues, PolygonValues, point_values
 from ._version import INTERFACE
 from ._vertices import PLACE
 
@@ -30,6 +31,8 @@ TILE_SIZE = 64
 CHANNELS = (3, 4)
 # An id is less.
 IDS = 1 << 24
+# The least and the greatest origin of a canvas of polygons.
+ORIGINS = (-32768, 28672)
 Format = Literal["rgb", "rgba", "bgra", "rgba_straight", "bgra_straight"]
 
 
@@ -111,7 +114,7 @@ class Canvas:
         size: int = library().trirast_canvas_size(CCanvas(0, *numbers)) if numbers[2] else 0
         if not size:
             wanted = "a canvas has 1 to 4096 pixels a side and 1, 2, 4, 8 or 16 samples a pixel"
-            raise CanvasError(8, f"{wanted}, and not {width} by {height} and {samples}; larger: trirast.poster")
+            raise CanvasError.of_line(f"{wanted}, and not {width} by {height} and {samples}; larger: trirast.poster")
         return size
 
     def clear(
@@ -136,7 +139,7 @@ class Canvas:
         self, image: Any, sample: SupportsIndex = 0, *, format: Optional[Format] = None, threads: SupportsIndex = 1
     ) -> None:
         """Makes an image the colour of one sample of its pixels; depths and other samples stay. The image is as for `load`."""
-        self._stored(of_sample(library().trirast_canvas_store, number("sample", sample)), image, format, threads)
+        self._stored(of_sample(library().trirast_canvas_store, self._sample(sample)), image, format, threads)
 
     def _stored(self, call: Any, image: Any, format: Optional[Format], threads: SupportsIndex) -> None:
         if format is not None:
@@ -205,7 +208,8 @@ class Canvas:
         batch = batch_of(draws_of(draws))
         ids = () if first_id is None else (between("first_id", first_id, 0, IDS),)
         call = library().trirast_canvas_draw_ids if ids else library().trirast_canvas_draw
-        self._each(threads, lambda piece, _top: call(piece, batch, *ids, CError()))
+        with adding(BatchError, BatchValues(batch, self.origin, *(ids or (None,))).of):
+            self._each(threads, lambda piece, _top: call(piece, batch, *ids, CError()))
 
     def draw_polygons(
         self,
@@ -250,19 +254,22 @@ class Canvas:
         ids = () if first_id is None else (between("first_id", first_id, 0, IDS),)
         call = library().trirast_canvas_draw_polygon_ids if ids else library().trirast_canvas_draw_polygons
         size = library().trirast_polygons_scratch(self._whole, polygons.fill_rule)
-        self._each(threads, lambda piece, _top: call(piece, polygons, *ids, scratch_of(size), size, CError()))
+        for each in self.origin:
+            between("origin", each, *ORIGINS, PositionError.of_line, " pixels")
+        with adding(BatchError, PolygonValues(polygons, *(ids or (None,))).of):
+            self._each(threads, lambda piece, _top: call(piece, polygons, *ids, scratch_of(size), size, CError()))
 
     def rgb(self, out: Optional[Any] = None, *, threads: SupportsIndex = 1) -> Any:
         """The colours, of the shape (height, width, 3): a numpy array, or without numpy a memoryview; or what `out` is."""
         return self._resolved("rgb", out, threads)
 
     def rgba(self, out: Optional[Any] = None, *, straight: bool = False, threads: SupportsIndex = 1) -> Any:
-        """The same with alpha, of the shape (height, width, 4). It is 255 on a canvas without alpha. If it is `straight`, colours
-        are divided by alpha, as image files have them."""
+        """The colours with alpha, of the shape (height, width, 4): an array as that of `rgb`, or what `out` is. Alpha is 255 on a
+        canvas without it. If it is `straight`, colours are divided by alpha, as image files have them."""
         return self._resolved("rgba_straight" if flag("straight", straight) else "rgba", out, threads)
 
     def bgra(self, out: Optional[Any] = None, *, straight: bool = False, threads: SupportsIndex = 1) -> Any:
-        """The same in the order blue, green, red, alpha."""
+        """The colours in the order blue, green, red, alpha, of the shape (height, width, 4); all else is as for `rgba`."""
         return self._resolved("bgra_straight" if flag("straight", straight) else "bgra", out, threads)
 
     def save(self, path: Path, *, dpi: Optional[SupportsFloat] = None, threads: SupportsIndex = 1) -> None:
@@ -286,11 +293,11 @@ class Canvas:
 
     def depth(self, sample: SupportsIndex = 0, out: Optional[Any] = None, *, threads: SupportsIndex = 1) -> Any:
         """The depth of one sample of each pixel: 16 bits, of the shape (height, width)."""
-        return self._written(library().trirast_canvas_depths, number("sample", sample), self._form(("uint16",)), out, threads)
+        return self._written(library().trirast_canvas_depths, self._sample(sample), self._form(("uint16",)), out, threads)
 
     def ids(self, sample: SupportsIndex = 0, out: Optional[Any] = None, *, threads: SupportsIndex = 1) -> Any:
         """The id of one sample of each pixel: 32 bits, of the shape (height, width)."""
-        return self._written(library().trirast_canvas_ids, number("sample", sample), self._form(("uint32", "int32")), out, threads)
+        return self._written(library().trirast_canvas_ids, self._sample(sample), self._form(("uint32", "int32")), out, threads)
 
     def colors(
         self, sample: SupportsIndex = 0, out: Optional[Any] = None, *, format: Format = "rgb", threads: SupportsIndex = 1
@@ -298,7 +305,7 @@ class Canvas:
         """The colour of one sample of each pixel, which is not resolved: bytes of the shape (height, width, 3), or 4 with alpha."""
         named("format", FORMATS, format)
         code, channels = FORMATS[format]
-        call = of_sample(library().trirast_canvas_colors, number("sample", sample))
+        call = of_sample(library().trirast_canvas_colors, self._sample(sample))
         return self._written(call, code, self._form(("uint8",), channels), out, threads)
 
     # ---- Shading
@@ -321,7 +328,10 @@ class Canvas:
         if tile is None:
             ids = np.stack([self.ids(sample, threads=threads) for sample in range(self.samples)])
             return fragments_of(ids, self.origin, vertices, triangles, w, rate)
-        column, row = (number("tile", each) for each in of_length("tile", tile, 2))
+        column, row = (
+            between(f"tile: {name}", each, 0, (side - 1) // TILE_SIZE, TileError.of_line)
+            for name, each, side in zip(("column", "row"), of_length("tile", tile, 2), (self.width, self.height))
+        )
         origin = self.origin[0] + column * TILE_SIZE, self.origin[1] + row * TILE_SIZE
         return fragments_of(self._tile_ids(column, row), origin, vertices, triangles, w, rate)._replace(tile=(column, row))
 
@@ -409,6 +419,10 @@ class Canvas:
         with self._lock:
             share(call, self._pieces, count, used)
 
+    def _sample(self, sample: SupportsIndex) -> int:
+        """The index of a sample of a pixel. Raises SampleError at any other."""
+        return between("sample", sample, 0, self.samples - 1, SampleError.of_line)
+
     # ---- Pictures in memory
 
     def _form(self, kinds: Tuple[str, ...], *channels: int) -> Form:
@@ -458,12 +472,16 @@ def edges_at(
 
     For a point inside the edge functions have the sign of the doubled area, and each over that area is the weight of
     its corner. Raises PositionError outside of -8388608 to 8388607."""
-    corners = (signed(name, each) for name, position in (("a", a), ("b", b), ("c", c)) for each in of_length(name, position, 2))
+    corners = [
+        between(name, each, LOW, HIGH, PositionError.of_line, POSITION)
+        for name, position in (("a", a), ("b", b), ("c", c)) for each in of_length(name, position, 2)
+    ]
     table = table_of("points", points, PLACE)
     places = table.fill(bytearray(8 * table.count), 8)
     found = new_array(Form(("int64",), (table.count, 5)))
     with Buffer(memoryview(places)) as given_points, Buffer(check_writable("points", found, Form(("int64",), (table.count, 5)))) as written:
-        library().trirast_edges_at(CCorners(*corners), given_points.address, 0, table.count, written.address)
+        with adding(PositionError, lambda _error: point_values(places)):
+            library().trirast_edges_at(CCorners(*corners), given_points.address, 0, table.count, written.address)
     return found
 
 

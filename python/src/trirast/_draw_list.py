@@ -3,12 +3,15 @@
 import json
 from typing import Any, Dict, List, Optional, SupportsIndex, Tuple, Union
 
-from ._arguments import number, thread_count
+from ._arguments import integer, thread_count
 from ._buffers import Buffer
+from ._errors import LimitError, TileSizeError
 from ._ffi import CError, CImageInfo, library, memory_of
 from ._picture import ImageInfo, Picture, memory_for
 from ._threads import share, with_stack
 
+TILE_SIZES = (8, 16, 32, 64)
+MAX_BYTES = 67108864
 DrawList = Union[bytes, bytearray, memoryview, str, Dict[str, Any], List[Any]]
 
 
@@ -25,9 +28,9 @@ def draw(
     than 1 or `out` does not fit.
     """
     count = thread_count(threads)
-    data, size = as_bytes(draw_list), number("tile_size", tile_size, 0)
+    size, data = tile_size_of(tile_size), as_bytes(draw_list)
     info = read_image_info(data)
-    rows, row_bytes = -(-info.height // max(1, size)), info.width * info.pixel_bytes
+    rows, row_bytes = -(-info.height // size), info.width * info.pixel_bytes
     with memory_for(info, out) as pixels, Buffer(pixels) as memory:
         start = memory.address
 
@@ -42,9 +45,9 @@ def draw(
 @with_stack
 def draw_file(draw_list: DrawList, tile_size: SupportsIndex = 32) -> bytes:
     """The whole file of a draw list's picture, PPM or PGM, header and pixels, on the calling thread. Raises an Error."""
-    data = as_bytes(draw_list)
+    size, data = tile_size_of(tile_size), as_bytes(draw_list)
     file = bytearray(read_image_info(data).file_bytes)
-    library().trirast_list_draw(data, len(data), number("tile_size", tile_size, 0), memory_of(memoryview(file)), len(file), CError())
+    library().trirast_list_draw(data, len(data), size, memory_of(memoryview(file)), len(file), CError())
     return bytes(file)
 
 
@@ -54,7 +57,23 @@ def image_info(draw_list: DrawList) -> ImageInfo:
     return read_image_info(as_bytes(draw_list))
 
 
+def tile_size_of(given: SupportsIndex) -> int:
+    """A tile size. Raises TileSizeError at any other."""
+    size = integer("tile_size", given)
+    if size not in TILE_SIZES:
+        raise TileSizeError.of_line(f"tile_size: 8, 16, 32 or 64 pixels, and not {size}")
+    return size
+
+
 def as_bytes(draw_list: DrawList) -> bytes:
+    """The text of a draw list. Raises LimitError if it is too long."""
+    data = text_of(draw_list)
+    if len(data) > MAX_BYTES:
+        raise LimitError.of_line(f"draw_list: at most {MAX_BYTES} bytes, and not {len(data)}")
+    return data
+
+
+def text_of(draw_list: DrawList) -> bytes:
     if isinstance(draw_list, str):
         return draw_list.encode()
     if isinstance(draw_list, (bytes, bytearray, memoryview)):

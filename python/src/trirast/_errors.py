@@ -1,10 +1,12 @@
 """The exceptions, one for each status of the library."""
 
-from typing import Any, Dict, Optional, Tuple, Type
+from contextlib import contextmanager
+from typing import Any, Callable, Dict, Iterator, Optional, Tuple, Type, TypeVar
 
 BAD_LIST, BAD_BATCH = 1, 15
 # What trirast_error has where there is no draw or no element.
 NONE = (1 << 64) - 1
+Kind = TypeVar("Kind", bound="Error")
 
 
 class Error(Exception):
@@ -13,6 +15,11 @@ class Error(Exception):
     def __init__(self, status: int, line: str) -> None:
         super().__init__(line)
         self.status = status
+
+    @classmethod
+    def of_line(cls: Type[Kind], line: str) -> Kind:
+        """The error with another line than the library's, which has values."""
+        return cls(next(status for status, kind in BY_STATUS.items() if kind is cls), line)
 
     def __reduce__(self) -> Tuple[Any, ...]:
         return type(self), (self.status, *self.args)
@@ -146,3 +153,14 @@ def error_of(status: int, line: str, cause: int = 0, draw: int = NONE, element: 
     if status in PLACED:
         return PLACED[status](status, line, cause, *(None if place == NONE else place for place in (draw, element, value)))
     return BY_STATUS.get(status, Error)(status, line)
+
+
+@contextmanager
+def adding(kind: Type[Kind], values_of: Callable[[Kind], str]) -> Iterator[None]:
+    """Puts what was passed, and what may be, behind the line of an error of this kind that is raised within."""
+    try:
+        yield
+    except kind as error:
+        values = values_of(error)
+        error.args = (f"{error}: {values}" if values else str(error),)
+        raise

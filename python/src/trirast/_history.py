@@ -3,7 +3,8 @@
 from typing import Any, List, NamedTuple, Optional, SupportsIndex, Tuple
 
 from ._arguments import flag, number
-from ._draw_list import DrawList, as_bytes
+from ._draw_list import DrawList, as_bytes, read_image_info
+from ._errors import PixelError, SampleError, TriangleError, adding
 from ._ffi import CError, CEvent, CFragment, CHistoryRequest, CSampleCounts, CSampleInfo, CStored, library
 from ._threads import with_stack
 
@@ -124,7 +125,8 @@ def why(
     """
     data, column, row, is_all = as_bytes(draw_list), number("x", x), number("y", y), bool(flag("all_triangles", all_triangles))
     chosen = 0 if sample is None else number("sample", sample)
-    found, info = sample_history(data, column, row, chosen, is_all)
+    with adding(PixelError, lambda _error: pixel_values(data, x, y)), adding(SampleError, lambda _error: sample_values(data, sample)):
+        found, info = sample_history(data, column, row, chosen, is_all)
     samples: Tuple[SampleHistory, ...] = (found,)
     others = [s for s in range(info.samples) if s != chosen]
     if sample is None:
@@ -147,8 +149,21 @@ def triangle_samples(draw_list: DrawList, draw: SupportsIndex, triangle: Support
     """
     data, counts = as_bytes(draw_list), CSampleCounts()
     place = number("draw", draw), number("triangle", triangle)
-    library().trirast_list_triangle_samples(data, len(data), *place, counts, CError())
+    with adding(TriangleError, lambda _error: f"triangle {triangle} of draw {draw}"):
+        library().trirast_list_triangle_samples(data, len(data), *place, counts, CError())
     return TriangleSamples(*place, counts.covered, counts.changed, counts.shown)
+
+
+def pixel_values(data: bytes, x: SupportsIndex, y: SupportsIndex) -> str:
+    """The pixels that there are, and the one that was asked for."""
+    info = read_image_info(data)
+    return f"x 0 to {info.width - 1} and y 0 to {info.height - 1}, and not {x} and {y}"
+
+
+def sample_values(data: bytes, sample: Optional[SupportsIndex]) -> str:
+    """The same of samples, of which each pixel has as many as the first."""
+    info = read_events(data, 0, 0, 0, False, 0)[1]
+    return f"0 to {info.samples - 1}, and not {sample}"
 
 
 def resolved(colors: List[Color]) -> Color:

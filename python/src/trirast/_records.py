@@ -13,6 +13,7 @@ from ._arguments import CHANNEL, of_length, shown
 from ._buffers import buffer_of, family_of, kind_of, refuse_masked
 
 LOW, HIGH = -8388608, 8388607
+POSITION = " in 1/256 pixel"
 SNAP = "use trirast.snap(xy)"
 # The least and the greatest integer of each type, by the letter that array, numpy and memoryview have for it.
 LIMITS = {"i": (-(1 << 31), (1 << 31) - 1), "I": (0, (1 << 32) - 1), "H": (0, 65535), "B": (0, 255)}
@@ -36,7 +37,7 @@ class Column(NamedTuple):
     @property
     def unit(self) -> str:
         """What its integers are, in a message that refuses a float."""
-        return {"i": " in 1/256 pixel", "B": CHANNEL}.get(self.code, "")
+        return {"i": POSITION, "B": CHANNEL}.get(self.code, "")
 
     def refused(self, name: str, row: int, value: Any) -> Optional[Exception]:
         """The error of a value, or `None` if it is an integer that fits."""
@@ -49,8 +50,8 @@ class Column(NamedTuple):
             unit = self.unit if is_real or not self.is_position else ""
             return TypeError(f"{name}: row {row}, {self.name}: an integer{unit}, and not {shown(value)}{f'; {SNAP}' * is_real}")
         # What lies between the band and 32 bits the library refuses, if an index names it.
-        least, greatest = (LOW, HIGH) if self.is_position else (least, greatest)
-        return ValueError(f"{name}: row {row}, {self.name}: {least} to {greatest}, and not {shown(value)}")
+        wanted = f"{LOW} to {HIGH}{POSITION}" if self.is_position else f"{least} to {greatest}"
+        return ValueError(f"{name}: row {row}, {self.name}: {wanted}, and not {shown(value)}")
 
 
 Columns = Sequence[Column]

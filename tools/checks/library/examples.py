@@ -79,9 +79,9 @@ def check_python_canvas() -> None:
     must(places.bytes_of(path) == drawn_by_program(encode(SCENE)).output, "another picture")
 
 
-# What threads.c draws.
-THREADED = [[50, 10, 0, 255, 0, 0, 255], [95, 190, 0, 0, 255, 0, 255], [5, 190, 0, 0, 0, 255, 255]]
-THREADED_GLASS = [[10, 50, 0, 255, 255, 255, 160], [90, 70, 0, 255, 255, 255, 160], [45, 170, 0, 255, 255, 255, 30]]
+# What threads.c and glass.py draw.
+BELOW_GLASS = [[50, 10, 0, 255, 0, 0, 255], [95, 190, 0, 0, 255, 0, 255], [5, 190, 0, 0, 0, 255, 255]]
+PANE = [[10, 50, 0, 255, 255, 255, 153], [90, 70, 0, 255, 255, 255, 153], [45, 170, 0, 255, 255, 255, 51]]
 
 
 def in_units(rows: list[list[int]]) -> list[list[int]]:
@@ -89,17 +89,27 @@ def in_units(rows: list[list[int]]) -> list[list[int]]:
     return [[256 * row[0], 256 * row[1], *row[2:]] for row in rows]
 
 
+def glass_file() -> bytes:
+    """The PAM file of both triangles on a canvas with alpha and 16 samples, by the reference renderer."""
+    draws = [{"vertices": in_units(rows), "triangles": [[0, 1, 2]], "blend": blend} for rows, blend in ((BELOW_GLASS, "none"), (PANE, "over"))]
+    scene = renderer.read(encode({"width": 100, "height": 200, "samples": 16, "clear_alpha": 0, "draws": draws}), renderer.CANVAS)
+    header = b"P7\nWIDTH 100\nHEIGHT 200\nDEPTH 4\nMAXVAL 255\nTUPLTYPE RGB_ALPHA\nENDHDR\n"
+    return header + renderer.pixels(renderer.drawn(scene), scene.samples, "rgba_straight")
+
+
 def check_c_threads() -> None:
-    """threads.c writes the picture that the reference renderer makes of both triangles with 16 samples."""
+    """threads.c writes the picture that the reference renderer makes of both triangles."""
     program = os.path.join(OUT, "threads")
     source = os.path.join(EXAMPLES, "c", "threads.c")
     run([need("gcc"), "-std=c99", *WARNINGS, "-I", INCLUDE, "-pthread", "-o", program, source, STATIC_LIBRARY])
-    draws = [
-        {"vertices": in_units(rows), "triangles": [[0, 1, 2]], "blend": blend} for rows, blend in ((THREADED, "none"), (THREADED_GLASS, "over"))
-    ]
-    scene = renderer.read(encode({"width": 100, "height": 200, "samples": 16, "clear": [24, 24, 32], "draws": draws}), renderer.CANVAS)
-    found = picture_file.decode(run([program]))
-    must(found.pixel_data == renderer.resolve(renderer.drawn(scene), scene.samples), "another picture")
+    must(run([program]) == glass_file(), "another picture")
+
+
+def check_glass() -> None:
+    """glass.py saves the same picture, as netpbm reads it."""
+    path = os.path.join(OUT, "glass.png")
+    run([python_with("numpy"), os.path.join(PYTHON_EXAMPLES, "glass.py"), path], env=PACKAGE_ENVIRONMENT)
+    must(run([need("pngtopam"), "-alphapam", path]) == glass_file(), "another picture")
 
 
 # What canvas.cpp draws.

@@ -14,7 +14,7 @@ from tools.places import EXAMPLES, LEVEL
 HISTORY = b"triangle 0: result 0, reasons 4, edge bc 0\nred 0, depth 65535\n"
 INSTALLED = (
     "bin/trirast", "bin/trirast_why", "include/trirast.h", "include/trirast.hpp",
-    *(f"include/trirast/{part}.hpp" for part in ("canvas", "edges", "error", "list", "polygons", "span", "state", "tile_rows")),
+    *(f"include/trirast/{part}.hpp" for part in ("canvas", "edges", "error", "list", "polygons", "span", "state", "tile_rows", "values")),
     "include/trirast_clip.h", "include/trirast_clip.hpp", "include/trirast_lanes.hpp", "include/trirast_shade.h", "include/trirast_shade.hpp",
     "lib/cmake/trirast/trirast-config-version.cmake", "lib/cmake/trirast/trirast-config.cmake", f"lib/glibc-hwcaps/{LEVEL}/libtrirast.so.2", "lib/libtrirast.a",
     "lib/libtrirast.so", "lib/libtrirast.so.2",

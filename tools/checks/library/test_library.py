@@ -37,6 +37,7 @@ def example_cases() -> Iterator[Case]:
     yield case("examples/cpp: canvas", examples.check_cpp_canvas)
     yield from canvas_examples.cases()
     yield case("examples/python: canvas", examples.check_python_canvas)
+    yield case("examples/python: glass", examples.check_glass)
     yield case("examples/python: coverage", examples.check_coverage)
     yield case("examples/python: edges", examples.check_edges)
     yield case("examples/python: viewer", examples.check_viewer)

@@ -8,7 +8,8 @@ use std::ptr::null;
 
 use trirast_sys as sys;
 
-use crate::{Error, State};
+use crate::values::Values;
+use crate::{BatchCause, Error, ErrorKind, Origin, State};
 
 /// A vertex of 16 bytes, as C has it.
 #[repr(C)]
@@ -40,7 +41,7 @@ impl Vertex {
         Vertex { x, y, depth: 0, red, green, blue, alpha, unused: 0 }
     }
 
-    /// Sets the depth.
+    /// Returns this vertex at another depth.
     #[must_use]
     pub const fn at_depth(self, depth: u16) -> Vertex {
         Vertex { depth, ..self }
@@ -74,7 +75,12 @@ impl<'a> Vertices<'a> {
         if !is_inside || all.iter().any(|one| place(one) != Some(begin)) {
             return None;
         }
-        Some(Vertices { first: all.as_ptr().cast::<u8>().wrapping_add(begin).cast(), count: all.len(), stride, lent: PhantomData })
+        Some(Vertices {
+            first: all.as_ptr().cast::<u8>().wrapping_add(begin).cast(),
+            count: all.len(),
+            stride,
+            lent: PhantomData,
+        })
     }
 
     /// Returns how many there are.
@@ -179,7 +185,7 @@ impl<'a> Draw<'a> {
         Draw { vertices: vertices.into(), indices: indices.into(), state: State::default() }
     }
 
-    /// Sets the state.
+    /// Returns this draw in another state.
     #[must_use]
     pub fn state(self, state: State) -> Draw<'a> {
         Draw { state, ..self }
@@ -235,6 +241,29 @@ impl<'a> Batch<'a> {
         Ok(Batch { draws: found, vertices, indices })
     }
 
+    /// Those of all draws.
+    fn vertices(&self) -> Vertices<'_> {
+        match &self.vertices {
+            JoinedVertices::Lent(vertices) => *vertices,
+            JoinedVertices::Own(vertices) => Vertices::from(vertices),
+        }
+    }
+
+    /// An error of this batch on a canvas of this origin, with its values.
+    pub(crate) fn explain(&self, error: Error, origin: Origin) -> Error {
+        let draw = error.draw().and_then(|draw| self.draws.get(draw));
+        let values = match (error.kind(), draw, error.element()) {
+            (ErrorKind::BadBatch(BatchCause::BadIndex), Some(draw), _) => Some(Values::Vertices(draw.vertex_count)),
+            (ErrorKind::BadBatch(BatchCause::BadPosition), Some(_), Some(element)) => {
+                let before = self.draws.iter().take(error.draw().unwrap_or_default()).map(|draw| draw.vertex_count);
+                let vertex = self.vertices().iter().nth(before.sum::<usize>() + element);
+                vertex.map(|vertex| Values::Position { of: None, at: [vertex.x, vertex.y], origin })
+            }
+            _ => None,
+        };
+        values.map_or(error, |values| error.with(values))
+    }
+
     /// The batch as C takes it, which must not outlive this one.
     pub(crate) fn raw(&self) -> sys::trirast_batch {
         // A slice is never at NULL, so C draws nothing of an empty one.
@@ -243,10 +272,7 @@ impl<'a> Batch<'a> {
             Joined::U16(slice) => (slice.as_ptr().cast(), slice.len(), size_of::<u16>()),
             Joined::U32(slice) => (slice.as_ptr().cast(), slice.len(), size_of::<u32>()),
         };
-        let vertices = match &self.vertices {
-            JoinedVertices::Lent(vertices) => *vertices,
-            JoinedVertices::Own(vertices) => Vertices::from(vertices),
-        };
+        let vertices = self.vertices();
         sys::trirast_batch {
             struct_size: size_of::<sys::trirast_batch>() as u32,
             vertex_stride: vertices.stride as u32,

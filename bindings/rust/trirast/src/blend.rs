@@ -88,7 +88,7 @@ impl Blend {
         Equation::add(Factor::SourceAlpha, Factor::InverseSourceAlpha),
         Equation::add(Factor::One, Factor::InverseSourceAlpha),
     );
-    /// The new colour is blended over the stored one, where colours were multiplied by their alpha.
+    /// The new colour, which was multiplied by its alpha, over the stored one.
     pub const PREMULTIPLIED: Blend = Blend::both(Equation::add(Factor::One, Factor::InverseSourceAlpha));
     /// The new colour times its alpha is added.
     pub const ADD: Blend = Blend::new(Equation::add(Factor::SourceAlpha, Factor::One), Equation::add(Factor::One, Factor::One));
@@ -106,7 +106,7 @@ impl Blend {
         Blend::new(equation, equation)
     }
 
-    /// Sets the constant: red, green, blue and alpha.
+    /// Returns these equations with another constant: red, green, blue and alpha.
     #[must_use]
     pub const fn with_constant(self, constant: [u8; 4]) -> Blend {
         Blend { constant, ..self }

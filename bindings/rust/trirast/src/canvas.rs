@@ -9,6 +9,7 @@ use crate::batch::Batch;
 use crate::error::{checked, done};
 use crate::memory::Memory;
 use crate::parts::{by_threads, pixel_row, Rows};
+use crate::values::Values;
 use crate::{Draw, Error, Indices, State, Vertices};
 
 /// How the colour of a pixel lies in bytes, in the order of the name.
@@ -19,13 +20,12 @@ pub enum Format {
     Rgb8 = sys::TRIRAST_FORMAT_RGB8 as isize,
     /// Red, green, blue and alpha, as they are stored. Without stored alpha 255 is written, and none is read.
     Rgba8 = sys::TRIRAST_FORMAT_RGBA8 as isize,
-    /// Blue, green, red and alpha, as they are stored. Without stored alpha 255 is written, and none is read.
+    /// Blue, green, red and alpha, as they are stored, otherwise as [`Rgba8`](Format::Rgba8).
     Bgra8 = sys::TRIRAST_FORMAT_BGRA8 as isize,
     /// Red, green, blue and alpha as image files have them: colours are divided by alpha when they are written, and multiplied
     /// by it when they are loaded.
     Rgba8Straight = sys::TRIRAST_FORMAT_RGBA8_STRAIGHT as isize,
-    /// Blue, green, red and alpha as image files have them: colours are divided by alpha when they are written, and multiplied
-    /// by it when they are loaded.
+    /// Blue, green, red and alpha as image files have them: see [`Rgba8Straight`](Format::Rgba8Straight).
     Bgra8Straight = sys::TRIRAST_FORMAT_BGRA8_STRAIGHT as isize,
 }
 
@@ -142,7 +142,8 @@ impl CanvasBuilder {
         // SAFETY: the struct is valid.
         let size = unsafe { sys::trirast_canvas_size(&raw) };
         if size == 0 {
-            return Err(Error::of_status(sys::TRIRAST_STATUS_BAD_CANVAS));
+            let given = Values::Canvas([self.width, self.height, self.samples]);
+            return Err(Error::of_status(sys::TRIRAST_STATUS_BAD_CANVAS).with(given));
         }
         let own = Memory::new(size).ok_or_else(Error::out_of_memory)?;
         // SAFETY: the memory has as many bytes, and stays as long as the canvas.
@@ -291,25 +292,28 @@ impl TileRows<'_> {
     ///
     /// `BufferTooSmall` if the stride is less than a row of pixels, or the last row of pixels ends behind the slice.
     pub fn load(&mut self, format: Format, pixels: &[u8], stride: usize) -> Result<(), Error> {
-        let rows = Rows::of_pixels(self, format, stride);
+        let rows = Rows::of_pixels(self, 0, format, stride);
         by_threads(self.with_parts_of(pixels, rows), |(mut part, own)| {
             // SAFETY: the struct has the memory of its tile rows, the slice its length, and the library keeps neither.
             done(unsafe { sys::trirast_canvas_load(&mut part.raw, format as u32, own.as_ptr().cast(), own.len(), stride) })
         })
+        .map_err(|error| rows.explain(error, self, pixels.len()))
     }
 
-    /// Makes a picture the colour of one sample of its pixels, where [`load`](TileRows::load) makes it that of all.
+    /// Makes a picture the colour of one sample of its pixels. Depths and other samples are unchanged. `pixels` and `stride` are as
+    /// for [`load`](TileRows::load).
     ///
     /// # Errors
     ///
     /// `BadSample` if a pixel has no sample of this index, and those of [`load`](TileRows::load).
     pub fn store(&mut self, sample: u32, format: Format, pixels: &[u8], stride: usize) -> Result<(), Error> {
-        let rows = Rows::of_pixels(self, format, stride);
+        let rows = Rows::of_pixels(self, sample, format, stride);
         by_threads(self.with_parts_of(pixels, rows), |(mut part, own)| {
             let (start, size) = (own.as_ptr().cast(), own.len());
             // SAFETY: as for load.
             done(unsafe { sys::trirast_canvas_store(&mut part.raw, sample, format as u32, start, size, stride) })
         })
+        .map_err(|error| rows.explain(error, self, pixels.len()))
     }
 
     /// Draws over what is stored, by the indices of vertices: slices or arrays of `u16` or `u32`, or [`Indices::InOrder`]. A
@@ -341,9 +345,10 @@ impl TileRows<'_> {
             // SAFETY: the struct has the memory of its tile rows, each array its count, and the library keeps none of them.
             checked(|error| unsafe { sys::trirast_canvas_draw(&mut part.raw, &batch, error) })
         })
+        .map_err(|error| batch.explain(error, self.origin()))
     }
 
-    /// Draws in the same way, and stores in place of a colour the id of each triangle: `first_id` and its index, counted over
+    /// Draws over what is stored, with the id of each triangle in place of a colour: `first_id` and its index, counted over
     /// all draws. Channels that are kept and blending are not used. A sample that no triangle passed has the number of the
     /// colour to which it was cleared: white is 16,777,215.
     ///
@@ -358,5 +363,6 @@ impl TileRows<'_> {
             // SAFETY: as for draw_batch.
             checked(|error| unsafe { sys::trirast_canvas_draw_ids(&mut part.raw, &batch, first_id, error) })
         })
+        .map_err(|error| batch.explain(error, self.origin()))
     }
 }

@@ -105,25 +105,25 @@ impl Clip {
         Clip { left: 0, top: 0, width, height, near_plane, sides, depths: [0, u16::MAX] }
     }
 
-    /// Sets the first pixel of the viewport on the screen.
+    /// Returns this viewport from another pixel of the screen.
     #[must_use]
     pub const fn at(self, left: i32, top: i32) -> Clip {
         Clip { left, top, ..self }
     }
 
-    /// Sets what z / w is at the near plane.
+    /// Returns this viewport with another near plane.
     #[must_use]
     pub const fn near_plane(self, near_plane: NearPlane) -> Clip {
         Clip { near_plane, ..self }
     }
 
-    /// Sets which planes cut beside near and far.
+    /// Returns this viewport with other sides.
     #[must_use]
     pub const fn sides(self, sides: Sides) -> Clip {
         Clip { sides, ..self }
     }
 
-    /// Sets the depths at the near plane and at the far plane.
+    /// Returns this viewport with other depths at the near plane and at the far plane.
     #[must_use]
     pub const fn depths(self, depths: [u16; 2]) -> Clip {
         Clip { depths, ..self }

@@ -5,7 +5,8 @@ use std::mem::size_of;
 use trirast_sys as sys;
 
 use crate::error::done;
-use crate::Error;
+use crate::values::{is_far, Values};
+use crate::{Error, ErrorKind, Origin};
 
 /// A position: x to the right and y downwards, in 1/256 pixel, -8388608 to 8388607 each.
 pub type Position = [i32; 2];
@@ -62,8 +63,21 @@ impl Edges {
 /// Writes those of as many points as there are entries.
 fn write_edges(corners: [Position; 3], points: &[Position], found: &mut [sys::trirast_edges]) -> Result<(), Error> {
     let [[ax, ay], [bx, by], [cx, cy]] = corners;
-    let corners = sys::trirast_corners { ax, ay, bx, by, cx, cy };
+    let raw = sys::trirast_corners { ax, ay, bx, by, cx, cy };
     let (stride, count) = (size_of::<Position>(), points.len().min(found.len()));
     // SAFETY: both arrays have as many elements, all pointers are valid for the call, and the library keeps none of them.
-    done(unsafe { sys::trirast_edges_at(&corners, points.as_ptr().cast(), stride, count, found.as_mut_ptr()) })
+    done(unsafe { sys::trirast_edges_at(&raw, points.as_ptr().cast(), stride, count, found.as_mut_ptr()) })
+        .map_err(|error| explain(error, &corners, points))
+}
+
+/// An error with the first corner or point that is out of range.
+fn explain(error: Error, corners: &[Position], points: &[Position]) -> Error {
+    let all = [("corner", corners), ("point", points)];
+    let far = all.into_iter().find_map(|(name, each)| each.iter().position(|&at| is_far(at)).map(|k| ((name, k), each[k])));
+    match (error.kind(), far) {
+        (ErrorKind::BadPosition, Some((of, at))) => {
+            error.with(Values::Position { of: Some(of), at, origin: Origin::default() })
+        }
+        _ => error,
+    }
 }

@@ -5,12 +5,15 @@ use std::os::raw::c_char;
 
 use trirast_sys as sys;
 
+use crate::values::Values;
 use crate::{BatchCause, ListCause};
 
-/// Why a call failed, and where. Its text is one line, as "draw 3: the indices make no whole triangles or quads".
+/// Why a call failed, and where. Its text is one line, as "draw 3: the indices make no whole triangles or quads", and on a canvas it says
+/// what was passed and what may be, as "no such sample: 0 to 3, and not 4".
 #[derive(Clone, Copy, Debug, PartialEq, Eq)]
 pub struct Error {
     raw: sys::trirast_error,
+    values: Values,
 }
 
 /// What kind of error it is.
@@ -65,7 +68,13 @@ impl Error {
 
     pub(crate) fn of_cause(status: u32, cause: u32) -> Error {
         let none = sys::TRIRAST_NONE;
-        Error { raw: sys::trirast_error { status, cause, draw: none, element: none, value: none } }
+        let raw = sys::trirast_error { status, cause, draw: none, element: none, value: none };
+        Error { raw, values: Values::None }
+    }
+
+    /// Returns this error with values in its text.
+    pub(crate) fn with(self, values: Values) -> Error {
+        Error { values, ..self }
     }
 
     /// The error of memory that this crate could not allocate.
@@ -127,7 +136,11 @@ impl fmt::Display for Error {
         let length = unsafe { sys::trirast_error_message(&self.raw, buffer, line.len()) };
         // The last byte is the zero behind the text.
         let written = &line[..length.min(line.len() - 1)];
-        formatter.write_str(std::str::from_utf8(written).unwrap_or_default())
+        formatter.write_str(std::str::from_utf8(written).unwrap_or_default())?;
+        match self.values {
+            Values::None => Ok(()),
+            values => write!(formatter, ": {values}"),
+        }
     }
 }
 
@@ -138,7 +151,7 @@ pub(crate) fn checked(call: impl FnOnce(&mut sys::trirast_error) -> u32) -> Resu
     let mut raw = sys::trirast_error::default();
     match call(&mut raw) {
         sys::TRIRAST_STATUS_OK => Ok(()),
-        _ => Err(Error { raw }),
+        _ => Err(Error { raw, values: Values::None }),
     }
 }
 

@@ -44,6 +44,7 @@ mod polygons;
 mod read;
 mod state;
 mod tiles;
+mod values;
 
 pub use batch::{Draw, Indices, Vertex, Vertices};
 pub use blend::{Blend, Equation, Factor, Operation};

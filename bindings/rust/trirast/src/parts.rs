@@ -8,7 +8,8 @@ use std::{panic, thread};
 use trirast_sys as sys;
 
 use crate::error::done;
-use crate::{Error, Format, TileRows};
+use crate::values::Values;
+use crate::{Error, ErrorKind, Format, TileRows};
 
 /// The rows of pixels of a tile row.
 pub(crate) const ROW_PIXELS: u32 = sys::TRIRAST_TILE_SIZE;
@@ -18,23 +19,41 @@ pub(crate) fn pixel_row(canvas: &sys::trirast_canvas, tile_row: u32) -> u32 {
     canvas.height.min(tile_row.saturating_mul(ROW_PIXELS))
 }
 
-/// Rows in a buffer: the elements that a row has, and those from the beginning of one to that of the next, if these are whole.
+/// Rows in a buffer for the samples of an index: the bytes of an element, the elements that a row has, the stride that was passed, in
+/// bytes, and in elements, if these are whole.
 #[derive(Clone, Copy)]
 pub(crate) struct Rows {
+    sample: u32,
+    element: usize,
     row: usize,
+    given: usize,
     stride: Option<usize>,
 }
 
 impl Rows {
-    pub(crate) fn of_pixels(canvas: &TileRows<'_>, format: Format, stride: usize) -> Rows {
+    pub(crate) fn of_pixels(canvas: &TileRows<'_>, sample: u32, format: Format, given: usize) -> Rows {
         let row = canvas.raw.width as usize * format.pixel_bytes();
-        Rows { row, stride: Some(if stride == 0 { row } else { stride }) }
+        Rows { sample, element: 1, row, given, stride: Some(if given == 0 { row } else { given }) }
     }
 
-    pub(crate) fn of_entries<T>(canvas: &TileRows<'_>, stride: usize) -> Rows {
-        let row = canvas.raw.width as usize;
-        let whole = (stride % size_of::<T>() == 0).then_some(stride / size_of::<T>());
-        Rows { row, stride: if stride == 0 { Some(row) } else { whole } }
+    pub(crate) fn of_entries<T>(canvas: &TileRows<'_>, sample: u32, given: usize) -> Rows {
+        let (row, element) = (canvas.raw.width as usize, size_of::<T>());
+        let whole = (given % element == 0).then_some(given / element);
+        Rows { sample, element, row, given, stride: if given == 0 { Some(row) } else { whole } }
+    }
+
+    /// An error of a call on these rows of a buffer of this length, with its values.
+    pub(crate) fn explain(self, error: Error, canvas: &TileRows<'_>, length: usize) -> Error {
+        let Rows { sample, element, row, given, .. } = self;
+        match error.kind() {
+            ErrorKind::BadSample => error.with(Values::Index { given: sample, count: canvas.samples() }),
+            ErrorKind::BadStride => error.with(Values::Stride { given, element }),
+            ErrorKind::BufferTooSmall => {
+                let (row, rows) = (row * element, canvas.height() as usize);
+                error.with(Values::Buffer { given: length.saturating_mul(element), row, rows, stride: given })
+            }
+            _ => error,
+        }
     }
 
     /// The stride, if a buffer of this length has as many rows.
@@ -74,7 +93,11 @@ impl TileRows<'_> {
     pub(crate) fn piece(&self, first: u32, end: u32) -> Result<TileRows<'_>, Error> {
         let mut raw = self.raw;
         // SAFETY: both structs are valid, and this one has the memory of its tile rows.
-        done(unsafe { sys::trirast_canvas_split(&self.raw, first, end, &mut raw) })?;
+        let split = done(unsafe { sys::trirast_canvas_split(&self.raw, first, end, &mut raw) });
+        split.map_err(|error| match error.kind() {
+            ErrorKind::BadTileRows => error.with(Values::TileRows { given: [first, end], own: [self.raw.first, self.raw.end] }),
+            _ => error,
+        })?;
         Ok(TileRows { raw, threads: 1, _own: None, lent: PhantomData })
     }
 
@@ -113,7 +136,9 @@ impl TileRows<'_> {
         rows: Rows,
         call: impl Fn(&TileRows<'_>, &mut [T]) -> u32 + Sync,
     ) -> Result<(), Error> {
+        let length = buffer.len();
         by_threads(self.with_parts_of(buffer, rows), |(part, share)| done(call(&part, share)))
+            .map_err(|error| rows.explain(error, self, length))
     }
 }
 

@@ -7,7 +7,8 @@ use trirast_sys as sys;
 use crate::error::checked;
 use crate::parts::by_threads;
 use crate::picture::zeros;
-use crate::{Error, Position, State, TileRows};
+use crate::values::Values;
+use crate::{BatchCause, Error, ErrorKind, Origin, Position, State, TileRows};
 
 const _: () = assert!(size_of::<Position>() == size_of::<sys::trirast_corner>());
 
@@ -68,22 +69,43 @@ impl<'a> Polygons<'a> {
         Polygons { corners, ring_ends, polygon_ends, colors: &[], depths: &[], fill_rule: FillRule::EvenOdd }
     }
 
-    /// Sets the colours: red, green, blue and alpha of each polygon.
+    /// Returns these polygons in other colours: red, green, blue and alpha of each.
     #[must_use]
     pub const fn colors(self, colors: &'a [[u8; 4]]) -> Polygons<'a> {
         Polygons { colors, ..self }
     }
 
-    /// Sets the depths, one of each polygon.
+    /// Returns these polygons at other depths, one of each.
     #[must_use]
     pub const fn depths(self, depths: &'a [u16]) -> Polygons<'a> {
         Polygons { depths, ..self }
     }
 
-    /// Sets the rule that says which samples are inside.
+    /// Returns these polygons by another rule.
     #[must_use]
     pub const fn fill_rule(self, fill_rule: FillRule) -> Polygons<'a> {
         Polygons { fill_rule, ..self }
+    }
+
+    /// An error of these polygons on a canvas of this origin, with its values.
+    fn explain(&self, error: Error, origin: Origin) -> Error {
+        let element = error.element().unwrap_or_default();
+        let ends = |ends: &[u32], count, of| {
+            let begin = element.checked_sub(1).and_then(|before| ends.get(before)).copied().unwrap_or_default();
+            ends.get(element).map(|&end| Values::Ends { begin, end, count, of })
+        };
+        let counts = |given| Some(Values::Counts { given, wanted: self.polygon_ends.len() });
+        let at = self.corners.get(element).map(|&at| Values::Position { of: None, at, origin: Origin::default() });
+        let values = match error.kind() {
+            ErrorKind::BadPosition => Some(Values::Origin(origin)),
+            ErrorKind::BadBatch(BatchCause::BadPosition) => at,
+            ErrorKind::BadBatch(BatchCause::BadRing) => ends(self.ring_ends, self.corners.len(), "corners"),
+            ErrorKind::BadBatch(BatchCause::BadPolygon) => ends(self.polygon_ends, self.ring_ends.len(), "rings"),
+            ErrorKind::BadBatch(BatchCause::TooFewColors) => counts(self.colors.len()),
+            ErrorKind::BadBatch(BatchCause::TooFewDepths) => counts(self.depths.len()),
+            _ => None,
+        };
+        values.map_or(error, |values| error.with(values))
     }
 
     /// The polygons as C takes them, which must not outlive the arrays.
@@ -124,9 +146,10 @@ impl TileRows<'_> {
             // SAFETY: the struct has the memory of its tile rows, each array its count, and the library keeps none of them.
             checked(|error| unsafe { sys::trirast_canvas_draw_polygons(&mut part.raw, &raw, start, size, error) })
         })
+        .map_err(|error| polygons.explain(error, self.origin()))
     }
 
-    /// Draws polygons in the same way, and stores in place of a colour the id of each: `first_id` and its index. Channels that are
+    /// Draws polygons over what is stored, with the id of each in place of a colour: `first_id` and its index. Channels that are
     /// kept and blending are not used.
     ///
     /// # Errors
@@ -140,6 +163,7 @@ impl TileRows<'_> {
             // SAFETY: as for draw_polygons.
             checked(|error| unsafe { sys::trirast_canvas_draw_polygon_ids(&mut part.raw, &raw, first_id, start, size, error) })
         })
+        .map_err(|error| polygons.explain(error, self.origin()))
     }
 
     /// The parts among which a call shares these tile rows, each with scratch memory of its own. All of it is there before one

@@ -15,7 +15,7 @@ impl TileRows<'_> {
     ///
     /// `BufferTooSmall` if the stride is less than a row of pixels, or the last row of pixels ends behind the slice.
     pub fn resolve(&self, format: Format, pixels: &mut [u8], stride: usize) -> Result<(), Error> {
-        self.write(pixels, Rows::of_pixels(self, format, stride), |part, own| {
+        self.write(pixels, Rows::of_pixels(self, 0, format, stride), |part, own| {
             // SAFETY: the struct has the memory of its tile rows, the slice its length, and the library keeps neither.
             unsafe { sys::trirast_canvas_resolve(&part.raw, format as u32, own.as_mut_ptr().cast(), own.len(), stride) }
         })
@@ -32,13 +32,13 @@ impl TileRows<'_> {
         Ok(found)
     }
 
-    /// Writes the colour of one sample of each pixel, where [`resolve`](TileRows::resolve) writes the mean of all.
+    /// Writes the colour of one sample of each pixel, unresolved, to rows as of [`resolve`](TileRows::resolve).
     ///
     /// # Errors
     ///
     /// `BadSample` if a pixel has no sample of this index, and those of `resolve`.
     pub fn colors_into(&self, sample: u32, format: Format, pixels: &mut [u8], stride: usize) -> Result<(), Error> {
-        self.write(pixels, Rows::of_pixels(self, format, stride), |part, own| {
+        self.write(pixels, Rows::of_pixels(self, sample, format, stride), |part, own| {
             let (start, size) = (own.as_mut_ptr().cast(), own.len());
             // SAFETY: as for resolve.
             unsafe { sys::trirast_canvas_colors(&part.raw, sample, format as u32, start, size, stride) }
@@ -64,7 +64,7 @@ impl TileRows<'_> {
     /// `BadSample` if a pixel has no sample of this index, `BadStride` if the stride is not of whole entries, or
     /// `BufferTooSmall` if it is less than a row of entries, or the last row ends behind the slice.
     pub fn depths_into(&self, sample: u32, depths: &mut [u16], stride: usize) -> Result<(), Error> {
-        self.write(depths, Rows::of_entries::<u16>(self, stride), |part, own| {
+        self.write(depths, Rows::of_entries::<u16>(self, sample, stride), |part, own| {
             // SAFETY: as for resolve.
             unsafe { sys::trirast_canvas_depths(&part.raw, sample, own.as_mut_ptr(), own.len(), stride) }
         })
@@ -81,14 +81,14 @@ impl TileRows<'_> {
         Ok(found)
     }
 
-    /// Writes the id of one sample of each pixel, its red + 256 * green + 65536 * blue, where [`depths_into`](TileRows::depths_into)
-    /// writes its depth.
+    /// Writes the id of one sample of each pixel: its red + 256 * green + 65536 * blue. `stride` is in bytes. Entries between the
+    /// rows of pixels are unchanged.
     ///
     /// # Errors
     ///
     /// Those of [`depths_into`](TileRows::depths_into).
     pub fn ids_into(&self, sample: u32, ids: &mut [u32], stride: usize) -> Result<(), Error> {
-        self.write(ids, Rows::of_entries::<u32>(self, stride), |part, own| {
+        self.write(ids, Rows::of_entries::<u32>(self, sample, stride), |part, own| {
             // SAFETY: as for resolve.
             unsafe { sys::trirast_canvas_ids(&part.raw, sample, own.as_mut_ptr(), own.len(), stride) }
         })

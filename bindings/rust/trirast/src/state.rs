@@ -127,49 +127,49 @@ impl State {
         State::default()
     }
 
-    /// Sets how indices make triangles.
+    /// Returns this state with indices of another kind.
     #[must_use]
     pub fn topology(self, topology: Topology) -> State {
         State { topology, ..self }
     }
 
-    /// Sets which triangles are dropped.
+    /// Returns this state with other triangles dropped.
     #[must_use]
     pub fn cull(self, cull: Cull) -> State {
         State { cull, ..self }
     }
 
-    /// Sets the depth test.
+    /// Returns this state with another depth test.
     #[must_use]
     pub fn depth_test(self, depth_test: DepthTest) -> State {
         State { depth_test, ..self }
     }
 
-    /// Sets whether the new depth is stored.
+    /// Returns this state with the new depth stored, or not.
     #[must_use]
     pub fn depth_write(self, depth_write: bool) -> State {
         State { depth_write, ..self }
     }
 
-    /// Sets the blending.
+    /// Returns this state with another blending.
     #[must_use]
     pub fn blend(self, blend: Blend) -> State {
         State { blend, ..self }
     }
 
-    /// Sets the channels that are not written.
+    /// Returns this state with other channels that are not written.
     #[must_use]
     pub fn keep(self, keep: Channels) -> State {
         State { keep, ..self }
     }
 
-    /// Sets the samples that are not drawn: those whose bits are 1.
+    /// Returns this state with other samples that are not drawn.
     #[must_use]
     pub fn skip_samples(self, skip_samples: u16) -> State {
         State { skip_samples, ..self }
     }
 
-    /// Sets the scissor: left, top, right, bottom, the last two outside.
+    /// Returns this state with another scissor: left, top, right, bottom in pixels, the last two outside.
     #[must_use]
     pub fn scissor(self, scissor: [i32; 4]) -> State {
         State { scissor: Some(scissor), ..self }

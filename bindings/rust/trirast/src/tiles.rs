@@ -4,7 +4,8 @@ use trirast_sys as sys;
 
 use crate::error::done;
 use crate::parts::ROW_PIXELS;
-use crate::{Error, TileRows};
+use crate::values::Values;
+use crate::{Error, ErrorKind, TileRows};
 
 /// The width and height of a tile of a canvas, in pixels.
 pub const CANVAS_TILE_SIZE: u32 = ROW_PIXELS;
@@ -64,13 +65,14 @@ impl TileRows<'_> {
         let mut uniform = 0;
         let (start, count) = (entries.as_mut_ptr(), entries.len());
         // SAFETY: the struct has the memory of its tile rows, the slice its length, and the library keeps neither.
-        done(unsafe { sys::trirast_canvas_tile_ids(&self.raw, column, row, start, count, &mut uniform) })?;
+        done(unsafe { sys::trirast_canvas_tile_ids(&self.raw, column, row, start, count, &mut uniform) })
+            .map_err(|error| self.explain(error, [column, row], count, false))?;
         let written = if uniform == 1 { 1 } else { self.tile_entries() };
         Ok(entries.get(..written).unwrap_or_default())
     }
 
     /// Stores the colours of all samples of one tile, red + 256 * green + 65536 * blue each, of which the upper byte is not read.
-    /// Depths and other tiles are unchanged. One colour is that of all samples of the tile. Storing what
+    /// Depths, alpha and other tiles are unchanged. One colour is that of all samples of the tile. Storing what
     /// [`tile_ids`](TileRows::tile_ids) has returned changes nothing.
     ///
     /// # Errors
@@ -80,5 +82,16 @@ impl TileRows<'_> {
     pub fn tile_store(&mut self, column: u32, row: u32, colors: &[u32]) -> Result<(), Error> {
         // SAFETY: as for tile_ids.
         done(unsafe { sys::trirast_canvas_tile_store(&mut self.raw, column, row, colors.as_ptr(), colors.len()) })
+            .map_err(|error| self.explain(error, [column, row], colors.len(), true))
+    }
+
+    /// An error of a call on a tile and as many entries, with its values.
+    fn explain(&self, error: Error, tile: [u32; 2], given: usize, or_one: bool) -> Error {
+        let rows = [self.raw.first, self.raw.end];
+        match error.kind() {
+            ErrorKind::BadTile => error.with(Values::Tile { given: tile, columns: self.tile_columns(), rows }),
+            ErrorKind::BufferTooSmall => error.with(Values::Entries { given, wanted: self.tile_entries(), or_one }),
+            _ => error,
+        }
     }
 }

@@ -437,7 +437,9 @@ fn refuses_canvases_that_there_are_not() {
         [(0, 1, 1), (1, 0, 1), (4097, 1, 1), (1, 4097, 1), (u32::MAX, u32::MAX, 1), (1, 1, 3), (1, 1, 0), (1, 1, 32)]
     {
         let error = Canvas::builder(width, height).samples(samples).build().unwrap_err();
-        assert_eq!((error.kind(), error.to_string().as_str()), (ErrorKind::BadCanvas, "no such canvas"));
+        let sizes = "1 to 4096 pixels a side and 1, 2, 4, 8 or 16 samples a pixel";
+        let line = format!("no such canvas: {sizes}, and not {width} by {height} and {samples}");
+        assert_eq!((error.kind(), error.to_string()), (ErrorKind::BadCanvas, line));
         assert_eq!((error.draw(), error.element()), (None, None));
     }
 }
@@ -459,8 +461,51 @@ fn refuses_buffers_that_are_too_small() {
         assert_eq!(refused(canvas.depths_into(0, &mut depths, 21)).0, ErrorKind::BadStride);
         assert_eq!(refused(canvas.depths_into(4, &mut depths, 20)).0, ErrorKind::BadSample);
         assert_eq!(depths, [7; 1999]);
-        assert_eq!(canvas.ids(4).unwrap_err().to_string(), "no such sample");
+        assert_eq!(canvas.ids(4).unwrap_err().to_string(), "no such sample: 0 to 3, and not 4");
         assert_eq!(canvas.pixels(Format::Rgb8).unwrap(), [1, 2, 3].repeat(2000));
+    }
+}
+
+#[test]
+fn says_what_was_passed_and_what_may_be() {
+    let mut canvas = Canvas::builder(10, 200).samples(4).threads(2).build().unwrap();
+    let (mut bytes, mut depths) = ([0; 5999], [0; 2000]);
+    let good = triangle(0, 0, 200);
+    let far = good.map(|vertex| Vertex { x: 8_388_608, ..vertex });
+    let [.., Vertex { y, .. }] = far;
+    let beyond =
+        format!("vertex 2 is out of range: x 8388608 and y {y} in 1/256 pixel (32768 and {} pixels)", f64::from(y) / 256.0);
+    let draws = [Draw::new(&good, Indices::InOrder), Draw::new(&far, &[2u32, 2, 2])];
+    let mut window = Canvas::builder(1, 1).origin(-5, 0).build().unwrap();
+    let told = |result: Result<(), Error>| result.unwrap_err().to_string();
+    let cases = [
+        (
+            told(canvas.resolve(Format::Rgb8, &mut bytes, 0)),
+            "buffer too small: 6000 bytes for 200 rows at a stride of 30, and not 5999".into(),
+        ),
+        (
+            told(canvas.load(Format::Rgb8, &bytes, 29)),
+            "buffer too small: a stride of at least 30 bytes, or 0, and not 29".into(),
+        ),
+        (told(canvas.depths_into(0, &mut depths, 21)), "wrong stride: a multiple of 2 bytes, and not 21".into()),
+        (told(canvas.store(9, Format::Rgb8, &bytes, 0)), "no such sample: 0 to 3, and not 9".into()),
+        (told(canvas.rows(2, 5).map(drop)), "no such tile rows: 0 to 4, and not 2 to 5".into()),
+        (
+            told(canvas.draw(&good, &[0u16, 1, 3], State::new())),
+            "draw 0: index 2 is 3, which is not less than the number of vertices: 3".into(),
+        ),
+        (
+            told(canvas.draw_batch(&draws)),
+            format!("draw 1: {beyond}; x: -8388608 to 8388607 (-32768 to 32767.99609375 pixels)"),
+        ),
+        (
+            told(window.draw_ids(&draws[1..], 0)),
+            format!("draw 0: {beyond}; x with the origin -5: -8388608 to 8387327 (-32768 to 32762.99609375 pixels)"),
+        ),
+    ];
+    for (found, wanted) in cases {
+        let wanted: String = wanted;
+        assert_eq!(found, wanted);
     }
 }
 
@@ -536,7 +581,11 @@ fn gives_edge_functions() {
     assert_eq!(found[3], inside);
     assert_eq!(edges_at([a, b, c], &[]).unwrap(), []);
     let error = edges([a, b, [0, 8_388_608]], [0, 0]).unwrap_err();
-    assert_eq!((error.kind(), error.to_string().as_str()), (ErrorKind::BadPosition, "position out of range"));
+    let line =
+        "position out of range: corner 2: x 0 and y 8388608 in 1/256 pixel (0 and 32768 pixels); y: -8388608 to 8388607 \
+                (-32768 to 32767.99609375 pixels)";
+    assert_eq!((error.kind(), error.to_string().as_str()), (ErrorKind::BadPosition, line));
     assert_eq!(edges([a, b, c], [-8_388_609, 0]).unwrap_err().kind(), ErrorKind::BadPosition);
-    assert_eq!(edges_at([a, b, c], &[[0, 0], [0, 8_388_608]]).unwrap_err().kind(), ErrorKind::BadPosition);
+    let error = edges_at([a, b, c], &[[0, 0], [0, 8_388_608]]).unwrap_err();
+    assert_eq!((error.kind(), error.to_string()), (ErrorKind::BadPosition, line.replace("corner 2", "point 1")));
 }
