@@ -20,6 +20,7 @@
 #include <cstddef>
 #include <cstdint>
 #include <cstring>
+#include <type_traits>
 #include <utility>
 
 #if !defined(TRIRAST_SCALAR) && defined(__clang__)
@@ -503,82 +504,68 @@ TRIRAST_INLINE Integers look_up(const Integers &eight, const Integers &index) no
 #endif
 }
 
-/* Of each lane the number of this index and the one behind it: two texels that are neighbours take one load. */
-TRIRAST_INLINE void gather_two(const std::uint32_t *from, const Integers &index, Integers &first,
-                               Integers &second) noexcept {
-#if TRIRAST_VECTORS
-    using Two = std::int64_t __attribute__((vector_size(16)));
-    const auto at = [&](std::size_t lane) {
-        return detail::loaded<std::int64_t>(from + static_cast<std::uint32_t>(index[lane]));
-    };
-    const auto pairs = [&](std::size_t lane) { return Two{at(lane), at(lane + 1)}; };
-    using Numbers = std::int32_t __attribute__((vector_size(16)));
-    const Numbers a = Numbers(pairs(0)), b = Numbers(pairs(2)), c = Numbers(pairs(4)), d = Numbers(pairs(6));
-    const Numbers first_low = __builtin_shufflevector(a, b, 0, 2, 4, 6),
-                  first_high = __builtin_shufflevector(c, d, 0, 2, 4, 6),
-                  second_low = __builtin_shufflevector(a, b, 1, 3, 5, 7),
-                  second_high = __builtin_shufflevector(c, d, 1, 3, 5, 7);
-#if defined(__AVX__)
-    first.part[0] = __builtin_shufflevector(first_low, first_high, 0, 1, 2, 3, 4, 5, 6, 7);
-    second.part[0] = __builtin_shufflevector(second_low, second_high, 0, 1, 2, 3, 4, 5, 6, 7);
-#else
-    first.part[0] = first_low, first.part[1] = first_high, second.part[0] = second_low, second.part[1] = second_high;
-#endif
-#else
-    first = gather(from, index), second = gather(from + 1, index);
-#endif
-}
-
-#if TRIRAST_VECTORS
 namespace detail {
 
-using Four = float __attribute__((vector_size(16)));
-
+#if TRIRAST_VECTORS
 /* Rows of four numbers as four vectors, one for each column; of parts with eight lanes the rows of both halves. */
-TRIRAST_INLINE void turn(FloatPart &a, FloatPart &b, FloatPart &c, FloatPart &d) noexcept {
+template <class Part>
+TRIRAST_INLINE void turn(Part &a, Part &b, Part &c, Part &d) noexcept {
 #if defined(__AVX__)
-    const FloatPart ab = __builtin_shufflevector(a, b, 0, 8, 1, 9, 4, 12, 5, 13),
-                    cd = __builtin_shufflevector(c, d, 0, 8, 1, 9, 4, 12, 5, 13),
-                    ab_high = __builtin_shufflevector(a, b, 2, 10, 3, 11, 6, 14, 7, 15),
-                    cd_high = __builtin_shufflevector(c, d, 2, 10, 3, 11, 6, 14, 7, 15);
+    const Part ab = __builtin_shufflevector(a, b, 0, 8, 1, 9, 4, 12, 5, 13),
+               cd = __builtin_shufflevector(c, d, 0, 8, 1, 9, 4, 12, 5, 13),
+               ab_high = __builtin_shufflevector(a, b, 2, 10, 3, 11, 6, 14, 7, 15),
+               cd_high = __builtin_shufflevector(c, d, 2, 10, 3, 11, 6, 14, 7, 15);
     a = __builtin_shufflevector(ab, cd, 0, 1, 8, 9, 4, 5, 12, 13);
     b = __builtin_shufflevector(ab, cd, 2, 3, 10, 11, 6, 7, 14, 15);
     c = __builtin_shufflevector(ab_high, cd_high, 0, 1, 8, 9, 4, 5, 12, 13);
     d = __builtin_shufflevector(ab_high, cd_high, 2, 3, 10, 11, 6, 7, 14, 15);
 #else
-    const FloatPart ab = __builtin_shufflevector(a, b, 0, 4, 1, 5), ab_high = __builtin_shufflevector(a, b, 2, 6, 3, 7),
-                    cd = __builtin_shufflevector(c, d, 0, 4, 1, 5), cd_high = __builtin_shufflevector(c, d, 2, 6, 3, 7);
+    const Part ab = __builtin_shufflevector(a, b, 0, 4, 1, 5), ab_high = __builtin_shufflevector(a, b, 2, 6, 3, 7),
+               cd = __builtin_shufflevector(c, d, 0, 4, 1, 5), cd_high = __builtin_shufflevector(c, d, 2, 6, 3, 7);
     a = __builtin_shufflevector(ab, cd, 0, 1, 4, 5), b = __builtin_shufflevector(ab, cd, 2, 3, 6, 7);
-    c = __builtin_shufflevector(ab_high, cd_high, 0, 1, 4, 5),
+    c = __builtin_shufflevector(ab_high, cd_high, 0, 1, 4, 5);
     d = __builtin_shufflevector(ab_high, cd_high, 2, 3, 6, 7);
+#endif
+}
+#endif
+
+/* take_four of numbers of one kind, of which `Lanes` are eight. */
+template <class Number, class Lanes>
+TRIRAST_INLINE void take_four_of(const Number *rows, std::size_t stride, const Integers &row, std::size_t first,
+                                 Lanes *found) noexcept {
+    std::uint32_t index[lane_count]; /* through memory: single lanes are slow to take out of a vector */
+    row.store(index);
+    const auto from = [&](std::size_t lane) { return rows + first + stride * index[lane]; };
+#if TRIRAST_VECTORS && defined(__AVX__)
+    using Part = std::decay_t<decltype(found->part[0])>;
+    for (std::size_t k = 0; k < 4; k++)
+        found[k].part[0] = Part(_mm256_insertf128_ps(
+            _mm256_castps128_ps256(loaded<__m128>(from(k))), loaded<__m128>(from(k + 4)), 1));
+    turn(found[0].part[0], found[1].part[0], found[2].part[0], found[3].part[0]);
+#elif TRIRAST_VECTORS
+    using Part = std::decay_t<decltype(found->part[0])>;
+    for (std::size_t half = 0; half < 2; half++) {
+        for (std::size_t k = 0; k < 4; k++) found[k].part[half] = loaded<Part>(from(4 * half + k));
+        turn(found[0].part[half], found[1].part[half], found[2].part[half], found[3].part[half]);
+    }
+#else
+    for (std::size_t k = 0; k < 4; k++)
+        for (std::size_t lane = 0; lane < lane_count; lane++)
+            std::memcpy(&found[k].part[lane], from(lane) + k, sizeof found[k].part[lane]);
 #endif
 }
 
 } // namespace detail
-#endif
 
 /* Takes four numbers from each of eight rows: found[k] has number `first + k` of the row of each lane. A row begins
  * `stride` numbers behind the one before; rows are not negative. */
 TRIRAST_INLINE void take_four(const float *rows, std::size_t stride, const Integers &row, std::size_t first,
                               Floats *found) noexcept {
-    const auto from = [&](std::size_t lane) { return rows + first + stride * static_cast<std::uint32_t>(row[lane]); };
-#if TRIRAST_VECTORS && defined(__AVX__)
-    const auto pair = [&](std::size_t lane) {
-        const detail::Four low = detail::loaded<detail::Four>(from(lane)),
-                           high = detail::loaded<detail::Four>(from(lane + 4));
-        return __builtin_shufflevector(low, high, 0, 1, 2, 3, 4, 5, 6, 7);
-    };
-    for (std::size_t k = 0; k < 4; k++) found[k].part[0] = pair(k);
-    detail::turn(found[0].part[0], found[1].part[0], found[2].part[0], found[3].part[0]);
-#elif TRIRAST_VECTORS
-    for (std::size_t half = 0; half < 2; half++) {
-        for (std::size_t k = 0; k < 4; k++) found[k].part[half] = detail::loaded<detail::Four>(from(4 * half + k));
-        detail::turn(found[0].part[half], found[1].part[half], found[2].part[half], found[3].part[half]);
-    }
-#else
-    for (std::size_t k = 0; k < 4; k++)
-        for (std::size_t lane = 0; lane < lane_count; lane++) found[k].part[lane] = from(lane)[k];
-#endif
+    detail::take_four_of(rows, stride, row, first, found);
+}
+TRIRAST_INLINE void take_four(const std::uint32_t *rows, std::size_t stride, const Integers &row, std::size_t first,
+                              Integers *found) noexcept {
+    detail::take_four_of(rows, stride, row, first, found);
 }
 
 } // namespace trirast

@@ -200,7 +200,7 @@ static inline void trirast_shading_edges(const trirast_shade_triangle *t, int32_
 
 /* What is known of eight triangles, lane by lane: compilers make vectors of loops over such arrays. */
 typedef struct trirast_shading_lanes {
-    float edges[3][TRIRAST_SHADE_LANES], whole[TRIRAST_SHADE_LANES];
+    float edges[3][TRIRAST_SHADE_LANES], sum[TRIRAST_SHADE_LANES];
     float wb[TRIRAST_SHADE_LANES], wc[TRIRAST_SHADE_LANES];
     int32_t bx[TRIRAST_SHADE_LANES], by[TRIRAST_SHADE_LANES], cx[TRIRAST_SHADE_LANES], cy[TRIRAST_SHADE_LANES];
 } trirast_shading_lanes;
@@ -213,11 +213,13 @@ static inline void trirast_shading_step(const trirast_shading_lanes *t, const in
     size_t lane;
     for (lane = 0; lane < TRIRAST_SHADE_LANES; lane++) {
         const float b = (float)(sign * edge_b[lane]), c = (float)(-sign * edge_c[lane]);
-        const float scale = 256.0f * t->whole[lane], nb = b * t->wb[lane] * scale, nc = c * t->wc[lane] * scale;
-        const float na = -(b + c) * scale, sum = na + nb + nc;
-        /* The sum at the next pixel, by the sum here; or at the pixel on the other side, with the sign turned twice. */
-        const float there = 1.0f + (sum < -0.5f ? -sum : sum), by = 1.0f / there;
-        found[1][lane] = (nb - weight[1][lane] * sum) * by, found[2][lane] = (nc - weight[2][lane] * sum) * by;
+        const float nb = b * (256.0f * t->wb[lane]), nc = c * (256.0f * t->wc[lane]);
+        const float step = nb + nc - 256.0f * (b + c), sum = t->sum[lane];
+        /* The sum at the next pixel. If it is less than half of the sum here, so that their signs differ when it is
+         * taken twice and the sum here once off, that at the pixel on the other side. */
+        const int is_turned = (sum + 2.0f * step < 0) != (sum < 0);
+        const float by = 1.0f / (sum + (is_turned ? -step : step));
+        found[1][lane] = (nb - weight[1][lane] * step) * by, found[2][lane] = (nc - weight[2][lane] * step) * by;
         found[0][lane] = -(found[1][lane] + found[2][lane]);
     }
 }
@@ -236,8 +238,8 @@ static inline void trirast_shading_weigh(const trirast_shade_triangle *triangles
     }
     for (lane = 0; lane < TRIRAST_SHADE_LANES; lane++) {
         const float b = lanes.edges[1][lane] * lanes.wb[lane], c = lanes.edges[2][lane] * lanes.wc[lane];
-        const float whole = 1.0f / (lanes.edges[0][lane] + b + c);
-        lanes.whole[lane] = whole;
+        const float sum = lanes.edges[0][lane] + b + c, whole = 1.0f / sum;
+        lanes.sum[lane] = sum;
         at->weight[0][lane] = lanes.edges[0][lane] * whole;
         at->weight[1][lane] = b * whole, at->weight[2][lane] = c * whole;
     }

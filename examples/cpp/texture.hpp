@@ -32,7 +32,7 @@ TRIRAST_INLINE Floats logarithm(const Floats &v) {
 class Texels {
 public:
     explicit Texels(const Texture &texture)
-        : top_(static_cast<std::int32_t>(texture.levels.size()) - 1), most_(static_cast<float>(top_)),
+        : top_(static_cast<std::int32_t>(texture.levels.size()) - 1),
           area_(static_cast<float>(texture.side) * static_cast<float>(texture.side)) {
         const std::size_t row = texture.side + 1;
         std::uint32_t side = texture.side;
@@ -45,18 +45,21 @@ public:
                     texels_[first + x] = from[0] | std::uint32_t{from[1]} << 8 | std::uint32_t{from[2]} << 16;
                 }
             }
+        texels_.resize(texels_.size() + 2); // four are read where two are used
     }
 
     // The colours at u, v, of which each whole number is a texture. `step` is the square of the distance to the next
     // pixel, in textures: a level is taken whose texels are about as far from each other.
     TRIRAST_INLINE void colors(const Floats &u, const Floats &v, const Floats &step, trirast::Colors &out) const {
-        // Half of the logarithm of a square. A step of nothing, or of no number, takes the largest level.
-        const Floats wanted = min(max(0.5f * logarithm(max(step * area_, 1e-30f)), 0.0f), most_);
-        const Integers level = to_integers(wanted);
-        const Floats share = wanted - to_floats(level), x = u - floor(u), y = v - floor(v);
+        // In texels of the largest level. A step of nothing, or of no number, takes that level.
+        const Floats square = min(max(step * area_, 1.0f), area_);
+        // Half of the exponent: the logarithm is not waited for.
+        const Integers level = ((bits_of(square) + (1 << 23)) >> 24) - 64;
+        const Floats x = u - floor(u), y = v - floor(v);
         const Four near = four(x, y, level);
         out.red = near.channel(0), out.green = near.channel(8), out.blue = near.channel(16);
-        if (!any(share > 0.0f)) return; // of near triangles the largest level is enough
+        if (!any(square > 1.0f)) return; // of near triangles the largest level is enough
+        const Floats share = 0.5f * logarithm(square) - to_floats(level);
         const Four far = four(x, y, level - (level < top_)); // a comparison that holds is -1
         out.red = between(out.red, far.channel(0), share), out.green = between(out.green, far.channel(8), share);
         out.blue = between(out.blue, far.channel(16), share);
@@ -83,25 +86,27 @@ private:
         }
     };
 
+    // The greatest whole numbers that are not above numbers from -1 on.
+    static TRIRAST_INLINE Integers whole(const Floats &v) { return to_integers(v) + (v < 0.0f); }
+
     // Those of a level round a place in the texture, from 0 to 1.
     TRIRAST_INLINE Four four(const Floats &u, const Floats &v, const Integers &level) const {
         // The side of a level is a power of two, whose exponent is top - level.
-        const Floats side = trirast::floats_of_bits((top_ - level + 127) << 23);
-        const Floats x = u * side - 0.5f, y = v * side - 0.5f, left = floor(x), upper = floor(y);
-        const Integers whole = to_integers(side), within = whole - 1;
+        const Floats side = trirast::floats_of_bits((top_ + 127 - level) << 23);
+        const Floats x = u * side - 0.5f, y = v * side - 0.5f;
+        const Integers left = whole(x), upper = whole(y), length = to_integers(side), within = length - 1;
         // Masked, so that no number leads out of the level. Levels before this one have 2 (largest side - side) rows,
         // and one more each; a row has one texel more than the largest side.
-        const Integers row = (to_integers(upper) & within) - (whole << 1) + level + (2 << top_);
-        const Integers first = (row << top_) + row + (to_integers(left) & within);
-        Four found;
-        gather_two(texels_.data(), first, found.upper_left, found.upper_right);
-        gather_two(texels_.data() + (1 << top_) + 1, first, found.lower_left, found.lower_right);
-        found.x = x - left, found.y = y - upper;
-        return found;
+        const Integers row = (upper & within) - (length << 1) + level + (2 << top_);
+        const Integers first = (row << top_) + row + (left & within);
+        Integers above[4], below[4];
+        take_four(texels_.data(), 1, first, 0, above);
+        take_four(texels_.data() + (1 << top_) + 1, 1, first, 0, below);
+        return {above[0], above[1], below[0], below[1], x - to_floats(left), y - to_floats(upper)};
     }
 
     std::int32_t top_;
-    float most_, area_;
+    float area_;
     std::vector<std::uint32_t> texels_;
 };
 
