@@ -1,7 +1,7 @@
 -- Parts of arrays by where they end.
-use Rattle.std.proofs.Common.{◌≡◌, inl, inr, refl, sym, ap, ◌∙◌, arith, ℕ, zero, suc, ◌+◌, ◌-◌, ◌<◌, ◌≤◌, List, [], ◌∷◌, take, drop, length, length-drop, slice_index}
+use Rattle.std.proofs.Common.{◌≡◌, inl, inr, refl, ap, ◌∙◌, arith, ℕ, zero, suc, ◌+◌, ◌-◌, ◌<◌, ◌≤◌, List, ◌∷◌, take, drop, length, slice_index}
 use Rattle.std.proofs.lemmas.Bool.{cases_lt}
-use Rattle.std.proofs.lemmas.List.{get_or-take, get_or-drop, length-take, take_all}
+use Rattle.std.proofs.lemmas.List.{get_or-take, get_or-drop, length-take}
 use Rattle.polygons.specs.Rings.{AreAscendingEnds}
 use Rattle.polygons.specs.Arrays.{begin_of}
 
@@ -45,8 +45,6 @@ module _ (ends : List ℕ) (n first end : ℕ) (h : AreAscendingEnds 0 ends n) (
   }
 
 -- ---- one end more
-pub ends_none : (ends : List ℕ) (n : ℕ) → AreAscendingEnds 0 (take 0 ends) n
-ends_none ends n = record { begins = omega arith; rising = λ k l. absurd (omega (arith, l)); within = λ k l. absurd (omega (arith, l)) }
 
 begin_taken : (ends : List ℕ) (m k : ℕ) → k ≤ m → begin_of (take m ends) k ≡ begin_of ends k
 begin_taken ends m zero l = refl
@@ -89,11 +87,3 @@ ends_more ends n k inside rises fits before =
                 omega (arith, e, q, fits)
           ];
     }
-
-pub ends_all : (ends : List ℕ) (n k : ℕ) → length ends ≤ k → AreAscendingEnds 0 (take k ends) n → AreAscendingEnds 0 ends n
-ends_all ends n k past h = rw (take_all k ends past) at h
-
--- the last part ends within the whole
-pub last_within : (ends : List ℕ) (n : ℕ) → AreAscendingEnds 0 ends n → begin_of ends (length ends) ≤ n
-last_within [] n h = h.begins
-last_within (e ∷ ends) n h = h.within (length ends) (omega arith)

@@ -174,8 +174,6 @@ column_bounds e p c height band first = (low, high)
     ]
 
 -- ---- what is kept of an edge
-pub first_of_walk : {e : Edge} {p : Position} {h q r c f : ℤ} → IsWalking e p h q r c f → IsFirstColumn e p c
-first_of_walk {e} {p} {h} {q} {r} {c} {f} w = is_first_column e p c f w.range w.place
 
 pub record AreSmall (h q r c f : ℤ) : Type 0 where
   pub height : IsWithin (2 ^ 25) h

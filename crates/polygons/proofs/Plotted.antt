@@ -1,5 +1,5 @@
 -- What is added to the rows of a strip, one edge after another.
-use Rattle.std.proofs.Common.{◌≡◌, inl, inr, refl, sym, subst, ap, ◌∙◌, arith, ℕ, zero, suc, ◌+◌, ◌-◌, ◌*◌, ◌<◌, ◌≤◌, Bool, true, false, List, [], ◌∷◌, ◌++◌, length, length-drop, take, drop, get_or, drop-cons, add-one, ℤ, pos, w32, w64, to_z, of_z, FitsSigned, ◌+ℤ◌, ◌-ℤ◌, ◌*ℤ◌, ◌<ℤ◌, ◌≤ℤ◌}
+use Rattle.std.proofs.Common.{◌≡◌, inl, inr, refl, sym, subst, ap, ◌∙◌, arith, ℕ, zero, suc, ◌+◌, ◌-◌, ◌*◌, ◌<◌, ◌≤◌, Bool, true, false, List, [], ◌∷◌, ◌++◌, length, drop, get_or, drop-cons, add-one, ℤ, pos, w32, w64, to_z, of_z, FitsSigned, ◌+ℤ◌, ◌-ℤ◌, ◌*ℤ◌, ◌<ℤ◌, ◌≤ℤ◌}
 use Rattle.std.proofs.lemmas.Int.{ints}
 use Rattle.std.proofs.lemmas.Bool.{cases_lt}
 use Rattle.grid.specs.Position.{Position, IsInBand}
@@ -162,22 +162,6 @@ pub ring_closed : (ring : List Position) (first last : Position) (rest : List Po
     → (p : Position) → winding (ring_edges ring) p ≡ winding (path_edges first rest) p +ℤ direction (record { a = last; b = first }) p
 ring_closed ring first last rest is end p =
     ap (λ (r : List Position). winding (ring_edges r) p) is ∙ path_closed first first rest p ∙ ap (λ (q : Position). winding (path_edges first rest) p +ℤ direction (record { a = q; b = first }) p) (sym end)
-
-pub no_ring : (ring : List Position) → length ring < 1 → (p : Position) → winding (ring_edges ring) p ≡ pos 0
-no_ring [] h p = refl
-no_ring (c ∷ cs) h p = absurd (omega arith)
-
-all_taken : {X : Type 0} (xs : List X) (n : ℕ) → length xs ≤ n → take n xs ≡ xs
-all_taken {X} [] zero h = refl
-all_taken {X} [] (suc n) h = refl
-all_taken {X} (x ∷ xs) zero h = absurd (omega arith)
-all_taken {X} (x ∷ xs) (suc n) h = ap (λ (ys : List X). x ∷ ys) (all_taken xs n (omega arith))
-
-pub rest_or : {X : Type 0} (ring : List X) (none : X) → 1 ≤ length ring → ring ≡ get_or ring 0 none ∷ take (length ring - 1) (drop 1 ring)
-rest_or {X} ring none h =
-    let l = length-drop 1 ring in
-    let k : drop 0 ring ≡ get_or ring 0 none ∷ drop 1 ring = drop-cons ring 0 none h in
-    k ∙ ap (λ (ys : List X). get_or ring 0 none ∷ ys) (sym (all_taken (drop 1 ring) (length ring - 1) (omega arith)))
 
 -- an edge that is crossed at no sample of the strip
 pub plotted_apart : (rule : Rule) (strip : Strip) (f : Position → ℤ) (a b : List (List ℕ)) → ((s row k : ℕ) → s < part_size strip.count → row < 64 → k < 8 * length a → f (strip_sample strip s row k) ≡ pos 0) → IsPlotted rule strip f a b a b

@@ -23,10 +23,6 @@ ring_step corners start ends i p h =
 pub next_start : (start : ℕ) (ends : List ℕ) (i : ℕ) → slice_index (start ∷ ends) (i + 1) ≡ slice_index ends i
 next_start start ends i = rw add-one refl
 
--- a ring's corners are in the list
-pub ring_rises : (start : ℕ) (ends : List ℕ) (limit i a : ℕ) → AreAscendingEnds start ends limit → i < length ends → a ≡ slice_index (start ∷ ends) i → (a ≤ slice_index ends i) × (slice_index ends i ≤ limit)
-ring_rises start ends limit i a h l is = (omega (arith, is, h.rising i l), h.within i l)
-
 -- rings that come later end no earlier
 rising_to : (start : ℕ) (ends : List ℕ) (limit i d : ℕ) → AreAscendingEnds start ends limit → i + d < length ends + 1 → slice_index (start ∷ ends) i ≤ slice_index (start ∷ ends) (i + d)
 rising_to start ends limit i zero h l = let e : i + 0 ≡ i = omega arith in let same = ap (slice_index (start ∷ ends)) e in omega (arith, same)
