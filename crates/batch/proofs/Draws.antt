@@ -1,5 +1,5 @@
 -- The draws of a batch, one at a time.
-use Rattle.std.proofs.Common.{◌≡◌, ◌∙◌, inl, refl, sym, ap, subst, Bool, ℕ, ℤ, ◌+◌, ◌<◌, ◌≤◌, Option, List, [], ◌∷◌, ◌++◌, length, map, take, drop, get_or, drop-cons, add-one, arith}
+use Rattle.std.proofs.Common.{◌≡◌, ◌∙◌, refl, sym, ap, subst, Bool, ℕ, ℤ, ◌+◌, ◌<◌, ◌≤◌, Option, List, [], ◌∷◌, ◌++◌, length, map, take, drop, get_or, drop-cons, add-one, arith}
 use Rattle.std.proofs.lemmas.List.{map-append, drop_all, length-map}
 use Rattle.shade.specs.declared.placed.Placed.{Placed}
 use Rattle.lanes.specs.declared.block_samples.BlockSamples.{BlockSamples}
@@ -13,14 +13,14 @@ use Rattle.model.proofs.Triangulated.{length-triangles_of}
 use Rattle.batch.specs.declared.draw.BatchDraw.{BatchDraw}
 use Rattle.batch.specs.declared.vertex.BatchVertex.{BatchVertex}
 use Rattle.batch.specs.Listed.{draw_listed, primitives_listed}
-use Rattle.batch.specs.OwnIndices.{count_of_indices, indices_behind, own_indices}
+use Rattle.batch.specs.OwnIndices.{indices_behind, own_indices}
 use Rattle.canvas.specs.declared.canvas.Canvas.{Canvas}
 use Rattle.canvas.specs.Window.{moved}
 use Rattle.canvas.specs.Drawing.{HaveEnds}
 use Rattle.canvas.proofs.Ends.{ends_joined}
 use Rattle.batch.specs.Ids.{drawn_as, HasIds, ids_after}
 use Rattle.batch.specs.Seen.{draws_seen}
-use Rattle.batch.specs.Causes.{in_draw, left_over}
+use Rattle.batch.specs.Causes.{in_draw}
 use Rattle.batch.specs.Checks.{triangles_listed, opening_checks, primitives_checks, draw_checks, draws_checks}
 use Rattle.batch.proofs.Numbered.{drawn-append, nothing_drawn}
 
@@ -94,12 +94,6 @@ module _ (has_alpha : Bool) (x y : ℤ) (ds : List BatchDraw) (i : ℕ) (none : 
 module _ (x y : ℤ) (ds : List BatchDraw) (i : ℕ) (past : length ds ≤ i) (ids : Option ℕ) (vs : List BatchVertex) (is : Option (List ℕ)) where
   nothing_left : drop i ds ≡ []
   nothing_left = drop_all i ds past
-
-  pub end_fails : ((vs ≡ []) × (count_of_indices is ≡ 0) → ⊥) → FirstIs (draws_checks x y i ids (drop i ds) vs is) left_over
-  end_fails some = rw nothing_left (inl (some, refl))
-
-  pub end_passes : vs ≡ [] → count_of_indices is ≡ 0 → Pass (draws_checks x y i ids (drop i ds) vs is)
-  end_passes no_vertices no_indices = rw nothing_left ((no_vertices, no_indices), record {})
 
   pub end_drawn : (has_alpha : Bool) (c : Canvas) (first end : ℕ) (xs : List BlockSamples) → HaveEnds (drawn_as ids (draws_seen has_alpha x y (drop i ds) vs is)) c first end xs xs
   end_drawn has_alpha c first end xs = subst (λ rest. HaveEnds (drawn_as ids (draws_seen has_alpha x y rest vs is)) c first end xs xs) (sym nothing_left) (nothing_drawn ids c first end xs)

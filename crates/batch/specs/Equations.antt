@@ -55,14 +55,14 @@ abbrev pub IsFactor : ℕ → Type 0
 IsFactor n = IsSome (factor_numbered n One)
 
 -- Each factor of the caller's blending is one that there is.
-pub record HasFactors (b : BatchBlend) : Type 0 where
+pub record HasKnownFactors (b : BatchBlend) : Type 0 where
   pub color_source : IsFactor b.color_source
   pub color_stored : IsFactor b.color_stored
   pub alpha_source : IsFactor b.alpha_source
   pub alpha_stored : IsFactor b.alpha_stored
 
 -- Both operations of the caller's blending are ones that there are.
-pub record HasOperations (b : BatchBlend) : Type 0 where
+pub record HasKnownOperations (b : BatchBlend) : Type 0 where
   pub color_operation : IsSome (operation_numbered b.color_operation)
   pub alpha_operation : IsSome (operation_numbered b.alpha_operation)
 

@@ -6,8 +6,8 @@
 --   equation_with: An equation of these parts, all three of which have to be known.
 --   equation_numbered: The equation with these numbers: by default one, zero, add.
 --   IsFactor: There is a factor with this number.
---   HasFactors: Each factor of the caller's blending is one that there is.
---   HasOperations: Both operations of the caller's blending are ones that there are.
+--   HasKnownFactors: Each factor of the caller's blending is one that there is.
+--   HasKnownOperations: Both operations of the caller's blending are ones that there are.
 --   blend_numbered: The blend state by the caller's numbers, with alpha written or not.
 --
 -- Strides.antt

@@ -1,7 +1,7 @@
 -- The checks of a draw's state.
 use Rattle.std.specs.Prelude.{◌≤◌}
 use Rattle.model.specs.Checking.{Checks, done, check}
-use Rattle.batch.specs.Equations.{HasFactors, HasOperations}
+use Rattle.batch.specs.Equations.{HasKnownFactors, HasKnownOperations}
 use Rattle.batch.specs.declared.draw.BatchDraw.{BatchDraw}
 use Rattle.batch.specs.declared.fault.BatchCause.{BatchCause}
 use Rattle.batch.specs.declared.fault.BatchCause.TheVariants.{BadTopology, BadCull, BadDepthTest, BadDepthWrite, BadKeep, BadScissorEnable, BadFactor, BadOperation}
@@ -15,6 +15,6 @@ state_checks d =
     check (d.depth_write ≤ 1) BadDepthWrite (
     check (d.keep ≤ 15) BadKeep (
     check (d.scissor_enable ≤ 1) BadScissorEnable (
-    check (HasFactors d.blend) BadFactor (
-    check (HasOperations d.blend) BadOperation
+    check (HasKnownFactors d.blend) BadFactor (
+    check (HasKnownOperations d.blend) BadOperation
     done)))))))

@@ -2,7 +2,7 @@
 //! channel, zero for the stored one, and add. So a struct of zeros is the blend state in which the new colour replaces
 //! the stored one.
 ghost use Rattle.std.specs.Prelude.{◌≡◌, ◌↔◌, IsTrue};
-ghost use Rattle.batch.specs.Equations.{factor_numbered, operation_numbered, equation_numbered, blend_numbered, IsFactor, HasFactors, HasOperations};
+ghost use Rattle.batch.specs.Equations.{factor_numbered, operation_numbered, equation_numbered, blend_numbered, IsFactor, HasKnownFactors, HasKnownOperations};
 
 use shade::{Blend, BlendFactor, BlendOperation, Equation};
 
@@ -113,7 +113,7 @@ impl BatchBlend {
 
     /// Whether each factor is one that there is.
     pub(crate) fn has_factors(&self) -> bool
-        ensures { IsTrue result ↔ HasFactors self.now }
+        ensures { IsTrue result ↔ HasKnownFactors self.now }
     {
         let of_colours = is_factor(self.color_source) && is_factor(self.color_stored);
         of_colours && is_factor(self.alpha_source) && is_factor(self.alpha_stored)
@@ -121,7 +121,7 @@ impl BatchBlend {
 
     /// Whether both operations are ones that there are.
     pub(crate) fn has_operations(&self) -> bool
-        ensures { IsTrue result ↔ HasOperations self.now }
+        ensures { IsTrue result ↔ HasKnownOperations self.now }
     {
         operation_of(self.color_operation).is_some() && operation_of(self.alpha_operation).is_some()
     }

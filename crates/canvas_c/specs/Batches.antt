@@ -18,8 +18,8 @@ abbrev pub arrays_checks : CanvasHead → Option ℕ → Batch → Checks BatchF
 arrays_checks head ids batch = batch_checks head.origin_x head.origin_y ids batch.draws.now (vertices_of batch) (indices_of batch)
 
 -- The checks of a call that draws a batch.
-abbrev pub draw_checks : CanvasHead → ℕ → Option ℕ → Batch → Checks Status
-draw_checks head planes ids batch =
+abbrev pub draw_call_checks : CanvasHead → ℕ → Option ℕ → Batch → Checks Status
+draw_call_checks head planes ids batch =
     followed_by (piece_checks head planes) (
     check (IsOwnSize batch.struct_size 64) BadStructSize (
     check (HasVertexStride batch) BadStride (

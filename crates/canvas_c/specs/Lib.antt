@@ -9,7 +9,7 @@
 --   IsWhole: There is such a canvas, and the struct has the size that this library knows.
 --   tile_rows_of: How many tile rows a canvas of this height has.
 --   HasRows: A canvas of this height has the tile rows from `first` to before `end`.
---   planes_of: How many planes these tile rows have.
+--   planes_listed: How many planes these tile rows have.
 --   AreRowsOf: The tile rows are those that the caller names.
 --   OnRows: `Holds` is true of the tile rows that the caller names.
 --   stride_of: The bytes from the beginning of a row to that of the next: those of a row if the caller says 0.
@@ -41,7 +41,7 @@
 --
 -- Batches.antt
 --   arrays_checks: The checks of the batch itself on this canvas, drawn in its colours or by ids.
---   draw_checks: The checks of a call that draws a batch.
+--   draw_call_checks: The checks of a call that draws a batch.
 --   batch_fault: What is wrong with a batch, by its numbers.
 --   IsFirstOfBatch: The batch has this first error.
 --
@@ -58,7 +58,7 @@
 --   origin_of: The origin of the caller's canvas.
 --   rule_of: The rules by their numbers.
 --   known_checks: The checks of the rule and of the state, each with the number of its cause.
---   IsKnown: The rule and the state are known ones.
+--   HasKnownRuleAndState: The rule and the state are known ones.
 --   HasDepths: There is a depth for each polygon, or none at all.
 --   AreGood: The polygons can be drawn, in their colours or by ids.
 --   columns_of_blocks: How many columns of blocks a canvas of this width has.

@@ -57,8 +57,8 @@ pub record HasRows (height first end : ℕ) : Type 0 where
 
 -- How many planes these tile rows have. Of each tile one says whether it is unchanged since it was cleared; the others are those of the
 -- samples to which it was cleared, and of its own 64 blocks. 0 samples are one.
-abbrev pub planes_of : ℕ → ℕ → ℕ → ℕ → ℕ
-planes_of width samples first end = (end - first) * ((width + 63) / 64 * (1 + 65 * max 1 samples))
+abbrev pub planes_listed : ℕ → ℕ → ℕ → ℕ → ℕ
+planes_listed width samples first end = (end - first) * ((width + 63) / 64 * (1 + 65 * max 1 samples))
 
 -- The tile rows are those that the caller names.
 pub record AreRowsOf (head : CanvasHead) (rows : TileRows) : Type 0 where
@@ -92,7 +92,7 @@ piece_checks head planes =
     check (IsOwnSize head.struct_size 56) BadStructSize (
     check (IsCanvas head) BadCanvas (
     check (HasRows head.height head.first head.end) BadTileRows (
-    check (planes ≡ planes_of head.width head.samples head.first head.end) BadMemory
+    check (planes ≡ planes_listed head.width head.samples head.first head.end) BadMemory
     done)))
 
 -- The formats by their numbers.

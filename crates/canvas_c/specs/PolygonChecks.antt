@@ -34,8 +34,8 @@ abbrev pub known_checks : PolygonArrays → Checks ℕ
 known_checks a = check (a.fill_rule ≤ 1) 23 (reported_as number_of (state_checks a.state))
 
 -- The rule and the state are known ones.
-abbrev pub IsKnown : PolygonArrays → Type 0
-IsKnown a = Pass (known_checks a)
+abbrev pub HasKnownRuleAndState : PolygonArrays → Type 0
+HasKnownRuleAndState a = Pass (known_checks a)
 
 -- There is a depth for each polygon, or none at all.
 abbrev pub HasDepths : PolygonArrays → Type 0
@@ -43,7 +43,7 @@ HasDepths a = (length a.depths.now ≡ 0) ⊎ (length a.polygon_ends.now ≤ len
 
 -- The polygons can be drawn, in their colours or by ids.
 pub record AreGood (ids : Option ℕ) (a : PolygonArrays) : Type 0 where
-  pub known : IsKnown a
+  pub known : HasKnownRuleAndState a
   pub arrays : ArePolygons a.corners.now a.ring_ends.now a.polygon_ends.now
   pub colours : HasColours ids a.colours.now (length a.polygon_ends.now)
   pub depths : HasDepths a
@@ -89,9 +89,9 @@ of_all cause = record { cause = cause; draw = None; element = None; value = None
 abbrev pub IsFirstOfPolygons : Option ℕ → PolygonArrays → Fault → Type 0
 IsFirstOfPolygons ids a fault =
     ((cause : ℕ) × FirstIs (known_checks a) cause × (fault ≡ of_all cause))
-    ⊎ (IsKnown a × ((e : ArraysError) × IsWrong a.corners.now a.ring_ends.now a.polygon_ends.now e × (fault ≡ array_fault e)))
-    ⊎ (IsKnown a × ArePolygons a.corners.now a.ring_ends.now a.polygon_ends.now × (¬ HasColours ids a.colours.now (length a.polygon_ends.now)) × (fault ≡ of_all (colours_cause ids)))
-    ⊎ (IsKnown a × ArePolygons a.corners.now a.ring_ends.now a.polygon_ends.now × HasColours ids a.colours.now (length a.polygon_ends.now) × (¬ HasDepths a) × (fault ≡ of_all 14))
+    ⊎ (HasKnownRuleAndState a × ((e : ArraysError) × IsWrong a.corners.now a.ring_ends.now a.polygon_ends.now e × (fault ≡ array_fault e)))
+    ⊎ (HasKnownRuleAndState a × ArePolygons a.corners.now a.ring_ends.now a.polygon_ends.now × (¬ HasColours ids a.colours.now (length a.polygon_ends.now)) × (fault ≡ of_all (colours_cause ids)))
+    ⊎ (HasKnownRuleAndState a × ArePolygons a.corners.now a.ring_ends.now a.polygon_ends.now × HasColours ids a.colours.now (length a.polygon_ends.now) × (¬ HasDepths a) × (fault ≡ of_all 14))
 
 -- The polygons as they are drawn, in their order, on a canvas that has alpha or not.
 abbrev pub shapes_listed : Bool → Option ℕ → PolygonArrays → List Shape

@@ -7,7 +7,7 @@ ghost use Rattle.batch.specs.Ids.{drawn_as};
 ghost use Rattle.c_abi.specs.Calls.{IsCall, IsReport};
 ghost use Rattle.canvas_c.specs.Arrays.{indices_of, vertices_of};
 ghost use Rattle.canvas_c.specs.Pieces.{has_alpha, OnRows};
-ghost use Rattle.canvas_c.specs.Batches.{draw_checks, batch_fault, IsFirstOfBatch};
+ghost use Rattle.canvas_c.specs.Batches.{draw_call_checks, batch_fault, IsFirstOfBatch};
 
 use crate::arrays::Batch;
 use crate::piece::{CanvasHead, CanvasPiece, rows_of};
@@ -35,7 +35,7 @@ fn draw_into(
     batch: &Batch<'_>,
     ids: Option<u32>,
 ) -> Result<(), CallError>
-    ensures judged { IsCall (draw_checks head.now (length planes.old) ids batch.now)
+    ensures judged { IsCall (draw_call_checks head.now (length planes.old) ids batch.now)
         (IsFirstOfBatch head.now ids batch.now) (λ done. ⊤) result }
     ensures drawn { OnOk result (OnRows head.now (λ c first end.
         HaveEnds (drawn_as ids (triangles_seen (has_alpha head.now) head.now.origin_x head.now.origin_y batch.now.draws.now (vertices_of batch.now) (indices_of batch.now))) c first end planes.old planes.new)) }
@@ -80,7 +80,7 @@ pub extern "C" fn trirast_proved_canvas_draw(
     batch: &Batch<'_>,
     error: &mut Error,
 ) -> u32
-    ensures report { IsReport (draw_checks canvas.old.head (length canvas.old.planes.now) Nothing batch.now)
+    ensures report { IsReport (draw_call_checks canvas.old.head (length canvas.old.planes.now) Nothing batch.now)
         (IsFirstOfBatch canvas.old.head Nothing batch.now) result error.new }
     ensures drawn { result ≡ 0 → OnRows canvas.old.head (λ c first end.
         HaveEnds (triangles_seen (has_alpha canvas.old.head) canvas.old.head.origin_x canvas.old.head.origin_y batch.now.draws.now (vertices_of batch.now) (indices_of batch.now)) c first end canvas.old.planes.now canvas.new.planes.now) }
@@ -101,7 +101,7 @@ pub extern "C" fn trirast_proved_canvas_draw_ids(
     first_id: u32,
     error: &mut Error,
 ) -> u32
-    ensures report { IsReport (draw_checks canvas.old.head (length canvas.old.planes.now) (Just first_id) batch.now)
+    ensures report { IsReport (draw_call_checks canvas.old.head (length canvas.old.planes.now) (Just first_id) batch.now)
         (IsFirstOfBatch canvas.old.head (Just first_id) batch.now) result error.new }
     ensures drawn { result ≡ 0 → OnRows canvas.old.head (λ c first end.
         HaveEnds (with_ids (triangles_seen (has_alpha canvas.old.head) canvas.old.head.origin_x canvas.old.head.origin_y batch.now.draws.now (vertices_of batch.now) (indices_of batch.now)) first_id) c first end canvas.old.planes.now canvas.new.planes.now) }

@@ -2,7 +2,7 @@
 ghost use Rattle.std.specs.Prelude.{◌≡◌, ◌↔◌, ◌⊎◌, ◌+◌, ◌*◌, ◌/◌, ◌≤◌, length, IsTrue, IsSome, IfSome, IsOk, IfOk, IfErr};
 ghost use Rattle.model.specs.Checking.{IsJudged};
 ghost use Rattle.canvas.specs.Layout.{planes_of_rows};
-ghost use Rattle.canvas_c.specs.Pieces.{IsCount, samples_listed, AreChannels, IsCanvas, IsWhole, has_alpha, planes_of, tile_rows_of, AreRowsOf, piece_checks};
+ghost use Rattle.canvas_c.specs.Pieces.{IsCount, samples_listed, AreChannels, IsCanvas, IsWhole, has_alpha, planes_listed, tile_rows_of, AreRowsOf, piece_checks};
 
 use c_abi::{Status, is_own_size};
 use canvas::{Canvas, Misfit, TileRows};
@@ -141,7 +141,7 @@ pub(crate) fn fitted(ended: Result<(), Misfit>) -> Result<(), Status>
 #[unsafe(no_mangle)]
 pub extern "C" fn trirast_canvas_size(head: &CanvasHead) -> usize
     ensures value { IsWhole head.now → result ≡
-        384 * planes_of head.now.width head.now.samples 0 (tile_rows_of head.now.height) }
+        384 * planes_listed head.now.width head.now.samples 0 (tile_rows_of head.now.height) }
     ensures none { ¬ IsWhole head.now → result ≡ 0 }
 {
     match whole(head) {

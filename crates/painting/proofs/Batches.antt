@@ -1,13 +1,10 @@
 -- Polygons that are drawn one after another.
-use Rattle.std.proofs.Common.{◌≡◌, refl, sym, subst, ap, ◌∙◌, arith, ℕ, zero, suc, ◌+◌, ◌≤◌, List, [], ◌∷◌, ◌++◌, map, length, ℤ}
+use Rattle.std.proofs.Common.{◌≡◌, sym, subst, arith, ℕ, ◌+◌, List, [], ◌∷◌, ◌++◌, map, ℤ}
 use Rattle.std.specs.List.{range_with_len}
 use Rattle.std.proofs.lemmas.List.FromFn.{map-range_with_len_more}
 use Rattle.grid.specs.declared.sample_count.SampleCount.{SampleCount}
 use Rattle.shade.specs.declared.sample.CanvasSample.{CanvasSample}
 use Rattle.lanes.specs.declared.block_samples.BlockSamples.{BlockSamples}
-use Rattle.polygons.specs.declared.rule.Rule.{Rule}
-use Rattle.polygons.specs.declared.rule.Rule.TheVariants.{EvenOdd, NonZero}
-use Rattle.polygons.specs.Cells.{HasCounters}
 use Rattle.canvas.specs.declared.canvas.Canvas.{Canvas}
 use Rattle.canvas.specs.declared.window.Origin.{Origin}
 use Rattle.painting.specs.Painting.{Shape, PaintAll, ArePainted}
@@ -22,7 +19,3 @@ painted_more f n origin c first end old mid new before one =
     let more : map f (range_with_len 0 (n + 1)) ≡ map f (range_with_len 0 n) ++ f n ∷ [] = map-range_with_len_more f 0 n n (omega arith) in
     subst (λ (ps : List Shape). ArePainted ps origin c first end old new) (sym more)
     (λ i j s h. paint_more (map f (range_with_len 0 n)) (f n) c.count _ _ s _ _ _ (before i j s h) (one i j s h))
-
-pub counted_still : (rule : Rule) (f c f' c' : List (List ℕ)) → length f' ≡ length f → length c' ≡ length c → HasCounters rule f c → HasCounters rule f' c'
-counted_still EvenOdd f c f' c' e g h = tt
-counted_still NonZero f c f' c' e g h = g ∙ h ∙ sym e

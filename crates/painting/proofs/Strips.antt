@@ -14,13 +14,13 @@ use Rattle.shade.specs.declared.sample.CanvasSample.{CanvasSample}
 use Rattle.shade.specs.declared.state.State.{State}
 use Rattle.shade.specs.Canvas.{IsCanvasDrawnAt}
 use Rattle.polygons.specs.declared.strip.Strip.{Strip}
-use Rattle.polygons.specs.Blocks.{in_block, IsMaskOf}
+use Rattle.polygons.specs.Blocks.{in_block, IsBlockMask}
 use Rattle.polygons.specs.Crossing.{IsInside}
 use Rattle.polygons.specs.ManyRows.{row_of}
 use Rattle.polygons.specs.Polygon.{polygon_edges}
 use Rattle.polygons.specs.Rings.{rings_from}
 use Rattle.polygons.specs.Screen.{screen_sample}
-use Rattle.polygons.specs.Strip.{sample_of}
+use Rattle.polygons.specs.Strip.{strip_sample}
 use Rattle.raster.specs.declared.tile.Tile.{Tile}
 use Rattle.raster.specs.Drawing.{Allows}
 use Rattle.raster.specs.Samples.{IsSampleOf}
@@ -193,7 +193,7 @@ here_allows state x y i j s h l q m = record {
 -- where a bit's sample lies
 place_of : (strip : Strip) (origin : Origin) (count : SampleCount) (first row from i j s : ℕ) → strip.column ≡ origin.x +ℤ pos (8 * first) → strip.row ≡ origin.y +ℤ pos (64 * row) → strip.count ≡ count → strip.from ≡ from
     → first ≤ i / 8 → j / 64 ≡ row → from ≤ s
-    → in_block (sample_of strip (s - from) (8 * (j % 64 / 8)) (8 * (i / 8 - first))) (j % 8) (i % 8) ≡ screen_sample (pos i +ℤ origin.x) (pos j +ℤ origin.y) s count
+    → in_block (strip_sample strip (s - from) (8 * (j % 64 / 8)) (8 * (i / 8 - first))) (j % 8) (i % 8) ≡ screen_sample (pos i +ℤ origin.x) (pos j +ℤ origin.y) s count
 place_of strip origin count first row from i j s across down same begins left line low =
     let index : strip.from + (s - from) ≡ s = omega (arith, begins, low) in
     let ox : slice_index (offsets_x strip.count) (strip.from + (s - from)) ≡ slice_index (offsets_x count) s = λ k. slice_index (offsets_x (same k)) (index k) in
@@ -215,7 +215,7 @@ place_of strip origin count first row from i j s across down same begins left li
 module _ (polygon : Polygon) (origin : Origin) (c : Canvas) (strip : Strip) (row first from many : ℕ) (flags : List (List ℕ)) (across : strip.column ≡ origin.x +ℤ pos (8 * first)) (down : strip.row ≡ origin.y +ℤ pos (64 * row)) (same : strip.count ≡ c.count)
     (begins : strip.from ≡ from) (inside : first + many ≤ 8 * columns_of c) (in_picture : row < 64)
     (masks : (s row column : ℕ) → s < part_size strip.count → row < 8 → column < many
-    → IsMaskOf polygon.rule (polygon_edges (rings_from polygon.rings.corners.now polygon.rings.start polygon.rings.ends.now)) (sample_of strip s (8 * row) (8 * column)) (slice_index (row_of flags column) (4 * row + s))) where
+    → IsBlockMask polygon.rule (polygon_edges (rings_from polygon.rings.corners.now polygon.rings.start polygon.rings.ends.now)) (strip_sample strip s (8 * row) (8 * column)) (slice_index (row_of flags column) (4 * row + s))) where
   module _ (i j s : ℕ) (h : IsStoredIn c row (row + 1) i j s) (left : first ≤ i / 8) (right : i / 8 < first + many) (low : from ≤ s) (high : s < from + part_size c.count) where
     narrow : i < 4096
     narrow = let wide = c.width_fits in omega (arith, inside, right, wide)
@@ -271,7 +271,7 @@ module _ (polygon : Polygon) (origin : Origin) (c : Canvas) (row : ℕ) where
   module _ (strip : Strip) (first part many : ℕ) (flags : List (List ℕ)) (across : strip.column ≡ origin.x +ℤ pos (8 * first)) (down : strip.row ≡ origin.y +ℤ pos (64 * row)) (same : strip.count ≡ c.count)
       (begins : strip.from ≡ 4 * part) (inside : first + many ≤ 8 * columns_of c) (in_picture : row < 64)
       (masks : (s row column : ℕ) → s < part_size strip.count → row < 8 → column < many
-      → IsMaskOf polygon.rule (polygon_edges (rings_from polygon.rings.corners.now polygon.rings.start polygon.rings.ends.now)) (sample_of strip s (8 * row) (8 * column)) (slice_index (row_of flags column) (4 * row + s)))
+      → IsBlockMask polygon.rule (polygon_edges (rings_from polygon.rings.corners.now polygon.rings.start polygon.rings.ends.now)) (strip_sample strip s (8 * row) (8 * column)) (slice_index (row_of flags column) (4 * row + s)))
       (held : (i j s : ℕ) → IsStoredIn c row (row + 1) i j s → MeetsHere polygon origin c.count i j s → (first ≤ i / 8) × (i / 8 < first + many)) where
     abbrev t : Placed
     t = over_screen polygon origin

@@ -11,9 +11,9 @@ use Rattle.painting.specs.declared.batch.Paints.{Paints}
 use Rattle.painting.specs.Painting.{Shape}
 
 -- The colour of polygon k: one of these, or that of its id, which is counted from the first one on.
-abbrev pub rgba_of : Option ℕ → List (List ℕ) → ℕ → List ℕ
-rgba_of None colours k = slice_index_or colours k []
-rgba_of (Some first) colours k = colour_of_id (first + k)
+abbrev pub polygon_colour : Option ℕ → List (List ℕ) → ℕ → List ℕ
+polygon_colour None colours k = slice_index_or colours k []
+polygon_colour (Some first) colours k = colour_of_id (first + k)
 
 -- The state: where ids are drawn, they replace what is stored.
 abbrev pub state_of : Option ℕ → State → State
@@ -25,7 +25,7 @@ abbrev pub shape_by : List Corner → List ℕ → List ℕ → Rule → List (L
 shape_by corners ring_ends polygon_ends rule colours depths ids state k = record {
   rings = rings_of corners ring_ends polygon_ends k;
   rule = rule;
-  rgba = rgba_of ids colours k;
+  rgba = polygon_colour ids colours k;
   z = slice_index depths k;
   state = state_of ids state;
 }

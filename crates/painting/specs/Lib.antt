@@ -24,7 +24,7 @@
 --   HoldsSamples: Each sample of the canvas that lies in the box is in a column of blocks and a tile row of the window.
 --
 -- Batches.antt
---   rgba_of: The colour of polygon k: one of these, or that of its id, which is counted from the first one on.
+--   polygon_colour: The colour of polygon k: one of these, or that of its id, which is counted from the first one on.
 --   state_of: The state: where ids are drawn, they replace what is stored.
 --   shape_by: Polygon k of these arrays as it is drawn.
 --   shape_in: Polygon k as it is drawn.

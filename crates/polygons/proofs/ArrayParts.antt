@@ -1,14 +1,14 @@
 -- Parts of arrays by where they end.
-use Rattle.std.proofs.Common.{◌≡◌, inl, inr, refl, sym, ap, ◌∙◌, arith, ℕ, zero, suc, ◌+◌, ◌-◌, ◌<◌, ◌≤◌, List, [], ◌∷◌, take, drop, length, length-drop, slice_index}
+use Rattle.std.proofs.Common.{◌≡◌, inl, inr, refl, ap, ◌∙◌, arith, ℕ, zero, suc, ◌+◌, ◌-◌, ◌<◌, ◌≤◌, List, ◌∷◌, take, drop, length, slice_index}
 use Rattle.std.proofs.lemmas.Bool.{cases_lt}
-use Rattle.std.proofs.lemmas.List.{get_or-take, get_or-drop, length-take, take_all}
-use Rattle.polygons.specs.Rings.{AreEnds}
+use Rattle.std.proofs.lemmas.List.{get_or-take, get_or-drop, length-take}
+use Rattle.polygons.specs.Rings.{AreAscendingEnds}
 use Rattle.polygons.specs.Arrays.{begin_of}
 
 pub next_begin : (ends : List ℕ) (k : ℕ) → begin_of ends (k + 1) ≡ slice_index ends k
 next_begin ends k = let e : k + 1 ≡ suc k = omega arith in ap (λ n. slice_index (0 ∷ ends) n) e
 
-module _ (ends : List ℕ) (n first end : ℕ) (h : AreEnds 0 ends n) (rises : first ≤ end) (fits : end ≤ length ends) where
+module _ (ends : List ℕ) (n first end : ℕ) (h : AreAscendingEnds 0 ends n) (rises : first ≤ end) (fits : end ≤ length ends) where
   abbrev part : List ℕ
   part = take (end - first) (drop first ends)
 
@@ -37,7 +37,7 @@ module _ (ends : List ℕ) (n first end : ℕ) (h : AreEnds 0 ends n) (rises : f
       let next : slice_index (0 ∷ ends) (first + suc k) ≡ slice_index ends (first + k) = ap (λ m. slice_index (0 ∷ ends) m) place in
       omega (arith, here, before, next, h.rising (first + suc k) (omega (arith, small, fits)))
 
-  pub part_of_ends : AreEnds (begin_of ends first) part n
+  pub part_of_ends : AreAscendingEnds (begin_of ends first) part n
   part_of_ends = record {
     begins = begins first (omega (arith, rises, fits));
     rising = rising;
@@ -45,14 +45,12 @@ module _ (ends : List ℕ) (n first end : ℕ) (h : AreEnds 0 ends n) (rises : f
   }
 
 -- ---- one end more
-pub ends_none : (ends : List ℕ) (n : ℕ) → AreEnds 0 (take 0 ends) n
-ends_none ends n = record { begins = omega arith; rising = λ k l. absurd (omega (arith, l)); within = λ k l. absurd (omega (arith, l)) }
 
 begin_taken : (ends : List ℕ) (m k : ℕ) → k ≤ m → begin_of (take m ends) k ≡ begin_of ends k
 begin_taken ends m zero l = refl
 begin_taken ends m (suc k) l = get_or-take m ends k 0 (omega (arith, l))
 
-pub ends_more : (ends : List ℕ) (n k : ℕ) → k < length ends → begin_of ends k ≤ slice_index ends k → slice_index ends k ≤ n → AreEnds 0 (take k ends) n → AreEnds 0 (take (k + 1) ends) n
+pub ends_more : (ends : List ℕ) (n k : ℕ) → k < length ends → begin_of ends k ≤ slice_index ends k → slice_index ends k ≤ n → AreAscendingEnds 0 (take k ends) n → AreAscendingEnds 0 (take (k + 1) ends) n
 ends_more ends n k inside rises fits before =
     let long = length-take (k + 1) ends in
     let short = length-take k ends in
@@ -89,11 +87,3 @@ ends_more ends n k inside rises fits before =
                 omega (arith, e, q, fits)
           ];
     }
-
-pub ends_all : (ends : List ℕ) (n k : ℕ) → length ends ≤ k → AreEnds 0 (take k ends) n → AreEnds 0 ends n
-ends_all ends n k past h = rw (take_all k ends past) at h
-
--- the last part ends within the whole
-pub last_within : (ends : List ℕ) (n : ℕ) → AreEnds 0 ends n → begin_of ends (length ends) ≤ n
-last_within [] n h = h.begins
-last_within (e ∷ ends) n h = h.within (length ends) (omega arith)

@@ -13,7 +13,7 @@ use Rattle.polygons.specs.Crossing.{is_crossed_down, is_crossed_up, downs, ups, 
 use Rattle.polygons.specs.Laws.{reversed}
 use Rattle.polygons.specs.Polygon.{path_edges, path_end, ring_edges}
 use Rattle.polygons.specs.Rows.{direction}
-use Rattle.polygons.specs.Rings.{IsInExtent, IsWithin, HoldsInside}
+use Rattle.polygons.specs.Rings.{IsInExtent, IsInClosedExtent, HoldsInside}
 use Rattle.polygons.proofs.Cancel.{opposite}
 use Rattle.polygons.proofs.Columns.{between, at_right}
 use Rattle.polygons.proofs.Flags.{above_or_not}
@@ -135,28 +135,28 @@ place_of e p =
       ]
     ]
 
-pub ring_outside : (e : Extent) (ring : List Position) (p : Position) → All (IsWithin e) ring → ¬ IsInExtent e p → winding (ring_edges ring) p ≡ pos 0
+pub ring_outside : (e : Extent) (ring : List Position) (p : Position) → All (IsInClosedExtent e) ring → ¬ IsInExtent e p → winding (ring_edges ring) p ≡ pos 0
 ring_outside e ring p all out =
     elim (place_of e p) [
       | inside h ↦ absurd (out h)
-      | left h ↦ ring_apart p (λ c. p.x <ℤ c.x) (λ a b k l. direction_right (record { a = a; b = b }) p k l) ring (All-weaker (IsWithin e) (λ c. p.x <ℤ c.x) (λ c w. let l = w.left in omega (arith, ints)) ring all)
-      | right h ↦ ring_at_left ring p (All-weaker (IsWithin e) (λ c. c.x ≤ℤ p.x) (λ c w. let r = w.right in omega (arith, ints)) ring all)
-      | above h ↦ ring_apart p (λ c. p.y <ℤ c.y) (λ a b k l. direction_under (record { a = a; b = b }) p k l) ring (All-weaker (IsWithin e) (λ c. p.y <ℤ c.y) (λ c w. let t = w.top in omega (arith, ints)) ring all)
-      | below h ↦ ring_apart p (λ c. c.y ≤ℤ p.y) (λ a b k l. direction_over (record { a = a; b = b }) p k l) ring (All-weaker (IsWithin e) (λ c. c.y ≤ℤ p.y) (λ c w. let b = w.bottom in omega (arith, ints)) ring all)
+      | left h ↦ ring_apart p (λ c. p.x <ℤ c.x) (λ a b k l. direction_right (record { a = a; b = b }) p k l) ring (All-weaker (IsInClosedExtent e) (λ c. p.x <ℤ c.x) (λ c w. let l = w.left in omega (arith, ints)) ring all)
+      | right h ↦ ring_at_left ring p (All-weaker (IsInClosedExtent e) (λ c. c.x ≤ℤ p.x) (λ c w. let r = w.right in omega (arith, ints)) ring all)
+      | above h ↦ ring_apart p (λ c. p.y <ℤ c.y) (λ a b k l. direction_under (record { a = a; b = b }) p k l) ring (All-weaker (IsInClosedExtent e) (λ c. p.y <ℤ c.y) (λ c w. let t = w.top in omega (arith, ints)) ring all)
+      | below h ↦ ring_apart p (λ c. c.y ≤ℤ p.y) (λ a b k l. direction_over (record { a = a; b = b }) p k l) ring (All-weaker (IsInClosedExtent e) (λ c. c.y ≤ℤ p.y) (λ c w. let b = w.bottom in omega (arith, ints)) ring all)
     ]
 
 -- a path in the box is crossed outside of it as the edge from its first corner to its last one is
-pub path_outside : (e : Extent) (a : Position) (cs : List Position) (p : Position) → IsWithin e a → All (IsWithin e) cs → ¬ IsInExtent e p → winding (path_edges a cs) p ≡ direction (record { a = a; b = path_end a cs }) p
+pub path_outside : (e : Extent) (a : Position) (cs : List Position) (p : Position) → IsInClosedExtent e a → All (IsInClosedExtent e) cs → ¬ IsInExtent e p → winding (path_edges a cs) p ≡ direction (record { a = a; b = path_end a cs }) p
 path_outside e a cs p first all out =
     elim (place_of e p) [
       | inside h ↦ absurd (out h)
-      | left h ↦ path_chord p (λ c. p.x <ℤ c.x) (λ a b k l. direction_right (record { a = a; b = b }) p k l) a cs (let l = first.left in omega (arith, ints)) (All-weaker (IsWithin e) (λ c. p.x <ℤ c.x) (λ c w. let l = w.left in omega (arith, ints)) cs all)
+      | left h ↦ path_chord p (λ c. p.x <ℤ c.x) (λ a b k l. direction_right (record { a = a; b = b }) p k l) a cs (let l = first.left in omega (arith, ints)) (All-weaker (IsInClosedExtent e) (λ c. p.x <ℤ c.x) (λ c w. let l = w.left in omega (arith, ints)) cs all)
       | right h ↦
           let head : a.x ≤ℤ p.x = let r = first.right in omega (arith, ints) in
-          let path = path_by_height p a cs head (All-weaker (IsWithin e) (λ c. c.x ≤ℤ p.x) (λ c w. let r = w.right in omega (arith, ints)) cs all) in
+          let path = path_by_height p a cs head (All-weaker (IsInClosedExtent e) (λ c. c.x ≤ℤ p.x) (λ c w. let r = w.right in omega (arith, ints)) cs all) in
           path.0 ∙ sym (direction_by_height (record { a = a; b = path_end a cs }) p head path.1)
-      | above h ↦ path_chord p (λ c. p.y <ℤ c.y) (λ a b k l. direction_under (record { a = a; b = b }) p k l) a cs (let t = first.top in omega (arith, ints)) (All-weaker (IsWithin e) (λ c. p.y <ℤ c.y) (λ c w. let t = w.top in omega (arith, ints)) cs all)
-      | below h ↦ path_chord p (λ c. c.y ≤ℤ p.y) (λ a b k l. direction_over (record { a = a; b = b }) p k l) a cs (let b = first.bottom in omega (arith, ints)) (All-weaker (IsWithin e) (λ c. c.y ≤ℤ p.y) (λ c w. let b = w.bottom in omega (arith, ints)) cs all)
+      | above h ↦ path_chord p (λ c. p.y <ℤ c.y) (λ a b k l. direction_under (record { a = a; b = b }) p k l) a cs (let t = first.top in omega (arith, ints)) (All-weaker (IsInClosedExtent e) (λ c. p.y <ℤ c.y) (λ c w. let t = w.top in omega (arith, ints)) cs all)
+      | below h ↦ path_chord p (λ c. c.y ≤ℤ p.y) (λ a b k l. direction_over (record { a = a; b = b }) p k l) a cs (let b = first.bottom in omega (arith, ints)) (All-weaker (IsInClosedExtent e) (λ c. c.y ≤ℤ p.y) (λ c w. let b = w.bottom in omega (arith, ints)) cs all)
     ]
 
 -- ---- what is inside winds

@@ -7,7 +7,7 @@ use Rattle.grid.proofs.Ring.{Term, var, lit, plus, neg, times, ring}
 use Rattle.grid.proofs.Sign.{negative, null, positive, sign, mul_positive, mul_null}
 use Rattle.polygons.specs.declared.edge.Edge.{Edge}
 use Rattle.polygons.specs.Crossing.{CrossesDown}
-use Rattle.polygons.specs.Columns.{along, below, HasHeight, IsFirstColumn, IsAtColumn, IsStep, AreInBand, IsWalking}
+use Rattle.polygons.specs.Columns.{along, below, HasHeight, IsFirstColumn, IsAtColumn, IsEdgeStep, IsWalkInBand, IsWalking}
 use Rattle.grid.specs.Bounds.{IsWithin}
 use Rattle.polygons.proofs.Triangle.{under_or_at_least, mul_not_negative}
 
@@ -92,7 +92,7 @@ pub record IsNearColumn (e : Edge) (p : Position) (c f : ℤ) : Type 0 where
   pub rest_low : neg_ℤ (e.b.y -ℤ e.a.y) ≤ℤ f
   pub rest_high : f <ℤ (e.b.y -ℤ e.a.y)
 
-pub next_row : (e : Edge) (p : Position) (c f q r : ℤ) → IsAtColumn e p c f → IsStep e q r → IsNearColumn e (below p) (c +ℤ q) (f -ℤ r)
+pub next_row : (e : Edge) (p : Position) (c f q r : ℤ) → IsAtColumn e p c f → IsEdgeStep e q r → IsNearColumn e (below p) (c +ℤ q) (f -ℤ r)
 next_row e p c f q r at step =
     let s = side-below e.a e.b p c q in
     let m = step.sum in
@@ -145,7 +145,7 @@ at_left u v x y hu hv hx hy =
     omega (arith, ints)
 
 -- the first column is at most 2 ^ 16 to the right, and at most one more to the left
-pub column_bounds : (e : Edge) (p : Position) (c : ℤ) → HasHeight e p.y → AreInBand e p.x → IsFirstColumn e p c → (negsuc 65536 ≤ℤ c) × (c ≤ℤ pos 65536)
+pub column_bounds : (e : Edge) (p : Position) (c : ℤ) → HasHeight e p.y → IsWalkInBand e p.x → IsFirstColumn e p c → (negsuc 65536 ≤ℤ c) × (c ≤ℤ pos 65536)
 column_bounds e p c height band first = (low, high)
   where
     right : Position
@@ -174,8 +174,6 @@ column_bounds e p c height band first = (low, high)
     ]
 
 -- ---- what is kept of an edge
-pub first_of_walk : {e : Edge} {p : Position} {h q r c f : ℤ} → IsWalking e p h q r c f → IsFirstColumn e p c
-first_of_walk {e} {p} {h} {q} {r} {c} {f} w = is_first_column e p c f w.range w.place
 
 pub record AreSmall (h q r c f : ℤ) : Type 0 where
   pub height : IsWithin (2 ^ 25) h

@@ -113,12 +113,6 @@ row-added counters column v w c is lt e k =
     let t = same-test column c k is in
     rw (← t) (sums-added (counter_of counters) (counter_of (set counters c w)) c v k (λ j. counter-added counters c v w j lt e))
 
-pub row-not_added : (counters : List ℤ) (column v : ℤ) (c : ℕ) → pos c ≡ int_max column (pos 0) → length counters ≤ c
-    → (k : ℕ) → k < length counters → sum_to (counter_of counters) (k + 1) ≡ sum_to (counter_of counters) (k + 1) +ℤ from_column column v k
-row-not_added counters column v c is ge k h =
-    let t = le_no column (pos k) (omega (arith, ints, clamps)) in
-    rw t (omega (arith, ints))
-
 pub within-added : (counters : List ℤ) (c n : ℕ) (v w : ℤ) → c < length counters → w ≡ counter_of counters c +ℤ v → IsWithin 1 v → AreWithin n counters → AreWithin (n + 1) (set counters c w)
 within-added counters c n v w lt e small h j =
     let a = counter-added counters c v w j lt e in
@@ -127,9 +121,6 @@ within-added counters c n v w lt e small h j =
       | inl f ↦ let z = number-here c v j f in record { low = omega (arith, ints); high = omega (arith, ints) }
       | inr f ↦ let z = number-elsewhere c v j f in record { low = omega (arith, ints); high = omega (arith, ints) }
     ]
-
-pub within-more : (counters : List ℤ) (n : ℕ) → AreWithin n counters → AreWithin (n + 1) counters
-within-more counters n h j = let b = h j in record { low = omega (arith, ints); high = omega (arith, ints) }
 
 -- ---- one edge
 pub direction-from : (e : Edge) (p : Position) (c : ℤ) (k : ℕ) → HasHeight e p.y → IsFirstColumn e p c → direction e (along p (pos k)) ≡ from_column c (pos 1) k

@@ -23,18 +23,12 @@ filled_inverted word r i small e h =
     let n = bit_at_not w64 r i small h in
     n ∙ (omega arith)
 
-pub filled_plain : (word r i : ℕ) → bit_at r i ≡ parity (λ k. bit_at word k) (i + 1) → bit_at r i ≡ (parity (λ k. bit_at word k) (i + 1) + 0) % 2
-filled_plain word r i e = let b = parity-lt (λ k. bit_at word k) (i + 1) in e ∙ (omega arith)
-
 -- ---- the words of a row, the first i of them done
 pub record IsSpreadTo (old cur : List ℕ) (i carry : ℕ) : Type 0 where
   pub long : length cur ≡ length old
   pub done : (k : ℕ) → k < 64 * i → bit_of cur k ≡ parity (bit_of old) (k + 1)
   pub same : (j : ℕ) → i ≤ j → slice_index cur j ≡ slice_index old j
   pub carried : carry ≡ parity (bit_of old) (64 * i)
-
-pub spread_none : (old : List ℕ) → IsSpreadTo old old 0 0
-spread_none old = record { long = refl; done = λ k h. absurd (omega arith); same = λ j h. refl; carried = refl }
 
 -- bit m of word i
 bit_in_word : (words : List ℕ) (i m : ℕ) → m < 64 → bit_of words (64 * i + m) ≡ bit_at (slice_index words i) m

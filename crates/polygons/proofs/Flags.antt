@@ -1,24 +1,23 @@
 -- What the flags of a row say of the edges.
-use Rattle.std.proofs.Common.{◌≡◌, ◌≢◌, ◌⊎◌, inl, inr, refl, sym, subst, ap, ◌∙◌, arith, ℕ, ◌+◌, ◌*◌, ◌/◌, ◌%◌, ◌^◌, ◌<◌, ◌≤◌, Bool, false, cond, List, length, set, get_or, slice_index, take, get_or-set_same, get_or-set_other, ℤ, pos, negsuc, neg_ℤ, nat_abs, w64, to_z, of_z, FitsSigned, ◌+ℤ◌, ◌<ℤ◌, ◌≤ℤ◌}
+use Rattle.std.proofs.Common.{◌≡◌, ◌≢◌, ◌⊎◌, inl, inr, refl, sym, subst, ap, ◌∙◌, arith, ℕ, ◌+◌, ◌*◌, ◌/◌, ◌%◌, ◌^◌, ◌<◌, ◌≤◌, Bool, false, cond, List, length, set, slice_index, get_or-set_same, get_or-set_other, ℤ, pos, negsuc, neg_ℤ, nat_abs, w64, to_z, of_z, FitsSigned, ◌+ℤ◌, ◌<ℤ◌, ◌≤ℤ◌}
 use Rattle.std.proofs.lemmas.Int.{ints, clamps}
 use Rattle.std.proofs.lemmas.Nat.{one_shl}
 use Rattle.polygons.proofs.Exact.{exact64}
 use Rattle.std.proofs.lemmas.Bool.{cases_lt, cases_eq}
 use Rattle.std.proofs.lemmas.Nat.Bits.{bit_at-pow_same, bit_at-pow_other, bit_at-zero, bit_at-lt, bit_at_xor}
-use Rattle.std.proofs.lemmas.List.Sums.{fold_more}
 use Rattle.std.specs.Int.{bit_at, int_max}
 use Rattle.std.specs.Int.RustNames.{int_le, bit_xor}
 use Rattle.grid.specs.Position.{Position}
 use Rattle.grid.specs.Edge.{side}
 use Rattle.polygons.specs.declared.edge.Edge.{Edge}
-use Rattle.polygons.specs.Crossing.{is_crossed_down, is_crossed_up, crossings}
+use Rattle.polygons.specs.Crossing.{is_crossed_down, is_crossed_up}
 use Rattle.polygons.specs.Columns.{Walk, along, HasHeight, IsFirstColumn}
 use Rattle.polygons.specs.Laws.{reversed}
 use Rattle.polygons.specs.Rows.{bit_of, parity, crossing}
 use Rattle.polygons.proofs.Tests.{le_yes, le_no, down_yes, down_above, down_below, down_left, up_above, up_below}
 use Rattle.polygons.proofs.Triangle.{at_most_or_over}
 use Rattle.polygons.proofs.Cancel.{opposite}
-use Rattle.polygons.proofs.Parity.{flag_at, flag-here, flag-elsewhere, parity-add, parity-lt, parity-none, parity-flag_after, parity-flag_before}
+use Rattle.polygons.proofs.Parity.{flag_at, flag-here, flag-elsewhere, parity-add, parity-none, parity-flag_after, parity-flag_before}
 
 -- ---- one edge
 pub above_or_not : (x y : ℤ) → (x <ℤ y) ⊎ (y ≤ℤ x)
@@ -154,25 +153,8 @@ row-flipped words column m fits e lt k h =
     let t = same-test column c k c_is in
     rw (p, ← t) (flags-flipped (bit_of words) (bit_of (set words (c / 64) (bit_xor (slice_index words (c / 64)) (2 ^ (c % 64))))) c (64 * length words) (λ j l. bit-flipped words c j lt l) k h)
 
--- a column right of the row has no flag
-pub row-unflipped : (words : List ℕ) (column m : ℤ) → FitsSigned w64 m → m ≡ int_max column (pos 0) → length words ≤ nat_abs (to_z w64 (of_z w64 m)) / 64
-    → (k : ℕ) → k < 64 * length words → parity (bit_of words) (k + 1) ≡ (parity (bit_of words) (k + 1) + cond (int_le column (pos k)) 1 0) % 2
-row-unflipped words column m fits e ge k h =
-    let c : ℕ = nat_abs (to_z w64 (of_z w64 m)) in
-    let same = exact64 m fits in
-    let c_is : pos c ≡ int_max column (pos 0) = not_negative (to_z w64 (of_z w64 m)) (rw same (omega (arith, ints, clamps))) ∙ same ∙ e in
-    let far : k < c = omega arith in
-    let t = le_no column (pos k) (omega (arith, ints, clamps)) in
-    let b = parity-lt (bit_of words) (k + 1) in
-    rw t (omega arith)
-
 -- a row without flags
 pub no_flags : (words : List ℕ) → ((j : ℕ) → slice_index words j ≡ 0) → (n : ℕ) → parity (bit_of words) n ≡ 0
 no_flags words h n = parity-none (bit_of words) n (λ k l. ap (λ w. bit_at w (k % 64)) (h (k / 64)) ∙ bit_at-zero (k % 64))
 
 -- ---- all edges
-pub crossings-more : (edges : List Edge) (i : ℕ) (d : Edge) (p : Position) → i < length edges → crossings (take (i + 1) edges) p ≡ crossings (take i edges) p + crossing (get_or edges i d) p
-crossings-more edges i d p h =
-    let a = fold_more (λ (n : ℕ) (e : Edge). n + cond {A = ℕ} (is_crossed_down e p) 1 0) 0 edges i d h in
-    let b = fold_more (λ (n : ℕ) (e : Edge). n + cond {A = ℕ} (is_crossed_up e p) 1 0) 0 edges i d h in
-    omega arith

@@ -8,18 +8,18 @@ use Rattle.polygons.specs.declared.edge.Edge.{Edge}
 use Rattle.polygons.specs.declared.rule.Rule.{Rule}
 use Rattle.polygons.specs.declared.rule.Rule.TheVariants.{EvenOdd, NonZero}
 use Rattle.polygons.specs.declared.strip.Strip.{Strip}
-use Rattle.polygons.specs.Blocks.{in_block, IsMaskOf}
+use Rattle.polygons.specs.Blocks.{in_block, IsBlockMask}
 use Rattle.polygons.specs.Crossing.{downs, ups, winding, IsInside}
 use Rattle.polygons.specs.Polygon.{polygon_edges, corner_count}
 use Rattle.polygons.specs.Rows.{parity, sum_to}
 use Rattle.polygons.specs.ManyRows.{row_of}
-use Rattle.polygons.specs.Strip.{start_of, sample_of}
-use Rattle.polygons.specs.Cells.{word_of, place_of, flag_of, cell, total, IsAlike, AreMarked, AreZeros}
+use Rattle.polygons.specs.Strip.{start_of, strip_sample}
+use Rattle.polygons.specs.Cells.{word_of, bit_in_block, flag_of, cell, running_sum, IsAlike, AreMarked, AreZeros}
 use Rattle.polygons.proofs.Counters.{sum-none}
 use Rattle.polygons.proofs.Counts.{downs-ring, ups-ring, downs-ring-le, ups-ring-le, corners-ring}
 
 -- ---- places
-sample_in : (strip : Strip) (s row column r c : ℕ) → in_block (sample_of strip s (8 * row) (8 * column)) r c ≡ sample_of strip s (8 * row + r) (8 * column + c)
+sample_in : (strip : Strip) (s row column r c : ℕ) → in_block (strip_sample strip s (8 * row) (8 * column)) r c ≡ strip_sample strip s (8 * row + r) (8 * column + c)
 sample_in strip s row column r c =
     let p = start_of strip s in
     let x : (p.x +ℤ pos 256 *ℤ pos (8 * column)) +ℤ pos 256 *ℤ pos c ≡ p.x +ℤ pos 256 *ℤ pos (8 * column + c) = omega (arith, ints) in
@@ -36,8 +36,8 @@ flag_in_block flags s row column r c h l =
 
 -- if each flag says whether its sample is inside, each word is a mask
 pub mask_of_flags : (rule : Rule) (edges : List Edge) (strip : Strip) (flags : List (List ℕ)) (s row column n : ℕ) → row < 8 → column < n
-    → ((j k : ℕ) → j < 64 → k < 8 * n → ((flag_of flags s j k ≡ 1) ↔ IsInside rule edges (sample_of strip s j k)))
-    → IsMaskOf rule edges (sample_of strip s (8 * row) (8 * column)) (slice_index (row_of flags column) (4 * row + s))
+    → ((j k : ℕ) → j < 64 → k < 8 * n → ((flag_of flags s j k ≡ 1) ↔ IsInside rule edges (strip_sample strip s j k)))
+    → IsBlockMask rule edges (strip_sample strip s (8 * row) (8 * column)) (slice_index (row_of flags column) (4 * row + s))
 mask_of_flags rule edges strip flags s row column n h l each r c lr lc =
     let e = each (8 * row + r) (8 * column + c) (omega arith) (omega arith) in
     let f = flag_in_block flags s row column r c lr lc in
@@ -86,13 +86,13 @@ nonzero_inside rings p b x few is h =
     (λ l. z.0 (is.0 l), λ l. is.1 (z.1 l))
 
 -- ---- strips of zeros
-pub total-zeros : (rule : Rule) (flags counters : List (List ℕ)) (s row k : ℕ) → AreZeros flags → AreZeros counters → total rule flags counters s row k ≡ pos 0
-total-zeros EvenOdd flags counters s row k h l = sum-none (cell EvenOdd flags counters s row) (k + 1) (λ j m. ap pos (ap (λ w. bit_at w (place_of row j)) (h (j / 8) (word_of s row)) ∙ bit_at-zero (place_of row j)))
-total-zeros NonZero flags counters s row k h l = sum-none (cell NonZero flags counters s row) (k + 1) (λ j m. ap pos (l (j / 8) (64 * word_of s row + place_of row j)))
+pub running_sum-zeros : (rule : Rule) (flags counters : List (List ℕ)) (s row k : ℕ) → AreZeros flags → AreZeros counters → running_sum rule flags counters s row k ≡ pos 0
+running_sum-zeros EvenOdd flags counters s row k h l = sum-none (cell EvenOdd flags counters s row) (k + 1) (λ j m. ap pos (ap (λ w. bit_at w (bit_in_block row j)) (h (j / 8) (word_of s row)) ∙ bit_at-zero (bit_in_block row j)))
+running_sum-zeros NonZero flags counters s row k h l = sum-none (cell NonZero flags counters s row) (k + 1) (λ j m. ap pos (l (j / 8) (64 * word_of s row + bit_in_block row j)))
 
 pub marked_zeros : (rule : Rule) (flags counters : List (List ℕ)) → AreZeros counters → AreMarked rule flags counters
 marked_zeros EvenOdd flags counters h = tt
-marked_zeros NonZero flags counters h = λ s row k x y z. h (k / 8) (64 * word_of s row + place_of row k)
+marked_zeros NonZero flags counters h = λ s row k x y z. h (k / 8) (64 * word_of s row + bit_in_block row k)
 
 pub from_zeros : (m : ℕ) (x y z : ℤ) → y ≡ pos 0 → IsAlike m x (y +ℤ z) → IsAlike m x z
 from_zeros m x y z e h = record { times = h.times; is = let i = h.is in omega (arith, ints) }

@@ -8,7 +8,7 @@ use Rattle.polygons.specs.Crossing.{is_crossed_down, is_crossed_up}
 use Rattle.polygons.specs.Laws.{reversed}
 use Rattle.polygons.specs.Rows.{direction}
 use Rattle.polygons.specs.Apart.{IsApart}
-use Rattle.polygons.specs.Strip.{sample_of}
+use Rattle.polygons.specs.Strip.{strip_sample}
 use Rattle.polygons.proofs.Cancel.{opposite}
 use Rattle.polygons.proofs.Columns.{between, at_left}
 use Rattle.polygons.proofs.Flags.{above_or_not}
@@ -40,23 +40,23 @@ pub direction_right : (e : Edge) (p : Position) → p.x <ℤ e.a.x → p.x <ℤ 
 direction_right e p h k = none e p (not_down e p h k) (sym (opposite e p).down ∙ not_down (reversed e) p k h)
 
 -- ---- where samples of a strip lie
-pub sample_y : (strip : Strip) (s row k : ℕ) (y : ℤ) → row < 64 → (pos 256 *ℤ strip.row +ℤ pos 16384) ≤ℤ y → (sample_of strip s row k).y <ℤ y
+pub sample_y : (strip : Strip) (s row k : ℕ) (y : ℤ) → row < 64 → (pos 256 *ℤ strip.row +ℤ pos 16384) ≤ℤ y → (strip_sample strip s row k).y <ℤ y
 sample_y strip s row k y h l = let o = offset_y strip.count (strip.from + s) in omega (arith, ints)
 
-pub sample_below : (strip : Strip) (s row k : ℕ) (y : ℤ) → y ≤ℤ (pos 256 *ℤ strip.row) → y ≤ℤ (sample_of strip s row k).y
+pub sample_below : (strip : Strip) (s row k : ℕ) (y : ℤ) → y ≤ℤ (pos 256 *ℤ strip.row) → y ≤ℤ (strip_sample strip s row k).y
 sample_below strip s row k y h = let o = offset_y strip.count (strip.from + s) in omega (arith, ints)
 
-pub sample_x : (strip : Strip) (s row k : ℕ) (x : ℤ) → (pos 256 *ℤ strip.column +ℤ pos (256 * (k + 1))) ≤ℤ x → (sample_of strip s row k).x <ℤ x
+pub sample_x : (strip : Strip) (s row k : ℕ) (x : ℤ) → (pos 256 *ℤ strip.column +ℤ pos (256 * (k + 1))) ≤ℤ x → (strip_sample strip s row k).x <ℤ x
 sample_x strip s row k x h = let o = offset_x strip.count (strip.from + s) in omega (arith, ints)
 
-pub sample_right : (strip : Strip) (s row k : ℕ) (x : ℤ) → x ≤ℤ (pos 256 *ℤ strip.column) → x ≤ℤ (sample_of strip s row k).x
+pub sample_right : (strip : Strip) (s row k : ℕ) (x : ℤ) → x ≤ℤ (pos 256 *ℤ strip.column) → x ≤ℤ (strip_sample strip s row k).x
 sample_right strip s row k x h = let o = offset_x strip.count (strip.from + s) in omega (arith, ints)
 
-pub crossed_nowhere : (e : Edge) (strip : Strip) (columns s row k : ℕ) → IsApart e strip columns → row < 64 → k < 8 * columns → direction e (sample_of strip s row k) ≡ pos 0
+pub crossed_nowhere : (e : Edge) (strip : Strip) (columns s row k : ℕ) → IsApart e strip columns → row < 64 → k < 8 * columns → direction e (strip_sample strip s row k) ≡ pos 0
 crossed_nowhere e strip columns s row k apart h l = elim apart [
-  | inl above ↦ direction_over e (sample_of strip s row k) (sample_below strip s row k e.a.y above.0) (sample_below strip s row k e.b.y above.1)
+  | inl above ↦ direction_over e (strip_sample strip s row k) (sample_below strip s row k e.a.y above.0) (sample_below strip s row k e.b.y above.1)
   | inr other ↦ elim other [
-    | inl below ↦ direction_under e (sample_of strip s row k) (sample_y strip s row k e.a.y h below.0) (sample_y strip s row k e.b.y h below.1)
-    | inr right ↦ let r = right k l in direction_right e (sample_of strip s row k) (sample_x strip s row k e.a.x r.0) (sample_x strip s row k e.b.x r.1)
+    | inl below ↦ direction_under e (strip_sample strip s row k) (sample_y strip s row k e.a.y h below.0) (sample_y strip s row k e.b.y h below.1)
+    | inr right ↦ let r = right k l in direction_right e (strip_sample strip s row k) (sample_x strip s row k e.a.x r.0) (sample_x strip s row k e.b.x r.1)
   ]
 ]

@@ -1,5 +1,5 @@
 -- What is added to the rows of a strip, one edge after another.
-use Rattle.std.proofs.Common.{◌≡◌, inl, inr, refl, sym, subst, ap, ◌∙◌, arith, ℕ, zero, suc, ◌+◌, ◌-◌, ◌*◌, ◌<◌, ◌≤◌, Bool, true, false, List, [], ◌∷◌, ◌++◌, length, length-drop, take, drop, get_or, drop-cons, add-one, ℤ, pos, w32, w64, to_z, of_z, FitsSigned, ◌+ℤ◌, ◌-ℤ◌, ◌*ℤ◌, ◌<ℤ◌, ◌≤ℤ◌}
+use Rattle.std.proofs.Common.{◌≡◌, inl, inr, refl, sym, subst, ap, ◌∙◌, arith, ℕ, zero, suc, ◌+◌, ◌-◌, ◌*◌, ◌<◌, ◌≤◌, Bool, true, false, List, [], ◌∷◌, ◌++◌, length, drop, get_or, drop-cons, add-one, ℤ, pos, w32, w64, to_z, of_z, FitsSigned, ◌+ℤ◌, ◌-ℤ◌, ◌*ℤ◌, ◌<ℤ◌, ◌≤ℤ◌}
 use Rattle.std.proofs.lemmas.Int.{ints}
 use Rattle.std.proofs.lemmas.Bool.{cases_lt}
 use Rattle.grid.specs.Position.{Position, IsInBand}
@@ -16,7 +16,7 @@ use Rattle.polygons.specs.Columns.{Walk, along, below, HasHeight, IsFirstColumn}
 use Rattle.polygons.specs.Crossing.{winding}
 use Rattle.polygons.specs.Polygon.{path_edges, path_end, ring_edges, polygon_edges}
 use Rattle.polygons.specs.Rows.{direction, from_column}
-use Rattle.polygons.specs.Strip.{sample_of}
+use Rattle.polygons.specs.Strip.{strip_sample}
 use Rattle.polygons.specs.Cells.{modulus, signed, IsAlike, HasCounters, IsPlotted}
 use Rattle.polygons.proofs.Exact.{exact64}
 use Rattle.polygons.proofs.Counters.{direction-from, direction-none}
@@ -75,12 +75,12 @@ pub plotted_as : (rule : Rule) (strip : Strip) (f g : Position → ℤ) (a b c d
 plotted_as rule strip f g a b c d e h = record {
   flags_len = h.flags_len;
   counters_len = h.counters_len;
-  totals = λ s row k x y z. alike_from (modulus rule) _ _ _ _ _ _ refl refl (e (sample_of strip s row k)) (h.totals s row k x y z);
+  totals = λ s row k x y z. alike_from (modulus rule) _ _ _ _ _ _ refl refl (e (strip_sample strip s row k)) (h.totals s row k x y z);
   marked = h.marked;
   kept = h.kept;
 }
 
-pub plotted_on : (rule : Rule) (strip : Strip) (f g : Position → ℤ) (a b c d : List (List ℕ)) → ((s row k : ℕ) → row < 64 → k < 8 * length a → f (sample_of strip s row k) ≡ g (sample_of strip s row k)) → IsPlotted rule strip f a b c d → IsPlotted rule strip g a b c d
+pub plotted_on : (rule : Rule) (strip : Strip) (f g : Position → ℤ) (a b c d : List (List ℕ)) → ((s row k : ℕ) → row < 64 → k < 8 * length a → f (strip_sample strip s row k) ≡ g (strip_sample strip s row k)) → IsPlotted rule strip f a b c d → IsPlotted rule strip g a b c d
 plotted_on rule strip f g a b c d e h = record {
   flags_len = h.flags_len;
   counters_len = h.counters_len;
@@ -93,7 +93,7 @@ pub plotted_none : (rule : Rule) (strip : Strip) (f : Position → ℤ) (a b : L
 plotted_none rule strip f a b e = record {
   flags_len = refl;
   counters_len = refl;
-  totals = λ s row k x y z. alike_none (modulus rule) _ _ (f (sample_of strip s row k)) true refl (e (sample_of strip s row k));
+  totals = λ s row k x y z. alike_none (modulus rule) _ _ (f (strip_sample strip s row k)) true refl (e (strip_sample strip s row k));
   marked = λ h. h;
   kept = λ e. refl;
 }
@@ -109,7 +109,7 @@ pub plotted_both : (rule : Rule) (strip : Strip) (f g both : Position → ℤ) (
 plotted_both rule strip f g both a b c d e i sum h k = record {
   flags_len = k.flags_len ∙ h.flags_len;
   counters_len = k.counters_len ∙ h.counters_len;
-  totals = λ s row j x y z. let p = sample_of strip s row j in alike_both (modulus rule) _ _ _ _ _ (both p) (k.totals s row j x y (let l = h.flags_len in omega arith)) (h.totals s row j x y z) (sum p);
+  totals = λ s row j x y z. let p = strip_sample strip s row j in alike_both (modulus rule) _ _ _ _ _ (both p) (k.totals s row j x y (let l = h.flags_len in omega arith)) (h.totals s row j x y z) (sum p);
   marked = λ l. k.marked (h.marked l);
   kept = λ l. k.kept l ∙ h.kept l;
 }
@@ -163,28 +163,12 @@ pub ring_closed : (ring : List Position) (first last : Position) (rest : List Po
 ring_closed ring first last rest is end p =
     ap (λ (r : List Position). winding (ring_edges r) p) is ∙ path_closed first first rest p ∙ ap (λ (q : Position). winding (path_edges first rest) p +ℤ direction (record { a = q; b = first }) p) (sym end)
 
-pub no_ring : (ring : List Position) → length ring < 1 → (p : Position) → winding (ring_edges ring) p ≡ pos 0
-no_ring [] h p = refl
-no_ring (c ∷ cs) h p = absurd (omega arith)
-
-all_taken : {X : Type 0} (xs : List X) (n : ℕ) → length xs ≤ n → take n xs ≡ xs
-all_taken {X} [] zero h = refl
-all_taken {X} [] (suc n) h = refl
-all_taken {X} (x ∷ xs) zero h = absurd (omega arith)
-all_taken {X} (x ∷ xs) (suc n) h = ap (λ (ys : List X). x ∷ ys) (all_taken xs n (omega arith))
-
-pub rest_or : {X : Type 0} (ring : List X) (none : X) → 1 ≤ length ring → ring ≡ get_or ring 0 none ∷ take (length ring - 1) (drop 1 ring)
-rest_or {X} ring none h =
-    let l = length-drop 1 ring in
-    let k : drop 0 ring ≡ get_or ring 0 none ∷ drop 1 ring = drop-cons ring 0 none h in
-    k ∙ ap (λ (ys : List X). get_or ring 0 none ∷ ys) (sym (all_taken (drop 1 ring) (length ring - 1) (omega arith)))
-
 -- an edge that is crossed at no sample of the strip
-pub plotted_apart : (rule : Rule) (strip : Strip) (f : Position → ℤ) (a b : List (List ℕ)) → ((s row k : ℕ) → s < part_size strip.count → row < 64 → k < 8 * length a → f (sample_of strip s row k) ≡ pos 0) → IsPlotted rule strip f a b a b
+pub plotted_apart : (rule : Rule) (strip : Strip) (f : Position → ℤ) (a b : List (List ℕ)) → ((s row k : ℕ) → s < part_size strip.count → row < 64 → k < 8 * length a → f (strip_sample strip s row k) ≡ pos 0) → IsPlotted rule strip f a b a b
 plotted_apart rule strip f a b e = record {
   flags_len = refl;
   counters_len = refl;
-  totals = λ s row k x y z. alike_none (modulus rule) _ _ (f (sample_of strip s row k)) true refl (e s row k x y z);
+  totals = λ s row k x y z. alike_none (modulus rule) _ _ (f (strip_sample strip s row k)) true refl (e s row k x y z);
   marked = λ h. h;
   kept = λ e. refl;
 }

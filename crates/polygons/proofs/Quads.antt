@@ -13,7 +13,7 @@ use Rattle.polygons.specs.declared.rule.Rule.{Rule}
 use Rattle.polygons.specs.declared.rule.Rule.TheVariants.{EvenOdd, NonZero}
 use Rattle.polygons.specs.Crossing.{is_crossed_down, is_crossed_up, downs, ups, IsInsideBy}
 use Rattle.polygons.specs.Polygon.{PolygonCovers}
-use Rattle.polygons.specs.Laws.{moved, moved_edge, MovesAlong}
+use Rattle.polygons.specs.Laws.{translated, translated_edge, MovesAlong}
 use Rattle.polygons.proofs.Cancel.{opposite}
 use Rattle.polygons.proofs.Tests.{le_yes, le_no, lt_yes, lt_no}
 use Rattle.polygons.proofs.Flags.{above_or_not}
@@ -84,7 +84,7 @@ quad_polygon rule a b c d p split =
     counts' ab bc cd da k ca ac e = omega arith
 
 -- ---- moving
-side-moved : (a b p by : Position) → side (moved by a) (moved by b) (moved by p) ≡ side a b p
+side-moved : (a b p by : Position) → side (translated by a) (translated by b) (translated by p) ≡ side a b p
 unfolding side
 side-moved a b p by =
     let less = λ (m n : Term). plus m (neg n) in
@@ -106,10 +106,10 @@ lt-moved x y d = elim (above_or_not x y) [
   | inr h ↦ lt_no (x +ℤ d) (y +ℤ d) (omega (arith, ints)) ∙ sym (lt_no x y h)
 ]
 
-down-moved : (by : Position) (e : Edge) (p : Position) → is_crossed_down (moved_edge by e) (moved by p) ≡ is_crossed_down e p
+down-moved : (by : Position) (e : Edge) (p : Position) → is_crossed_down (translated_edge by e) (translated by p) ≡ is_crossed_down e p
 down-moved by e p = rw (le-moved e.a.y p.y by.y, lt-moved p.y e.b.y by.y, side-moved e.a e.b p by) refl
 
-up-moved : (by : Position) (e : Edge) (p : Position) → is_crossed_up (moved_edge by e) (moved by p) ≡ is_crossed_up e p
+up-moved : (by : Position) (e : Edge) (p : Position) → is_crossed_up (translated_edge by e) (translated by p) ≡ is_crossed_up e p
 up-moved by e p = rw (le-moved e.b.y p.y by.y, lt-moved p.y e.a.y by.y, side-moved e.a e.b p by) refl
 
 one_down : (e : Edge) (es : List Edge) (p : Position) → downs (e ∷ es) p ≡ cond (is_crossed_down e p) 1 0 + downs es p
@@ -118,21 +118,21 @@ one_down e es p = sum_by-cons (λ f. cond (is_crossed_down f p) 1 0) e es
 one_up : (e : Edge) (es : List Edge) (p : Position) → ups (e ∷ es) p ≡ cond (is_crossed_up e p) 1 0 + ups es p
 one_up e es p = sum_by-cons (λ f. cond (is_crossed_up f p) 1 0) e es
 
-downs-moved : (by : Position) (es : List Edge) (p : Position) → downs (map (moved_edge by) es) (moved by p) ≡ downs es p
+downs-moved : (by : Position) (es : List Edge) (p : Position) → downs (map (translated_edge by) es) (translated by p) ≡ downs es p
 downs-moved by [] p = refl
 downs-moved by (e ∷ es) p =
-    let o : cond {A = ℕ} (is_crossed_down (moved_edge by e) (moved by p)) 1 0 ≡ cond {A = ℕ} (is_crossed_down e p) 1 0 = ap (λ (b : Bool). cond {A = ℕ} b 1 0) (down-moved by e p) in
+    let o : cond {A = ℕ} (is_crossed_down (translated_edge by e) (translated by p)) 1 0 ≡ cond {A = ℕ} (is_crossed_down e p) 1 0 = ap (λ (b : Bool). cond {A = ℕ} b 1 0) (down-moved by e p) in
     let i = downs-moved by es p in
-    let c = one_down (moved_edge by e) (map (moved_edge by) es) (moved by p) in
+    let c = one_down (translated_edge by e) (map (translated_edge by) es) (translated by p) in
     let d = one_down e es p in
     omega arith
 
-ups-moved : (by : Position) (es : List Edge) (p : Position) → ups (map (moved_edge by) es) (moved by p) ≡ ups es p
+ups-moved : (by : Position) (es : List Edge) (p : Position) → ups (map (translated_edge by) es) (translated by p) ≡ ups es p
 ups-moved by [] p = refl
 ups-moved by (e ∷ es) p =
-    let o : cond {A = ℕ} (is_crossed_up (moved_edge by e) (moved by p)) 1 0 ≡ cond {A = ℕ} (is_crossed_up e p) 1 0 = ap (λ (b : Bool). cond {A = ℕ} b 1 0) (up-moved by e p) in
+    let o : cond {A = ℕ} (is_crossed_up (translated_edge by e) (translated by p)) 1 0 ≡ cond {A = ℕ} (is_crossed_up e p) 1 0 = ap (λ (b : Bool). cond {A = ℕ} b 1 0) (up-moved by e p) in
     let i = ups-moved by es p in
-    let c = one_up (moved_edge by e) (map (moved_edge by) es) (moved by p) in
+    let c = one_up (translated_edge by e) (map (translated_edge by) es) (translated by p) in
     let d = one_up e es p in
     omega arith
 

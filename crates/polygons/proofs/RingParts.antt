@@ -5,7 +5,7 @@ use Rattle.grid.specs.Position.{Position}
 use Rattle.polygons.specs.declared.corner.Corner.{Corner}
 use Rattle.polygons.specs.Crossing.{winding}
 use Rattle.polygons.specs.Polygon.{ring_edges, polygon_edges, corner_count}
-use Rattle.polygons.specs.Rings.{position_of, rings_from, end_of, AreEnds}
+use Rattle.polygons.specs.Rings.{position_of, rings_from, end_of, AreAscendingEnds}
 use Rattle.polygons.proofs.Counts.{corners-ring}
 use Rattle.polygons.proofs.Plotted.{winding-ring}
 
@@ -23,12 +23,8 @@ ring_step corners start ends i p h =
 pub next_start : (start : ℕ) (ends : List ℕ) (i : ℕ) → slice_index (start ∷ ends) (i + 1) ≡ slice_index ends i
 next_start start ends i = rw add-one refl
 
--- a ring's corners are in the list
-pub ring_rises : (start : ℕ) (ends : List ℕ) (limit i a : ℕ) → AreEnds start ends limit → i < length ends → a ≡ slice_index (start ∷ ends) i → (a ≤ slice_index ends i) × (slice_index ends i ≤ limit)
-ring_rises start ends limit i a h l is = (omega (arith, is, h.rising i l), h.within i l)
-
 -- rings that come later end no earlier
-rising_to : (start : ℕ) (ends : List ℕ) (limit i d : ℕ) → AreEnds start ends limit → i + d < length ends + 1 → slice_index (start ∷ ends) i ≤ slice_index (start ∷ ends) (i + d)
+rising_to : (start : ℕ) (ends : List ℕ) (limit i d : ℕ) → AreAscendingEnds start ends limit → i + d < length ends + 1 → slice_index (start ∷ ends) i ≤ slice_index (start ∷ ends) (i + d)
 rising_to start ends limit i zero h l = let e : i + 0 ≡ i = omega arith in let same = ap (slice_index (start ∷ ends)) e in omega (arith, same)
 rising_to start ends limit i (suc d) h l =
     let e : i + suc d ≡ suc (i + d) = omega arith in
@@ -37,14 +33,14 @@ rising_to start ends limit i (suc d) h l =
     let next : slice_index (start ∷ ends) (i + d) ≤ slice_index (start ∷ ends) (suc (i + d)) = h.rising (i + d) (omega (arith, l)) in
     omega (arith, same, before, next)
 
-pub begins_within : (start : ℕ) (ends : List ℕ) (limit i : ℕ) → AreEnds start ends limit → i < length ends → start ≤ slice_index (start ∷ ends) i
+pub begins_within : (start : ℕ) (ends : List ℕ) (limit i : ℕ) → AreAscendingEnds start ends limit → i < length ends → start ≤ slice_index (start ∷ ends) i
 begins_within start ends limit i h l =
     let e : 0 + i ≡ i = omega arith in
     let same = ap (slice_index (start ∷ ends)) e in
     let from = rising_to start ends limit 0 i h (omega (arith, l)) in
     omega (arith, same, from)
 
-pub last_within : (start : ℕ) (ends : List ℕ) (limit : ℕ) → AreEnds start ends limit → 1 ≤ length ends → (start ≤ slice_index ends (length ends - 1)) × (slice_index ends (length ends - 1) ≤ limit)
+pub last_within : (start : ℕ) (ends : List ℕ) (limit : ℕ) → AreAscendingEnds start ends limit → 1 ≤ length ends → (start ≤ slice_index ends (length ends - 1)) × (slice_index ends (length ends - 1) ≤ limit)
 last_within start ends limit h l =
     let e : 0 + length ends ≡ suc (length ends - 1) = omega (arith, l) in
     let same = ap (slice_index (start ∷ ends)) e in
@@ -52,7 +48,7 @@ last_within start ends limit h l =
     (omega (arith, same, most), h.within (length ends - 1) (omega (arith, l)))
 
 -- a ring ends no later than the last one
-pub ends_within : (start : ℕ) (ends : List ℕ) (limit i : ℕ) → AreEnds start ends limit → i < length ends → slice_index ends i ≤ end_of start ends
+pub ends_within : (start : ℕ) (ends : List ℕ) (limit i : ℕ) → AreAscendingEnds start ends limit → i < length ends → slice_index ends i ≤ end_of start ends
 ends_within start ends limit i h l =
     let e : suc i + (length ends - suc i) ≡ length ends = omega (arith, l) in
     let same = ap (slice_index (start ∷ ends)) e in
@@ -60,7 +56,7 @@ ends_within start ends limit i h l =
     omega (arith, same, most)
 
 -- the rings have no more corners than the list has from the first on
-pub few_corners : (corners : List Corner) (start : ℕ) (ends : List ℕ) → AreEnds start ends (length corners) → corner_count (rings_from corners start ends) ≤ length corners - start
+pub few_corners : (corners : List Corner) (start : ℕ) (ends : List ℕ) → AreAscendingEnds start ends (length corners) → corner_count (rings_from corners start ends) ≤ length corners - start
 few_corners corners start [] h = omega arith
 few_corners corners start (end ∷ ends) h =
     let ring = map position_of (take (end - start) (drop start corners)) in

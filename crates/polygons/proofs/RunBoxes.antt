@@ -18,10 +18,10 @@ use Rattle.polygons.specs.declared.strip.Strip.{Strip}
 use Rattle.polygons.specs.Apart.{LiesBeside}
 use Rattle.polygons.specs.Crossing.{winding}
 use Rattle.polygons.specs.Polygon.{path_edges, path_end, ring_edges}
-use Rattle.polygons.specs.Rings.{position_of, end_of, IsWithin}
+use Rattle.polygons.specs.Rings.{position_of, end_of, IsInClosedExtent}
 use Rattle.polygons.specs.Rows.{direction}
 use Rattle.polygons.specs.Runs.{corner_at, corners_between, box_of, AreRunsOf, IsCrossedAsChord}
-use Rattle.polygons.specs.Strip.{sample_of}
+use Rattle.polygons.specs.Strip.{strip_sample}
 use Rattle.polygons.proofs.Boxes.{path_outside}
 use Rattle.polygons.proofs.Plotted.{winding-cons, ring_closed, nothing_yet}
 
@@ -126,15 +126,15 @@ ring_joined cs begin end first last h l is at p =
 -- ---- one box more
 abbrev pub Held : List Extent → ℕ → List Corner → ℕ → ℕ → ℕ → Type 0
 Held boxes count cs start n end =
-    (run i : ℕ) → run < count → start + run * n ≤ i → i ≤ start + (run + 1) * n → i < end → IsWithin (get_or boxes run nowhere) (corner_at cs i)
+    (run i : ℕ) → run < count → start + run * n ≤ i → i ≤ start + (run + 1) * n → i < end → IsInClosedExtent (get_or boxes run nowhere) (corner_at cs i)
 
 pub one_box_more : (boxes : List Extent) (count : ℕ) (cs : List Corner) (start n end first behind : ℕ) (box : Extent) → count < length boxes → first ≡ start + count * n → behind ≡ min (first + n + 1) end → end ≤ length cs
-    → All (IsWithin box) (corners_between cs first behind) → Held boxes count cs start n end → Held (set boxes count box) (count + 1) cs start n end
+    → All (IsInClosedExtent box) (corners_between cs first behind) → Held boxes count cs start n end → Held (set boxes count box) (count + 1) cs start n end
 one_box_more boxes count cs start n end first behind box room at ends within all held run i h low high before =
     elim (cases_lt run count) [
       | inl less ↦
           let other : run ≢ count = λ e. omega (arith, less, e) in
-          subst (λ (b : Extent). IsWithin b (corner_at cs i)) (sym (get_or-set_other boxes count run box nowhere other)) (held run i less low high before)
+          subst (λ (b : Extent). IsInClosedExtent b (corner_at cs i)) (sym (get_or-set_other boxes count run box nowhere other)) (held run i less low high before)
       | inr more ↦
           let same : run ≡ count = omega (arith, more, h) in
           let times = ap (λ k. k * n) same in
@@ -148,9 +148,9 @@ one_box_more boxes count cs start n end first behind box room at ends within all
           let inside : i - first < length (corners_between cs first behind) = omega (arith, here, long, most, rest, ends, within) in
           let there = in_between cs first behind (i - first) (position_of zeros) (omega (arith, ends, within)) inside in
           let place : first + (i - first) ≡ i = omega (arith, from) in
-          let it = All-get_or (IsWithin box) (corners_between cs first behind) (i - first) (position_of zeros) inside all in
-          subst (λ (b : Extent). IsWithin b (corner_at cs i)) (sym (ap (λ k. get_or (set boxes count box) k nowhere) same ∙ get_or-set_same boxes count box nowhere room))
-          (subst (IsWithin box) (there.0 ∙ ap (corner_at cs) place) it)
+          let it = All-get_or (IsInClosedExtent box) (corners_between cs first behind) (i - first) (position_of zeros) inside all in
+          subst (λ (b : Extent). IsInClosedExtent b (corner_at cs i)) (sym (ap (λ k. get_or (set boxes count box) k nowhere) same ∙ get_or-set_same boxes count box nowhere room))
+          (subst (IsInClosedExtent box) (there.0 ∙ ap (corner_at cs) place) it)
     ]
 
 -- no more than the boxes of a polygon
@@ -167,14 +167,14 @@ few_runs corners n some long =
 -- ---- a run whose box lies beside the strip
 pub crossed_as_chord : (runs : Runs) (rings : Rings) (strip : Strip) (columns run next behind : ℕ) (from : Position) → AreRunsOf runs rings → run < runs.count → 1 ≤ next → next ≤ behind
     → rings.start + run * runs.length ≤ next - 1 → behind ≤ rings.start + (run + 1) * runs.length + 1 → behind ≤ end_of rings.start rings.ends.now → behind ≤ length rings.corners.now → from ≡ corner_at rings.corners.now (next - 1)
-    → LiesBeside (box_of runs run) strip columns → (s row k : ℕ) → row < 64 → k < 8 * columns → IsCrossedAsChord from (corners_between rings.corners.now next behind) (sample_of strip s row k)
+    → LiesBeside (box_of runs run) strip columns → (s row k : ℕ) → row < 64 → k < 8 * columns → IsCrossedAsChord from (corners_between rings.corners.now next behind) (strip_sample strip s row k)
 crossed_as_chord runs rings strip columns run next behind from held known some rises begins ends last within is beside s row k h l =
     let box = box_of runs run in
     let cs = rings.corners.now in
-    let first : IsWithin box from = subst (IsWithin box) (sym is) (held run (next - 1) known begins (omega (arith, rises, some, ends)) (omega (arith, rises, some, last))) in
-    path_outside box from (corners_between cs next behind) (sample_of strip s row k) first
-    (All-from_get_or (IsWithin box) (corners_between cs next behind) from (λ i m.
+    let first : IsInClosedExtent box from = subst (IsInClosedExtent box) (sym is) (held run (next - 1) known begins (omega (arith, rises, some, ends)) (omega (arith, rises, some, last))) in
+    path_outside box from (corners_between cs next behind) (strip_sample strip s row k) first
+    (All-from_get_or (IsInClosedExtent box) (corners_between cs next behind) from (λ i m.
     let at = in_between cs next behind i from within m in
     let small = at.1 in
-    subst (IsWithin box) (sym at.0) (held run (next + i) known (omega (arith, begins, some)) (omega (arith, ends, small)) (omega (arith, last, small)))))
+    subst (IsInClosedExtent box) (sym at.0) (held run (next + i) known (omega (arith, begins, some)) (omega (arith, ends, small)) (omega (arith, last, small)))))
     (beside s row k h l)

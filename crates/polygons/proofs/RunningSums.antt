@@ -8,7 +8,7 @@ use Rattle.std.specs.Int.{bit_at}
 use Rattle.polygons.specs.declared.rule.Rule.TheVariants.{NonZero}
 use Rattle.polygons.specs.Rows.{sum_to}
 use Rattle.polygons.specs.ManyRows.{row_of}
-use Rattle.polygons.specs.Cells.{word_of, place_of, flag_of, count_of, cell, IsAlike, AreMarked}
+use Rattle.polygons.specs.Cells.{word_of, bit_in_block, flag_of, counter_at, cell, IsAlike, AreMarked}
 use Rattle.polygons.specs.Summing.{run, nonzero_bit}
 use Rattle.polygons.proofs.Bytes.{low_byte}
 use Rattle.polygons.proofs.Plotted.{times_sum}
@@ -106,16 +106,16 @@ marks_of_column flags counters n i r j marked li lr lj z =
     let k : ℕ = 8 * n + j in
     let a : k / 8 ≡ n = omega arith in
     let w : word_of s row ≡ i = omega arith in
-    let p : place_of row k ≡ 8 * r + j = omega arith in
-    let d : 64 * word_of s row + place_of row k ≡ 8 * (8 * i + r) + j = omega arith in
+    let p : bit_in_block row k ≡ 8 * r + j = omega arith in
+    let d : 64 * word_of s row + bit_in_block row k ≡ 8 * (8 * i + r) + j = omega arith in
     let f : flag_of flags s row k ≡ bit_at (slice_index (row_of flags n) i) (8 * r + j) = λ x. bit_at (slice_index (row_of flags (a x)) (w x)) (p x) in
-    let g : count_of counters s row k ≡ slice_index (row_of counters n) (8 * (8 * i + r) + j) = λ x. slice_index (row_of counters (a x)) (d x) in
+    let g : counter_at counters s row k ≡ slice_index (row_of counters n) (8 * (8 * i + r) + j) = λ x. slice_index (row_of counters (a x)) (d x) in
     sym g ∙ marked s row k (omega arith) (omega arith) (f ∙ z)
 
 count_in : (flags counters : List (List ℕ)) (s row n k : ℕ) → k < 8 → cell NonZero flags counters s row (8 * n + k) ≡ pos (slice_index (row_of counters n) (8 * (8 * word_of s row + row % 8) + k))
 count_in flags counters s row n k h =
     let a : (8 * n + k) / 8 ≡ n = omega arith in
-    let d : 64 * word_of s row + place_of row (8 * n + k) ≡ 8 * (8 * word_of s row + row % 8) + k = omega arith in
+    let d : 64 * word_of s row + bit_in_block row (8 * n + k) ≡ 8 * (8 * word_of s row + row % 8) + k = omega arith in
     λ x. pos (slice_index (row_of counters (a x)) (d x))
 
 -- the sum of a row, if the sums so far are those of the columns before

@@ -12,7 +12,7 @@ use Rattle.grid.specs.declared.sample_count.SampleCount.TheVariants.{One, Two, F
 use Rattle.polygons.specs.declared.edge.Edge.{Edge}
 use Rattle.polygons.specs.declared.rule.Rule.{Rule}
 use Rattle.polygons.specs.Crossing.{IsInside}
-use Rattle.polygons.specs.Blocks.{in_block, IsMaskOf, IsSampleMask}
+use Rattle.polygons.specs.Blocks.{in_block, IsBlockMask, IsSampleMask}
 
 -- ---- a bit that is set
 on : (n i : ℕ) → bit_at n i ≡ 1 → IsBitSet n i
@@ -70,7 +70,7 @@ same_place bx by s row column count =
     let y : pos (256 * (8 * by) + slice_index (offsets_y count) s) +ℤ pos (256 * row) ≡ pos (256 * (8 * by + row) + slice_index (offsets_y count) s) = omega (arith, ints) in
     λ i. record { x = x i; y = y i }
 
-pub mask_of_samples : (rule : Rule) (edges : List Edge) (bx by s : ℕ) (count : SampleCount) (p : Position) (mask : ℕ) → p ≡ sample_position (8 * bx) (8 * by) s count → IsMaskOf rule edges p mask → IsSampleMask rule edges bx by s count mask
+pub mask_of_samples : (rule : Rule) (edges : List Edge) (bx by s : ℕ) (count : SampleCount) (p : Position) (mask : ℕ) → p ≡ sample_position (8 * bx) (8 * by) s count → IsBlockMask rule edges p mask → IsSampleMask rule edges bx by s count mask
 mask_of_samples rule edges bx by s count p mask e h row column k l =
     let place : in_block p row column ≡ sample_position (8 * bx + column) (8 * by + row) s count = ap (λ (q : Position). in_block q row column) e ∙ same_place bx by s row column count in
     let exact = h row column k l in (

@@ -8,7 +8,7 @@ use Rattle.std.specs.Int.{bit_at, int_max}
 use Rattle.std.specs.Int.RustNames.{int_le, bit_xor}
 use Rattle.polygons.specs.Rows.{sum_to, from_column}
 use Rattle.polygons.specs.ManyRows.{row_of}
-use Rattle.polygons.specs.Cells.{word_of, place_of, flag_of, signed, IsAlike}
+use Rattle.polygons.specs.Cells.{word_of, bit_in_block, flag_of, signed, IsAlike}
 use Rattle.polygons.proofs.RowLists.{row-here, row-other}
 use Rattle.polygons.proofs.Tests.{le_no}
 use Rattle.polygons.proofs.Counters.{number_at, number-here, number-elsewhere, sums-added, same-test}
@@ -32,11 +32,11 @@ word-other flags j i v l m h other = elim (cases_eq l j) [
 
 -- ---- one flag
 pub set_here : (flags : List (List ℕ)) (s row k w v : ℕ) → w ≡ word_of s row → k / 8 < length flags → w < length (row_of flags (k / 8))
-    → flag_of (set flags (k / 8) (set (row_of flags (k / 8)) w v)) s row k ≡ bit_at v (place_of row k)
+    → flag_of (set flags (k / 8) (set (row_of flags (k / 8)) w v)) s row k ≡ bit_at v (bit_in_block row k)
 set_here flags s row k w v is h l =
     let a = word-here flags (k / 8) w v h l in
     let changed = set flags (k / 8) (set (row_of flags (k / 8)) w v) in
-    ap (λ n. bit_at (slice_index (row_of changed (k / 8)) n) (place_of row k)) (sym is) ∙ ap (λ x. bit_at x (place_of row k)) a
+    ap (λ n. bit_at (slice_index (row_of changed (k / 8)) n) (bit_in_block row k)) (sym is) ∙ ap (λ x. bit_at x (bit_in_block row k)) a
 
 same_word : (r j s row : ℕ) → r < 4 → s < 4 → word_of r j ≡ word_of s row → r ≡ s
 same_word r j s row h k e = omega arith
@@ -44,32 +44,32 @@ same_word r j s row h k e = omega arith
 same_eight : (r j s row : ℕ) → r < 4 → s < 4 → word_of r j ≡ word_of s row → j / 8 ≡ row / 8
 same_eight r j s row h k e = omega arith
 
-same_row : (j m row k : ℕ) → j / 8 ≡ row / 8 → place_of j m ≡ place_of row k → j ≡ row
+same_row : (j m row k : ℕ) → j / 8 ≡ row / 8 → bit_in_block j m ≡ bit_in_block row k → j ≡ row
 same_row j m row k e f = omega arith
 
-same_column : (j m row k : ℕ) → m / 8 ≡ k / 8 → place_of j m ≡ place_of row k → m ≡ k
+same_column : (j m row k : ℕ) → m / 8 ≡ k / 8 → bit_in_block j m ≡ bit_in_block row k → m ≡ k
 same_column j m row k e f = omega arith
 
-place_small : (row k : ℕ) → place_of row k < 64
+place_small : (row k : ℕ) → bit_in_block row k < 64
 place_small row k = omega arith
 
-pub set_other : (flags : List (List ℕ)) (s row k w b v : ℕ) → w ≡ word_of s row → b ≡ place_of row k → k / 8 < length flags → w < length (row_of flags (k / 8)) → s < 4
+pub set_other : (flags : List (List ℕ)) (s row k w b v : ℕ) → w ≡ word_of s row → b ≡ bit_in_block row k → k / 8 < length flags → w < length (row_of flags (k / 8)) → s < 4
     → ((i : ℕ) → i < 64 → i ≢ b → bit_at v i ≡ bit_at (slice_index (row_of flags (k / 8)) w) i)
     → (r j m : ℕ) → r < 4 → j < 64 → (r ≡ s → j ≡ row → m ≡ k → ⊥)
     → flag_of (set flags (k / 8) (set (row_of flags (k / 8)) w v)) r j m ≡ flag_of flags r j m
 set_other flags s row k w b v is at h l small same r j m r_small j_small other =
     let changed : List (List ℕ) = set flags (k / 8) (set (row_of flags (k / 8)) w v) in
     elim (cases_eq (m / 8) (k / 8)) [
-      | inr e ↦ ap (λ x. bit_at x (place_of j m)) (word-other flags (k / 8) w v (m / 8) (word_of r j) h (λ f g. e f))
+      | inr e ↦ ap (λ x. bit_at x (bit_in_block j m)) (word-other flags (k / 8) w v (m / 8) (word_of r j) h (λ f g. e f))
       | inl e ↦ elim (cases_eq (word_of r j) w) [
-        | inr f ↦ ap (λ x. bit_at x (place_of j m)) (word-other flags (k / 8) w v (m / 8) (word_of r j) h (λ q g. f g))
+        | inr f ↦ ap (λ x. bit_at x (bit_in_block j m)) (word-other flags (k / 8) w v (m / 8) (word_of r j) h (λ q g. f g))
         | inl f ↦
             let a = word-here flags (k / 8) w v h l in
             let new : slice_index (row_of changed (m / 8)) (word_of r j) ≡ v = ap (λ n. slice_index (row_of changed n) (word_of r j)) e ∙ ap (λ n. slice_index (row_of changed (k / 8)) n) f ∙ a in
             let old : slice_index (row_of flags (m / 8)) (word_of r j) ≡ slice_index (row_of flags (k / 8)) w = ap (λ n. slice_index (row_of flags n) (word_of r j)) e ∙ ap (λ n. slice_index (row_of flags (k / 8)) n) f in
             let eight = same_eight r j s row r_small small (f ∙ is) in
-            let apart : place_of j m ≢ b = λ q. other (same_word r j s row r_small small (f ∙ is)) (same_row j m row k eight (q ∙ at)) (same_column j m row k e (q ∙ at)) in
-            ap (λ x. bit_at x (place_of j m)) new ∙ same (place_of j m) (place_small j m) apart ∙ sym (ap (λ x. bit_at x (place_of j m)) old)
+            let apart : bit_in_block j m ≢ b = λ q. other (same_word r j s row r_small small (f ∙ is)) (same_row j m row k eight (q ∙ at)) (same_column j m row k e (q ∙ at)) in
+            ap (λ x. bit_at x (bit_in_block j m)) new ∙ same (bit_in_block j m) (place_small j m) apart ∙ sym (ap (λ x. bit_at x (bit_in_block j m)) old)
       ]
     ]
 
@@ -96,7 +96,7 @@ marked_here x b h = bit_at_set_same w64 x b h
 pub marked_other : (x b i : ℕ) → b < 64 → i ≢ b → bit_at (bit_or x (1 * 2 ^ b % 2 ^ 64)) i ≡ bit_at x i
 marked_other x b i h n = bit_at_set_other w64 x b h i n
 
-pub flip_here : (flags : List (List ℕ)) (s row k w b : ℕ) → w ≡ word_of s row → b ≡ place_of row k → b < 64 → k / 8 < length flags → w < length (row_of flags (k / 8))
+pub flip_here : (flags : List (List ℕ)) (s row k w b : ℕ) → w ≡ word_of s row → b ≡ bit_in_block row k → b < 64 → k / 8 < length flags → w < length (row_of flags (k / 8))
     → flag_of (set flags (k / 8) (set (row_of flags (k / 8)) w (bit_xor (slice_index (row_of flags (k / 8)) w) (1 * 2 ^ b % 2 ^ 64)))) s row k ≡ (flag_of flags s row k + 1) % 2
 flip_here flags s row k w b is at small h l =
     let x : ℕ = slice_index (row_of flags (k / 8)) w in
@@ -104,7 +104,7 @@ flip_here flags s row k w b is at small h l =
     let old : bit_at x b ≡ flag_of flags s row k = λ i. bit_at (slice_index (row_of flags (k / 8)) (is i)) (at i) in
     set_here flags s row k w v is h l ∙ ap (bit_at v) (sym at) ∙ flipped_here x b small ∙ ap (λ n. (n + 1) % 2) old
 
-pub mark_here : (flags : List (List ℕ)) (s row k w b : ℕ) → w ≡ word_of s row → b ≡ place_of row k → b < 64 → k / 8 < length flags → w < length (row_of flags (k / 8))
+pub mark_here : (flags : List (List ℕ)) (s row k w b : ℕ) → w ≡ word_of s row → b ≡ bit_in_block row k → b < 64 → k / 8 < length flags → w < length (row_of flags (k / 8))
     → flag_of (set flags (k / 8) (set (row_of flags (k / 8)) w (bit_or (slice_index (row_of flags (k / 8)) w) (1 * 2 ^ b % 2 ^ 64)))) s row k ≡ 1
 mark_here flags s row k w b is at small h l =
     let x : ℕ = slice_index (row_of flags (k / 8)) w in

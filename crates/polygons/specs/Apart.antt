@@ -4,7 +4,7 @@ use Rattle.polygons.specs.declared.edge.Edge.{Edge}
 use Rattle.polygons.specs.declared.extent.Extent.{Extent}
 use Rattle.polygons.specs.declared.strip.Strip.{Strip}
 use Rattle.polygons.specs.Rings.{IsInExtent}
-use Rattle.polygons.specs.Strip.{sample_of}
+use Rattle.polygons.specs.Strip.{strip_sample}
 
 -- Both ends are at the upper border of the strip, or above it.
 abbrev pub IsAbove : Edge → Strip → Type 0
@@ -25,4 +25,4 @@ IsApart e strip columns = IsAbove e strip ⊎ (IsBelow e strip ⊎ IsRight e str
 
 -- No sample in these columns of blocks is in the box.
 abbrev pub LiesBeside : Extent → Strip → ℕ → Type 0
-LiesBeside e strip columns = (s row k : ℕ) → row < 64 → k < 8 * columns → ¬ IsInExtent e (sample_of strip s row k)
+LiesBeside e strip columns = (s row k : ℕ) → row < 64 → k < 8 * columns → ¬ IsInExtent e (strip_sample strip s row k)

@@ -5,7 +5,7 @@ use Rattle.grid.specs.Position.{Position, IsInGuardBand}
 use Rattle.polygons.specs.declared.arrays.ArraysError.{ArraysError}
 use Rattle.polygons.specs.declared.arrays.ArraysError.TheVariants.{TooManyCorners, Ring, CornersLeft, Polygon, RingsLeft, OutOfBand}
 use Rattle.polygons.specs.declared.corner.Corner.{Corner}
-use Rattle.polygons.specs.Rings.{position_of, rings_from, AreCornersInBand, AreEnds}
+use Rattle.polygons.specs.Rings.{position_of, rings_from, AreCornersInBand, AreAscendingEnds}
 
 -- Where part k begins: where the one before it ends.
 abbrev pub begin_of : List ℕ → ℕ → ℕ
@@ -21,7 +21,7 @@ rings_of corners ring_ends polygon_ends k = rings_from corners (begin_of ring_en
 
 -- The parts end one after another, and the last one with the whole, which has n elements.
 pub record AreParts (ends : List ℕ) (n : ℕ) : Type 0 where
-  pub rising : AreEnds 0 ends n
+  pub rising : AreAscendingEnds 0 ends n
   pub whole : begin_of ends (length ends) ≡ n
 
 -- The arrays are those of polygons.
@@ -34,12 +34,12 @@ pub record ArePolygons (corners : List Corner) (ring_ends polygon_ends : List �
 -- Part k is the first that ends before it begins, or behind the whole, which has n elements.
 pub record IsFirstFall (ends : List ℕ) (n k : ℕ) : Type 0 where
   pub inside : k < length ends
-  pub before : AreEnds 0 (take k ends) n
+  pub before : AreAscendingEnds 0 (take k ends) n
   pub falls : ¬ ((begin_of ends k ≤ slice_index ends k) × (slice_index ends k ≤ n))
 
 -- The last part ends before the whole does, which has n elements.
 pub record IsShort (ends : List ℕ) (n : ℕ) : Type 0 where
-  pub rising : AreEnds 0 ends n
+  pub rising : AreAscendingEnds 0 ends n
   pub short : begin_of ends (length ends) < n
 
 -- Corner k is the first outside of the guard band.

@@ -18,8 +18,8 @@ abbrev pub in_block : Position → ℕ → ℕ → Position
 in_block p row column = along (down p row) (pos column)
 
 -- Bit 8 row + column of the mask says whether the sample there is inside of the edges by the rule.
-abbrev pub IsMaskOf : Rule → List Edge → Position → ℕ → Type 0
-IsMaskOf rule edges p mask =
+abbrev pub IsBlockMask : Rule → List Edge → Position → ℕ → Type 0
+IsBlockMask rule edges p mask =
     (row column : ℕ) → row < 8 → column < 8 → ((bit_at mask (8 * row + column) ≡ 1) ↔ IsInside rule edges (in_block p row column))
 
 -- The first eight bits say it of a row.

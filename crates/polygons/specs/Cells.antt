@@ -8,32 +8,32 @@ use Rattle.polygons.specs.declared.rule.Rule.TheVariants.{EvenOdd, NonZero}
 use Rattle.polygons.specs.declared.strip.Strip.{Strip}
 use Rattle.polygons.specs.Rows.{sum_to}
 use Rattle.polygons.specs.ManyRows.{row_of}
-use Rattle.polygons.specs.Strip.{sample_of}
+use Rattle.polygons.specs.Strip.{strip_sample}
 
 -- The word of a sample's row in a column of blocks: of each row of blocks there are four.
 abbrev pub word_of : ℕ → ℕ → ℕ
 word_of s row = 4 * (row / 8) + s
 
 -- The bit of a pixel in its block.
-abbrev pub place_of : ℕ → ℕ → ℕ
-place_of row k = 8 * (row % 8) + k % 8
+abbrev pub bit_in_block : ℕ → ℕ → ℕ
+bit_in_block row k = 8 * (row % 8) + k % 8
 
 -- The flag of sample s of the pixel in a row and a column.
 abbrev pub flag_of : List (List ℕ) → ℕ → ℕ → ℕ → ℕ
-flag_of flags s row k = bit_at (slice_index (row_of flags (k / 8)) (word_of s row)) (place_of row k)
+flag_of flags s row k = bit_at (slice_index (row_of flags (k / 8)) (word_of s row)) (bit_in_block row k)
 
--- Its counter.
-abbrev pub count_of : List (List ℕ) → ℕ → ℕ → ℕ → ℕ
-count_of counters s row k = slice_index (row_of counters (k / 8)) (64 * word_of s row + place_of row k)
+-- The counter of that sample.
+abbrev pub counter_at : List (List ℕ) → ℕ → ℕ → ℕ → ℕ
+counter_at counters s row k = slice_index (row_of counters (k / 8)) (64 * word_of s row + bit_in_block row k)
 
 -- What stands there for the rule: a flag, or a counter.
 abbrev pub cell : Rule → List (List ℕ) → List (List ℕ) → ℕ → ℕ → ℕ → ℤ
 cell EvenOdd flags counters s row k = pos (flag_of flags s row k)
-cell NonZero flags counters s row k = pos (count_of counters s row k)
+cell NonZero flags counters s row k = pos (counter_at counters s row k)
 
 -- The sum of the flags or counters of a row up to column k.
-abbrev pub total : Rule → List (List ℕ) → List (List ℕ) → ℕ → ℕ → ℕ → ℤ
-total rule flags counters s row k = sum_to (cell rule flags counters s row) (k + 1)
+abbrev pub running_sum : Rule → List (List ℕ) → List (List ℕ) → ℕ → ℕ → ℕ → ℤ
+running_sum rule flags counters s row k = sum_to (cell rule flags counters s row) (k + 1)
 
 -- Flags are sums modulo 2, and counters modulo 2 ^ 32.
 abbrev pub modulus : Rule → ℕ
@@ -53,7 +53,7 @@ HasCounters NonZero flags counters = length counters ≡ length flags
 -- A counter other than 0 has its flag set.
 abbrev pub AreMarked : Rule → List (List ℕ) → List (List ℕ) → Type 0
 AreMarked EvenOdd flags counters = Unit {0}
-AreMarked NonZero flags counters = (s row k : ℕ) → s < 4 → row < 64 → flag_of flags s row k ≡ 0 → count_of counters s row k ≡ 0
+AreMarked NonZero flags counters = (s row k : ℕ) → s < 4 → row < 64 → flag_of flags s row k ≡ 0 → counter_at counters s row k ≡ 0
 
 -- The number, or its opposite.
 abbrev pub signed : Bool → ℤ → ℤ
@@ -64,7 +64,7 @@ signed false z = neg_ℤ z
 pub record IsPlotted (rule : Rule) (strip : Strip) (change : Position → ℤ) (flags counters flags' counters' : List (List ℕ)) : Type 0 where
   pub flags_len : length flags' ≡ length flags
   pub counters_len : length counters' ≡ length counters
-  pub totals : (s row k : ℕ) → s < part_size strip.count → row < 64 → k < 8 * length flags → IsAlike (modulus rule) (total rule flags' counters' s row k) (total rule flags counters s row k +ℤ change (sample_of strip s row k))
+  pub totals : (s row k : ℕ) → s < part_size strip.count → row < 64 → k < 8 * length flags → IsAlike (modulus rule) (running_sum rule flags' counters' s row k) (running_sum rule flags counters s row k +ℤ change (strip_sample strip s row k))
   pub marked : AreMarked rule flags counters → AreMarked rule flags' counters'
   pub kept : rule ≡ EvenOdd → counters' ≡ counters
 

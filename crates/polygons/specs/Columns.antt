@@ -36,13 +36,13 @@ pub record IsAtColumn (e : Edge) (p : Position) (column rest : ℤ) : Type 0 whe
   pub rest_high : rest <ℤ (e.b.y -ℤ e.a.y)
 
 -- The edge's width as a quotient and a remainder by its height.
-pub record IsStep (e : Edge) (columns part : ℤ) : Type 0 where
+pub record IsEdgeStep (e : Edge) (columns part : ℤ) : Type 0 where
   pub sum : e.b.x -ℤ e.a.x ≡ columns *ℤ (e.b.y -ℤ e.a.y) +ℤ part
   pub part_low : pos 0 ≤ℤ part
   pub part_high : part <ℤ (e.b.y -ℤ e.a.y)
 
--- All coordinates are inside of the guard band.
-pub record AreInBand (e : Edge) (x : ℤ) : Type 0 where
+-- All coordinates of the edge, and x, are inside of the guard band.
+pub record IsWalkInBand (e : Edge) (x : ℤ) : Type 0 where
   pub ax : IsInBand e.a.x
   pub ay : IsInBand e.a.y
   pub bx : IsInBand e.b.x
@@ -51,9 +51,9 @@ pub record AreInBand (e : Edge) (x : ℤ) : Type 0 where
 
 -- What is kept of an edge at a row: the numbers of the step, and the first column with what is left there.
 pub record IsWalking (e : Edge) (p : Position) (height columns part column rest : ℤ) : Type 0 where
-  pub band : AreInBand e p.x
+  pub band : IsWalkInBand e p.x
   pub range : HasHeight e p.y
   pub tall : height ≡ e.b.y -ℤ e.a.y
-  pub step : IsStep e columns part
+  pub step : IsEdgeStep e columns part
   pub size : IsWithin (2 ^ 25) columns
   pub place : IsAtColumn e p column rest

@@ -25,14 +25,14 @@ abbrev pub SharedEdgesCancel : Rule → List Edge → List Edge → List Edge �
 SharedEdgesCancel rule first shared second p =
     IsInside rule ((first ++ shared) ++ (map reversed shared ++ second)) p ↔ IsInside rule (first ++ second) p
 
--- A position moved by a distance in each coordinate.
-abbrev pub moved : Position → Position → Position
-moved by p = record { x = p.x +ℤ by.x; y = p.y +ℤ by.y }
+-- A position translated by a distance in each coordinate.
+abbrev pub translated : Position → Position → Position
+translated by p = record { x = p.x +ℤ by.x; y = p.y +ℤ by.y }
 
--- An edge moved by a distance in each coordinate.
-abbrev pub moved_edge : Position → Edge → Edge
-moved_edge by e = record { a = moved by e.a; b = moved by e.b }
+-- An edge translated by a distance in each coordinate.
+abbrev pub translated_edge : Position → Edge → Edge
+translated_edge by e = record { a = translated by e.a; b = translated by e.b }
 
 -- What is inside moves with the edges.
 abbrev pub MovesAlong : Rule → Position → List Edge → Position → Type 0
-MovesAlong rule by edges p = IsInside rule (map (moved_edge by) edges) (moved by p) ↔ IsInside rule edges p
+MovesAlong rule by edges p = IsInside rule (map (translated_edge by) edges) (translated by p) ↔ IsInside rule edges p

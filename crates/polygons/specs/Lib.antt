@@ -25,11 +25,11 @@
 -- Rings.antt
 --   position_of: Where a corner lies.
 --   AreCornersInBand: All corners are inside of the guard band.
---   AreEnds: Each ring, the first of which begins at `start`, ends no earlier than it begins, and the next one begins there.
+--   AreAscendingEnds: Each ring, the first of which begins at `start`, ends no earlier than it begins, and the next one begins there.
 --   end_of: The index behind the last ring's last corner.
 --   rings_from: The rings of these corners, by where the first begins and by the index behind the last corner of each.
 --   IsInExtent: The point is in the box, whose right and lower sides are outside of it.
---   IsWithin: The point is in the box or on its border.
+--   IsInClosedExtent: The point is in the box or on its border.
 --   HoldsInside: By either rule the edges have nothing inside but in the box.
 --
 -- Arrays.antt
@@ -48,8 +48,8 @@
 --   CrossingsAdd: The crossings of two lists of edges together are the sum, and so is the winding number.
 --   AreOpposite: An edge is crossed downwards where its reverse is crossed upwards.
 --   SharedEdgesCancel: Edges that one polygon has in one direction and its neighbour in the other cancel.
---   moved: A position moved by a distance in each coordinate.
---   moved_edge: An edge moved by a distance in each coordinate.
+--   translated: A position translated by a distance in each coordinate.
+--   translated_edge: An edge translated by a distance in each coordinate.
 --   MovesAlong: What is inside moves with the edges.
 --
 -- Partition.antt
@@ -69,8 +69,8 @@
 --   IsFirstColumn: Of the samples that lie a whole number of pixels from p, those from column c on are crossed, and no other.
 --   Walk: An edge that runs downwards, and the sample of column 0 in one of the rows that it runs through.
 --   IsAtColumn: The edge function at the first column, by its absolute value in 256 times 1/65536 square pixel, rounded down.
---   IsStep: The edge's width as a quotient and a remainder by its height.
---   AreInBand: All coordinates are inside of the guard band.
+--   IsEdgeStep: The edge's width as a quotient and a remainder by its height.
+--   IsWalkInBand: All coordinates of the edge, and x, are inside of the guard band.
 --   IsWalking: What is kept of an edge at a row: the numbers of the step, and the first column with what is left there.
 --
 -- Rows.antt
@@ -87,7 +87,7 @@
 -- Blocks.antt
 --   down: The position this many pixels below p.
 --   in_block: The sample in a row and a column of a block, whose first sample is p.
---   IsMaskOf: Bit 8 row + column of the mask says whether the sample there is inside of the edges by the rule.
+--   IsBlockMask: Bit 8 row + column of the mask says whether the sample there is inside of the edges by the rule.
 --   IsBlockRow: The first eight bits say it of a row.
 --   IsSampleMask: Bit 8 row + column of the mask says whether sample s of the pixel there is inside of the edges by the rule.
 --
@@ -100,7 +100,7 @@
 --
 -- Strip.antt
 --   start_of: Where the first pixel of a strip has sample s of the part.
---   sample_of: Where the pixel in a row and a column of a strip has sample s of the part.
+--   strip_sample: Where the pixel in a row and a column of a strip has sample s of the part.
 --
 -- Apart.antt
 --   IsAbove: Both ends are at the upper border of the strip, or above it.
@@ -118,11 +118,11 @@
 --
 -- Cells.antt
 --   word_of: The word of a sample's row in a column of blocks: of each row of blocks there are four.
---   place_of: The bit of a pixel in its block.
+--   bit_in_block: The bit of a pixel in its block.
 --   flag_of: The flag of sample s of the pixel in a row and a column.
---   count_of: Its counter.
+--   counter_at: The counter of that sample.
 --   cell: What stands there for the rule: a flag, or a counter.
---   total: The sum of the flags or counters of a row up to column k.
+--   running_sum: The sum of the flags or counters of a row up to column k.
 --   modulus: Flags are sums modulo 2, and counters modulo 2 ^ 32.
 --   IsAlike: The numbers differ by a multiple of m.
 --   HasCounters: The nonzero rule has as many columns of counters as of flags.

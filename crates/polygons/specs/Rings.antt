@@ -18,7 +18,7 @@ AreCornersInBand corners = All (λ c. IsInGuardBand (position_of c)) corners
 
 -- Each ring, the first of which begins at `start`, ends no earlier than it begins, and the next one begins there. No ring ends behind
 -- `limit`.
-pub record AreEnds (start : ℕ) (ends : List ℕ) (limit : ℕ) : Type 0 where
+pub record AreAscendingEnds (start : ℕ) (ends : List ℕ) (limit : ℕ) : Type 0 where
   pub begins : start ≤ limit
   pub rising : (k : ℕ) → k < length ends → slice_index (start ∷ ends) k ≤ slice_index ends k
   pub within : (k : ℕ) → k < length ends → slice_index ends k ≤ limit
@@ -40,7 +40,7 @@ pub record IsInExtent (e : Extent) (p : Position) : Type 0 where
   pub bottom : p.y <ℤ e.bottom
 
 -- The point is in the box or on its border.
-pub record IsWithin (e : Extent) (p : Position) : Type 0 where
+pub record IsInClosedExtent (e : Extent) (p : Position) : Type 0 where
   pub left : e.left ≤ℤ p.x
   pub right : p.x ≤ℤ e.right
   pub top : e.top ≤ℤ p.y

@@ -8,7 +8,7 @@ use Rattle.polygons.specs.declared.runs.Runs.{Runs}
 use Rattle.polygons.specs.Crossing.{winding}
 use Rattle.polygons.specs.Polygon.{path_edges, path_end}
 use Rattle.polygons.specs.Rows.{direction}
-use Rattle.polygons.specs.Rings.{position_of, end_of, IsWithin}
+use Rattle.polygons.specs.Rings.{position_of, end_of, IsInClosedExtent}
 
 -- Where corner i lies.
 abbrev pub corner_at : List Corner → ℕ → Position
@@ -31,4 +31,4 @@ box_of runs run = slice_index_or runs.boxes run (record { left = pos 0; top = po
 abbrev pub AreRunsOf : Runs → Rings → Type 0
 AreRunsOf runs rings =
     (run i : ℕ) → run < runs.count → rings.start + run * runs.length ≤ i → i ≤ rings.start + (run + 1) * runs.length → i < end_of rings.start rings.ends.now
-    → IsWithin (box_of runs run) (corner_at rings.corners.now i)
+    → IsInClosedExtent (box_of runs run) (corner_at rings.corners.now i)

@@ -11,5 +11,5 @@ abbrev pub start_of : Strip → ℕ → Position
 start_of strip s = screen_sample strip.column strip.row (strip.from + s) strip.count
 
 -- Where the pixel in a row and a column of a strip has sample s of the part.
-abbrev pub sample_of : Strip → ℕ → ℕ → ℕ → Position
-sample_of strip s row column = along (down (start_of strip s) row) (pos column)
+abbrev pub strip_sample : Strip → ℕ → ℕ → ℕ → Position
+strip_sample strip s row column = along (down (start_of strip s) row) (pos column)

@@ -1,6 +1,6 @@
 //! Polygons in a caller's arrays.
 ghost use Rattle.std.specs.Prelude.{◌≡◌, ◌^◌, ◌<◌, length, ◌+◌, IfOk, IfErr, IfSome, None as Nothing};
-ghost use Rattle.polygons.specs.Rings.{AreCornersInBand, AreEnds};
+ghost use Rattle.polygons.specs.Rings.{AreCornersInBand, AreAscendingEnds};
 ghost use Rattle.polygons.specs.Arrays.{ArePolygons, IsFirstFall, IsFirstOutside, IsWrong, begin_of as begin};
 
 use crate::corner::Corner;
@@ -38,7 +38,7 @@ pub enum ArraysError {
 /// The index of the first part that ends before it begins, or behind the whole, which has `whole` elements.
 fn first_fall(ends: &[u32], whole: usize) -> Option<usize>
     ensures some { IfSome result (λ k. IsFirstFall ends.now whole k) }
-    ensures none { result ≡ Nothing → AreEnds 0 ends.now whole }
+    ensures none { result ≡ Nothing → AreAscendingEnds 0 ends.now whole }
 {
     let mut begin = 0;
     for (k, end) in ends.iter().enumerate() {

@@ -2,7 +2,7 @@
 ghost use Rattle.std.specs.Prelude.{◌≡◌, ◌^◌, ◌*◌, ◌<◌, pos, ◌+ℤ◌, length};
 ghost use Rattle.grid.specs.Position.{IsInBand};
 ghost use Rattle.grid.specs.Samples.{count_of};
-ghost use Rattle.polygons.specs.Blocks.{down, IsMaskOf, IsBlockRow, IsSampleMask};
+ghost use Rattle.polygons.specs.Blocks.{down, IsBlockMask, IsBlockRow, IsSampleMask};
 ghost use Rattle.polygons.specs.declared.rule.Rule.TheVariants.{EvenOdd, NonZero};
 
 use crate::edge::Edge;
@@ -70,7 +70,7 @@ fn lower(y: i32, row: u32) -> i32
 pub fn block_mask(edges: &[Edge], rule: Rule, start: Point) -> u64
     requires edges { length edges.now < 2 ^ 30 }
     requires start { IsInBand (start.y +ℤ pos 1792) }
-    ensures { IsMaskOf rule edges.now start result }
+    ensures { IsBlockMask rule edges.now start result }
 {
     let mut mask = 0;
     for row in 0..8u32 {

@@ -3,7 +3,7 @@
 //! each word, one for each bit.
 ghost use Rattle.std.specs.Prelude.{◌≡◌, ℕ, ◌+◌, ◌*◌, ◌%◌, ◌^◌, ◌<◌, pos, negsuc, ◌+ℤ◌, cond, length};
 ghost use Rattle.polygons.specs.Rows.{from_column};
-ghost use Rattle.polygons.specs.Cells.{flag_of, count_of, total, modulus, signed, IsAlike, HasCounters, AreMarked};
+ghost use Rattle.polygons.specs.Cells.{flag_of, counter_at, running_sum, modulus, signed, IsAlike, HasCounters, AreMarked};
 ghost use Rattle.polygons.specs.declared.rule.Rule.TheVariants.{EvenOdd};
 
 use crate::rule::Rule;
@@ -28,7 +28,7 @@ fn word(s: usize, row: usize) -> usize
 /// The bit of a pixel.
 #[inline(always)]
 fn bit(row: usize, column: usize) -> usize
-    ensures value { result ≡ Rattle.polygons.specs.Cells.place_of row column }
+    ensures value { result ≡ Rattle.polygons.specs.Cells.bit_in_block row column }
     ensures small { result < 64 }
 {
     8 * (row % 8) + column % 8
@@ -69,10 +69,10 @@ fn count(counters: &mut [Counters], s: usize, row: usize, column: usize, down: b
     requires row { row < 64 }
     requires column { column < 8 * length counters.old }
     ensures len { length counters.new ≡ length counters.old }
-    ensures here { count_of counters.new s row column ≡
-        (count_of counters.old s row column + cond down 1 4294967295) % 2 ^ 32 }
+    ensures here { counter_at counters.new s row column ≡
+        (counter_at counters.old s row column + cond down 1 4294967295) % 2 ^ 32 }
     ensures others { (r j k : ℕ) → r < 4 → j < 64 → (r ≡ s → j ≡ row → k ≡ column → ⊥) →
-        count_of counters.new r j k ≡ count_of counters.old r j k }
+        counter_at counters.new r j k ≡ counter_at counters.old r j k }
 {
     let counter = &mut counters[column / 8][64 * word(s, row) + bit(row, column)];
     *counter = counter.wrapping_add(if down { 1 } else { u32::MAX });
@@ -96,10 +96,10 @@ pub(crate) fn cross(
     ensures flags { length flags.new ≡ length flags.old }
     ensures counters { length counters.new ≡ length counters.old }
     ensures here { (k : ℕ) → k < 8 * length flags.old →
-        IsAlike (modulus rule) (total rule flags.new counters.new s row k)
-        (total rule flags.old counters.old s row k +ℤ signed down (from_column column (pos 1) k)) }
+        IsAlike (modulus rule) (running_sum rule flags.new counters.new s row k)
+        (running_sum rule flags.old counters.old s row k +ℤ signed down (from_column column (pos 1) k)) }
     ensures others { (r j k : ℕ) → r < 4 → j < 64 → (r ≡ s → j ≡ row → ⊥) →
-        total rule flags.new counters.new r j k ≡ total rule flags.old counters.old r j k }
+        running_sum rule flags.new counters.new r j k ≡ running_sum rule flags.old counters.old r j k }
     ensures marked { AreMarked rule flags.old counters.old → AreMarked rule flags.new counters.new }
     ensures kept { rule ≡ EvenOdd → counters.new ≡ counters.old }
 {

@@ -1,6 +1,6 @@
 //! The box of a polygon's corners.
 ghost use Rattle.grid.specs.Position.{Position};
-ghost use Rattle.polygons.specs.Rings.{position_of, IsWithin, IsInExtent};
+ghost use Rattle.polygons.specs.Rings.{position_of, IsInClosedExtent, IsInExtent};
 
 use crate::corner::Corner;
 
@@ -25,8 +25,8 @@ impl Extent {
     /// The box with one corner more.
     #[inline(always)]
     pub(crate) fn with(self, corner: &Corner) -> Extent
-        ensures corner { IsWithin result (position_of corner.now) }
-        ensures others { (p : Position) → IsWithin self p → IsWithin result p }
+        ensures corner { IsInClosedExtent result (position_of corner.now) }
+        ensures others { (p : Position) → IsInClosedExtent self p → IsInClosedExtent result p }
         ensures inside { (p : Position) → IsInExtent self p → IsInExtent result p }
     {
         Extent {

@@ -53,7 +53,7 @@ pub fn count_both(first: &[Edge], second: &[Edge], p: Point) -> Crossings
 
 /// Whether `p` is inside of what the edges bound, by the rule. Edges that one polygon has in one direction and its
 /// neighbour in the other cancel, by either rule: the two polygons together cover what they would cover without these
-/// edges. If all edges and `p` are moved alike, the answer is the same.
+/// edges. If all edges and `p` are translated alike, the answer is the same.
 pub fn edges_cover(edges: &[Edge], rule: Rule, p: Point) -> bool
     requires { length edges.now < 2 ^ 32 }
     ensures value { IsTrue result ↔ IsInside rule edges.now p }

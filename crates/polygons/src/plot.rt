@@ -9,9 +9,9 @@ ghost use Rattle.polygons.specs.Crossing.{winding};
 ghost use Rattle.polygons.specs.Polygon.{path_edges, path_end, ring_edges, polygon_edges};
 ghost use Rattle.polygons.specs.Rings.{position_of, rings_from, end_of, AreCornersInBand};
 ghost use Rattle.polygons.specs.Runs.{corner_at, corners_between, AreRunsOf, IsCrossedAsChord};
-ghost use Rattle.polygons.specs.Strip.{sample_of};
+ghost use Rattle.polygons.specs.Strip.{strip_sample};
 ghost use Rattle.polygons.specs.Rows.{direction};
-ghost use Rattle.polygons.specs.Cells.{total, modulus, signed, IsAlike, HasCounters, AreMarked, IsPlotted};
+ghost use Rattle.polygons.specs.Cells.{running_sum, modulus, signed, IsAlike, HasCounters, AreMarked, IsPlotted};
 ghost use Rattle.polygons.specs.declared.rule.Rule.TheVariants.{EvenOdd};
 
 use crate::apart::is_apart;
@@ -55,11 +55,11 @@ fn plot_sample(
     ensures flags { length flags.new ≡ length flags.old }
     ensures counters { length counters.new ≡ length counters.old }
     ensures here { (row k : ℕ) → row < 64 → k < 8 * length flags.old →
-        IsAlike (modulus rule) (total rule flags.new counters.new s row k)
-        (total rule flags.old counters.old s row k +ℤ signed forward
+        IsAlike (modulus rule) (running_sum rule flags.new counters.new s row k)
+        (running_sum rule flags.old counters.old s row k +ℤ signed forward
         (direction edge.now (along (down start row) (pos k)))) }
     ensures others { (r row k : ℕ) → r < 4 → row < 64 → (r ≡ s → ⊥) →
-        total rule flags.new counters.new r row k ≡ total rule flags.old counters.old r row k }
+        running_sum rule flags.new counters.new r row k ≡ running_sum rule flags.old counters.old r row k }
     ensures marked { AreMarked rule flags.old counters.old → AreMarked rule flags.new counters.new }
     ensures kept { rule ≡ EvenOdd → counters.new ≡ counters.old }
 {
@@ -91,11 +91,11 @@ fn plot_rows(
     ensures flags { length flags.new ≡ length flags.old }
     ensures counters { length counters.new ≡ length counters.old }
     ensures here { (row k : ℕ) → first ≤ row → row < end → k < 8 * length flags.old →
-        IsAlike (modulus rule) (total rule flags.new counters.new s row k)
-        (total rule flags.old counters.old s row k +ℤ signed forward
+        IsAlike (modulus rule) (running_sum rule flags.new counters.new s row k)
+        (running_sum rule flags.old counters.old s row k +ℤ signed forward
         (direction edge.now (along (down start row) (pos k)))) }
     ensures others { (r row k : ℕ) → r < 4 → row < 64 → (r ≡ s → first ≤ row → row < end → ⊥) →
-        total rule flags.new counters.new r row k ≡ total rule flags.old counters.old r row k }
+        running_sum rule flags.new counters.new r row k ≡ running_sum rule flags.old counters.old r row k }
     ensures marked { AreMarked rule flags.old counters.old → AreMarked rule flags.new counters.new }
     ensures kept { rule ≡ EvenOdd → counters.new ≡ counters.old }
 {
@@ -189,7 +189,7 @@ fn plot_run(
     requires counters { HasCounters rule flags.old counters.old }
     requires corners { AreCornersInBand corners.now }
     requires chord { IsTrue is_beside → (s row k : ℕ) → row < 64 → k < 8 * length flags.old →
-        IsCrossedAsChord from (map position_of corners.now) (sample_of strip.now s row k) }
+        IsCrossedAsChord from (map position_of corners.now) (strip_sample strip.now s row k) }
     ensures plotted { IsPlotted rule strip.now (λ p. winding (path_edges from (map position_of corners.now)) p)
         flags.old counters.old flags.new counters.new }
     ensures end { result ≡ path_end from (map position_of corners.now) }

@@ -4,7 +4,7 @@ ghost use Rattle.std.specs.List.{All};
 ghost use Rattle.grid.specs.Position.{Position};
 ghost use Rattle.polygons.specs.Crossing.{winding};
 ghost use Rattle.polygons.specs.Polygon.{ring_edges, polygon_edges};
-ghost use Rattle.polygons.specs.Rings.{position_of, AreCornersInBand, AreEnds, IsInExtent, IsWithin};
+ghost use Rattle.polygons.specs.Rings.{position_of, AreCornersInBand, AreAscendingEnds, IsInExtent, IsInClosedExtent};
 
 use crate::corner::Corner;
 use crate::extent::{Extent, NOTHING};
@@ -19,13 +19,13 @@ pub struct Rings<'a> {
     /// Of each ring the index behind its last corner. The next ring begins there.
     pub ends: &'a [u32],
     pub ghost seen: { AreCornersInBand corners.now },
-    pub ghost rising: { AreEnds start ends.now (length corners.now) },
+    pub ghost rising: { AreAscendingEnds start ends.now (length corners.now) },
     pub ghost few: { length corners.now < 2 ^ 32 },
 }
 
 /// The box with the corners of one ring more.
 pub(crate) fn with_ring(extent: Extent, ring: &[Corner]) -> Extent
-    ensures within { All (IsWithin result) (map position_of ring.now) }
+    ensures within { All (IsInClosedExtent result) (map position_of ring.now) }
     ensures grows { (p : Position) → IsInExtent extent p → IsInExtent result p }
     ensures ring { (p : Position) → ¬ IsInExtent result p → winding (ring_edges (map position_of ring.now)) p ≡ pos 0 }
 {

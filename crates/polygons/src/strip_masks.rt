@@ -1,13 +1,13 @@
 //! What a polygon covers of a strip, as masks of its blocks.
 ghost use Rattle.std.specs.Prelude.{◌≡◌, ℕ, ◌+◌, ◌*◌, ◌<◌, length, slice_index};
 ghost use Rattle.grid.specs.Samples.{part_size};
-ghost use Rattle.polygons.specs.Blocks.{IsMaskOf};
+ghost use Rattle.polygons.specs.Blocks.{IsBlockMask};
 ghost use Rattle.polygons.specs.Polygon.{polygon_edges};
 ghost use Rattle.polygons.specs.Rings.{rings_from};
 ghost use Rattle.polygons.specs.Runs.{AreRunsOf};
 ghost use Rattle.polygons.specs.ManyRows.{row_of};
 ghost use Rattle.polygons.specs.Cells.{HasCounters, AreZeros};
-ghost use Rattle.polygons.specs.Strip.{sample_of};
+ghost use Rattle.polygons.specs.Strip.{strip_sample};
 
 use crate::cells::{Counters, Flags};
 use crate::fill::fill;
@@ -37,8 +37,8 @@ pub fn cover_strip(
     requires runs { AreRunsOf runs.now rings.now }
     ensures len { length flags.new ≡ length flags.old }
     ensures masks { (s row column : ℕ) → s < part_size strip.now.count → row < 8 → column < length flags.old →
-        IsMaskOf rule (polygon_edges (rings_from rings.now.corners.now rings.now.start rings.now.ends.now))
-        (sample_of strip.now s (8 * row) (8 * column)) (slice_index (row_of flags.new column) (4 * row + s)) }
+        IsBlockMask rule (polygon_edges (rings_from rings.now.corners.now rings.now.start rings.now.ends.now))
+        (strip_sample strip.now s (8 * row) (8 * column)) (slice_index (row_of flags.new column) (4 * row + s)) }
     ensures counters { AreZeros counters.new }
 {
     plot(flags, counters, rule, rings, runs, strip);

@@ -1,7 +1,7 @@
 //! From counters to masks: each bit says whether the sum of the counters of its row up to it is other than 0.
 ghost use Rattle.std.specs.Prelude.{◌≡◌, ◌≢◌, ◌↔◌, ℕ, ◌+◌, ◌*◌, ◌/◌, ◌%◌, ◌^◌, ◌<◌, cond, pos, length, slice_index};
 ghost use Rattle.std.specs.Int.{bit_at};
-ghost use Rattle.polygons.specs.Cells.{flag_of, total, IsAlike, AreMarked, AreZeros};
+ghost use Rattle.polygons.specs.Cells.{flag_of, running_sum, IsAlike, AreMarked, AreZeros};
 ghost use Rattle.polygons.specs.Summing.{run, nonzero_bit, IsLevelMask, IsSummed};
 ghost use Rattle.polygons.specs.declared.rule.Rule.TheVariants.{NonZero};
 
@@ -163,7 +163,7 @@ pub(crate) fn sum(flags: &mut [Flags], counters: &mut [Counters])
     ensures len { length flags.new ≡ length flags.old }
     ensures bits { (s row k : ℕ) → s < 4 → row < 64 → k < 8 * length flags.old →
         ((flag_of flags.new s row k ≡ 1) ↔
-        (IsAlike (2 ^ 32) (total NonZero flags.old counters.old s row k) (pos 0) → ⊥)) }
+        (IsAlike (2 ^ 32) (running_sum NonZero flags.old counters.old s row k) (pos 0) → ⊥)) }
     ensures counters { AreZeros counters.new }
 {
     let mut sums = no_sums();

@@ -1,7 +1,7 @@
 use Rattle.std.proofs.Common.{rules, ◌≡◌, ◌∙◌, ap, ℕ, ◌+◌, ◌-◌, ◌*◌, ◌/◌, max, length, inl, inr, refl}
 use Rattle.grid.specs.Samples.{count_of}
 use Rattle.c_abi.specs.Sizes.{IsOwnSize}
-use Rattle.canvas_c.specs.Pieces.{IsCanvas, HasRows, samples_listed, planes_of, AreRowsOf}
+use Rattle.canvas_c.specs.Pieces.{IsCanvas, HasRows, samples_listed, planes_listed, AreRowsOf}
 use Rattle.canvas_c.proofs.Ended.{count_is}
 use Rattle.canvas_c.proofs.piece.rows_of.Goals as goal
 
@@ -19,7 +19,7 @@ returns-then-not-fits-clause-judged c =
     let size : IsOwnSize head.struct_size 56 = search rules in
     let canvas : IsCanvas head = search rules in
     let rows : HasRows head.height head.first head.end = search rules in
-    let misfit : ¬ ((length c.args.planes.now) ≡ planes_of head.width head.samples head.first head.end) = search rules in
+    let misfit : ¬ ((length c.args.planes.now) ≡ planes_listed head.width head.samples head.first head.end) = search rules in
     inr (size, inr (canvas, inr (rows, inl (misfit, refl))))
 
 pub returns-clause-judged : goal.returns-clause-judged
@@ -30,6 +30,6 @@ returns-clause-judged c =
     let rows : HasRows head.height head.first head.end = search rules in
     let are : AreRowsOf head c.in-Some-rows.rows = search rules in
     let planes : length c.args.planes.now ≡ (head.end - head.first) * ((head.width + 63) / 64 * (1 + 65 * count_of (samples_listed head.samples))) = search rules in
-    let fits : length c.args.planes.now ≡ planes_of head.width head.samples head.first head.end =
+    let fits : length c.args.planes.now ≡ planes_listed head.width head.samples head.first head.end =
     planes ∙ ap (λ count. (head.end - head.first) * ((head.width + 63) / 64 * (1 + 65 * count))) (count_is head.samples canvas.pattern) in
     ((size, (canvas, (rows, (fits, record {})))), are)

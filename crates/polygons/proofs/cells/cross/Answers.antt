@@ -3,7 +3,7 @@ use Rattle.std.proofs.lemmas.Int.{ints}
 use Rattle.std.proofs.lemmas.Nat.Bits.{bit_at-lt}
 use Rattle.std.specs.Int.{int_max}
 use Rattle.polygons.specs.declared.rule.Rule.TheVariants.{EvenOdd, NonZero}
-use Rattle.polygons.specs.Cells.{flag_of, count_of, cell, total, modulus, signed, IsAlike}
+use Rattle.polygons.specs.Cells.{flag_of, counter_at, cell, running_sum, modulus, signed, IsAlike}
 use Rattle.polygons.proofs.Exact.{exact64}
 use Rattle.polygons.proofs.Counters.{place_is}
 use Rattle.polygons.proofs.Totals.{crossed_once, signed_column, flip_of, flag_changes, flip_alike, counter_alike, one_changed, sum-same, right_of, same_or_not}
@@ -22,7 +22,7 @@ returns-in-EvenOdd-clause-here c k h =
     let here : g column ≡ f column +ℤ flip_of old = flag_changes old (flag_of c.flip.new.flags c.args.s c.args.row column) (bit_at-lt _ _) c.flip.ensures.here in
     let change = one_changed f g column (flip_of old) here (λ j n. ap pos (c.flip.ensures.others c.args.s c.args.row j c.requires.sample c.requires.row (λ p q e. n e))) in
     let a = crossed_once f g column 2 c.args.column (flip_of old) (signed c.args.down (pos 1)) is change (flip_alike old c.args.down) k in
-    rw c.in-EvenOdd.is (subst (λ (z : ℤ). IsAlike 2 (total EvenOdd c.flip.new.flags c.args.counters.now c.args.s c.args.row k) (total EvenOdd c.args.flags.now c.args.counters.now c.args.s c.args.row k +ℤ z)) (signed_column c.args.down c.args.column k) a)
+    rw c.in-EvenOdd.is (subst (λ (z : ℤ). IsAlike 2 (running_sum EvenOdd c.flip.new.flags c.args.counters.now c.args.s c.args.row k) (running_sum EvenOdd c.args.flags.now c.args.counters.now c.args.s c.args.row k +ℤ z)) (signed_column c.args.down c.args.column k) a)
 
 pub returns-in-EvenOdd-clause-others : goal.returns-in-EvenOdd-clause-others
 returns-in-EvenOdd-clause-others c r j k r_small j_small other =
@@ -34,13 +34,13 @@ pub returns-in-NonZero-clause-here : goal.returns-in-NonZero-clause-here
 returns-in-NonZero-clause-here c k h =
     let is = place c.args.column c.max-column.result c.ranges.column (record { sfits = c.max-column.type_inv }) c.max-column.ensures.value in
     let column : ℕ = nat_abs (to_z w64 (of_z w64 c.max-column.result)) in
-    let old : ℕ = count_of c.args.counters.now c.args.s c.args.row column in
-    let new : ℕ = count_of c.count.new.counters c.args.s c.args.row column in
+    let old : ℕ = counter_at c.args.counters.now c.args.s c.args.row column in
+    let new : ℕ = counter_at c.count.new.counters c.args.s c.args.row column in
     let f : ℕ → ℤ = cell NonZero c.args.flags.now c.args.counters.now c.args.s c.args.row in
     let g : ℕ → ℤ = cell NonZero c.mark.new.flags c.count.new.counters c.args.s c.args.row in
     let change = one_changed f g column (pos new -ℤ pos old) (omega (arith, ints)) (λ j n. ap pos (c.count.ensures.others c.args.s c.args.row j c.requires.sample c.requires.row (λ p q e. n e))) in
     let a = crossed_once f g column (2 ^ 32) c.args.column (pos new -ℤ pos old) (signed c.args.down (pos 1)) is change (counter_alike old new c.args.down c.count.ensures.here) k in
-    rw c.in-NonZero.is (subst (λ (z : ℤ). IsAlike (2 ^ 32) (total NonZero c.mark.new.flags c.count.new.counters c.args.s c.args.row k) (total NonZero c.args.flags.now c.args.counters.now c.args.s c.args.row k +ℤ z)) (signed_column c.args.down c.args.column k) a)
+    rw c.in-NonZero.is (subst (λ (z : ℤ). IsAlike (2 ^ 32) (running_sum NonZero c.mark.new.flags c.count.new.counters c.args.s c.args.row k) (running_sum NonZero c.args.flags.now c.args.counters.now c.args.s c.args.row k +ℤ z)) (signed_column c.args.down c.args.column k) a)
 
 pub returns-in-NonZero-clause-others : goal.returns-in-NonZero-clause-others
 returns-in-NonZero-clause-others c r j k r_small j_small other =
@@ -60,7 +60,7 @@ pub returns-else-column-flags-clause-here : goal.returns-else-column-flags-claus
 returns-else-column-flags-clause-here c k h =
     let is = place c.args.column c.max-column.result c.ranges.column (record { sfits = c.max-column.type_inv }) c.max-column.ensures.value in
     let column : ℕ = nat_abs (to_z w64 (of_z w64 c.max-column.result)) in
-    right_of (modulus c.args.rule) (total c.args.rule c.args.flags.now c.args.counters.now c.args.s c.args.row k) c.args.column column k c.args.down is (let l = c.if-column-flags.false in omega arith)
+    right_of (modulus c.args.rule) (running_sum c.args.rule c.args.flags.now c.args.counters.now c.args.s c.args.row k) c.args.column column k c.args.down is (let l = c.if-column-flags.false in omega arith)
 
 pub returns-in-NonZero-clause-kept : goal.returns-in-NonZero-clause-kept
 returns-in-NonZero-clause-kept c e = absurd (no (sym e ∙ c.in-NonZero.is))

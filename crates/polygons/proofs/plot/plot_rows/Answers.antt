@@ -7,7 +7,7 @@ use Rattle.polygons.specs.declared.edge.Edge.{Edge}
 use Rattle.polygons.specs.Blocks.{down}
 use Rattle.polygons.specs.Columns.{Walk, along, below, HasHeight}
 use Rattle.polygons.specs.Rows.{direction}
-use Rattle.polygons.specs.Cells.{total, modulus, signed, IsAlike}
+use Rattle.polygons.specs.Cells.{running_sum, modulus, signed, IsAlike}
 use Rattle.polygons.proofs.Plotted.{has_counters, row_height, row_after, walk_direction, alike_from, alike_moved}
 use Rattle.polygons.proofs.plot.plot_rows.Goals as goal
 use Rattle.polygons.proofs.plot.plot_rows.Goals.{then-row-end, else-row-end}
@@ -81,7 +81,7 @@ loop-row-preserved c =
             let before = v.others c.args.s n k c.requires.sample (omega arith) (λ _ _ l. let x : n < n = l in omega arith) in
             let d = ap (signed c.args.forward) (walk_direction e (down s n) c.loop-row.walk c.column.result fits is c.column.ensures height k) in
             let at_n = alike_from m _ _ _ _ _ _ refl before d a in
-            subst (λ (j : ℕ). IsAlike m (total c.args.rule c.cross.new.flags c.cross.new.counters c.args.s j k) (total c.args.rule c.args.flags.now c.args.counters.now c.args.s j k +ℤ signed c.args.forward (direction e (along (down s j) (pos k))))) (sym q) at_n
+            subst (λ (j : ℕ). IsAlike m (running_sum c.args.rule c.cross.new.flags c.cross.new.counters c.args.s j k) (running_sum c.args.rule c.args.flags.now c.args.counters.now c.args.s j k +ℤ signed c.args.forward (direction e (along (down s j) (pos k))))) (sym q) at_n
         | inr q ↦
             let a = v.done row k f (before_of row n g q) h in
             let same = c.cross.ensures.others c.args.s row k c.requires.sample (omega arith) (λ _ x. q x) in

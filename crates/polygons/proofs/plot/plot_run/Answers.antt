@@ -4,7 +4,7 @@ use Rattle.grid.specs.Position.{Position, IsInGuardBand}
 use Rattle.polygons.specs.Polygon.{path_end}
 use Rattle.polygons.specs.Rings.{position_of}
 use Rattle.polygons.specs.Rows.{direction}
-use Rattle.polygons.specs.Strip.{sample_of}
+use Rattle.polygons.specs.Strip.{strip_sample}
 use Rattle.polygons.proofs.Plotted.{plotted_none, plotted_on}
 use Rattle.polygons.proofs.RunBoxes.{zeros, path_last, no_path, no_end}
 use Rattle.polygons.proofs.plot.plot_run.Goals as goal
@@ -22,7 +22,7 @@ returns-in-len1-up c =
     let chord = c.requires.chord c.if-not-is_beside.false in
     record {
       plotted = plotted_on c.args.rule c.args.strip.now _ _ _ _ _ _
-          (λ s row k h l. ap (λ (q : Position). direction (record { a = c.args.from; b = q }) (sample_of c.args.strip.now s row k)) to ∙ sym (chord s row k h l)) c.plot_edge.ensures;
+          (λ s row k h l. ap (λ (q : Position). direction (record { a = c.args.from; b = q }) (strip_sample c.args.strip.now s row k)) to ∙ sym (chord s row k h l)) c.plot_edge.ensures;
       end = to;
     }
 

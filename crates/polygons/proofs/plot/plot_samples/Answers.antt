@@ -4,8 +4,8 @@ use Rattle.grid.specs.Position.{Position}
 use Rattle.polygons.specs.Blocks.{down}
 use Rattle.polygons.specs.Columns.{along}
 use Rattle.polygons.specs.Rows.{direction}
-use Rattle.polygons.specs.Strip.{sample_of}
-use Rattle.polygons.specs.Cells.{total, modulus, signed, IsAlike}
+use Rattle.polygons.specs.Strip.{strip_sample}
+use Rattle.polygons.specs.Cells.{running_sum, modulus, signed, IsAlike}
 use Rattle.polygons.proofs.Plotted.{has_counters, alike_from, alike_moved, part_small, before_of}
 use Rattle.polygons.proofs.plot.plot_samples.Goals as goal
 
@@ -35,7 +35,7 @@ loop-s-preserved c =
             let a = p.here row k h (let l = v.flags_len in omega arith) in
             let d = ap (λ (z : Position). signed c.args.forward (direction e (along (down z row) (pos k)))) c.start.ensures in
             let at_n = alike_from m _ _ _ _ _ _ refl (v.rest n row k (omega arith) n_small h) d a in
-            subst (λ (j : ℕ). IsAlike m (total c.args.rule c.plot_sample.new.flags c.plot_sample.new.counters j row k) (total c.args.rule c.args.flags.now c.args.counters.now j row k +ℤ signed c.args.forward (direction e (sample_of c.args.strip.now j row k)))) (sym q) at_n
+            subst (λ (j : ℕ). IsAlike m (running_sum c.args.rule c.plot_sample.new.flags c.plot_sample.new.counters j row k) (running_sum c.args.rule c.args.flags.now c.args.counters.now j row k +ℤ signed c.args.forward (direction e (strip_sample c.args.strip.now j row k)))) (sym q) at_n
         | inr q ↦ alike_moved m _ _ _ (sym (p.others s row k g h q)) (v.done s row k (before_of s n f q) g h i)
       ];
       rest = λ s row k f g h. p.others s row k g h (λ x. omega arith) ∙ v.rest s row k (omega arith) g h;

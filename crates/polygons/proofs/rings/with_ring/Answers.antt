@@ -5,18 +5,18 @@ use Rattle.std.proofs.lemmas.List.Elements.{All-more, All-weaker}
 use Rattle.grid.specs.Position.{Position}
 use Rattle.polygons.specs.declared.corner.Corner.{Corner}
 use Rattle.polygons.specs.declared.extent.Extent.{Extent}
-use Rattle.polygons.specs.Rings.{position_of, IsWithin}
+use Rattle.polygons.specs.Rings.{position_of, IsInClosedExtent}
 use Rattle.polygons.proofs.Boxes.{ring_outside}
 use Rattle.polygons.proofs.rings.with_ring.Goals as goal
 
 abbrev zeros : Corner
 zeros = record { x = pos 0; y = pos 0 }
 
-one_more : (e f : Extent) (ring : List Corner) (i : ℕ) → i < length ring → ((p : Position) → IsWithin e p → IsWithin f p) → IsWithin f (position_of (get_or ring i zeros))
-    → All (IsWithin e) (take i (map position_of ring)) → All (IsWithin f) (take (i + 1) (map position_of ring))
+one_more : (e f : Extent) (ring : List Corner) (i : ℕ) → i < length ring → ((p : Position) → IsInClosedExtent e p → IsInClosedExtent f p) → IsInClosedExtent f (position_of (get_or ring i zeros))
+    → All (IsInClosedExtent e) (take i (map position_of ring)) → All (IsInClosedExtent f) (take (i + 1) (map position_of ring))
 one_more e f ring i h grows here before =
     let long = length-map ring position_of in
-    All-more (IsWithin f) (map position_of ring) i (position_of zeros) (omega (arith, h, long)) (All-weaker (IsWithin e) (IsWithin f) grows (take i (map position_of ring)) before)
+    All-more (IsInClosedExtent f) (map position_of ring) i (position_of zeros) (omega (arith, h, long)) (All-weaker (IsInClosedExtent e) (IsInClosedExtent f) grows (take i (map position_of ring)) before)
     (rw (get_or-map position_of ring i zeros (position_of zeros) h) here)
 
 pub loop-corner-preserved : goal.loop-corner-preserved
@@ -25,7 +25,7 @@ loop-corner-preserved c = record {
   grows = λ p h. c.with-extent.ensures.inside p (c.loop-corner.invariant.grows p h);
 }
 
-all_within : (e : Extent) (ring : List Corner) (i : ℕ) → length ring ≤ i → All (IsWithin e) (take i (map position_of ring)) → All (IsWithin e) (map position_of ring)
+all_within : (e : Extent) (ring : List Corner) (i : ℕ) → length ring ≤ i → All (IsInClosedExtent e) (take i (map position_of ring)) → All (IsInClosedExtent e) (map position_of ring)
 all_within e ring i h all = let long = length-map ring position_of in rw (take_all i (map position_of ring) (omega (arith, long, h))) at all
 
 pub returns-clause-within : goal.returns-clause-within

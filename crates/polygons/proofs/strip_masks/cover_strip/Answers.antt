@@ -4,10 +4,10 @@ use Rattle.polygons.specs.declared.rule.Rule.TheVariants.{EvenOdd, NonZero}
 use Rattle.polygons.specs.Polygon.{polygon_edges, corner_count}
 use Rattle.polygons.specs.Rings.{rings_from}
 use Rattle.polygons.specs.ManyRows.{row_of}
-use Rattle.polygons.specs.Strip.{sample_of}
+use Rattle.polygons.specs.Strip.{strip_sample}
 use Rattle.polygons.specs.Cells.{flag_of}
 use Rattle.polygons.proofs.Plotted.{part_small, has_counters}
-use Rattle.polygons.proofs.Masks.{mask_of_flags, even_odd_inside, nonzero_inside, marked_zeros, total-zeros, from_zeros}
+use Rattle.polygons.proofs.Masks.{mask_of_flags, even_odd_inside, nonzero_inside, marked_zeros, running_sum-zeros, from_zeros}
 use Rattle.polygons.proofs.RingParts.{few_corners}
 use Rattle.polygons.proofs.strip_masks.cover_strip.Goals as goal
 
@@ -26,8 +26,8 @@ returns-in-EvenOdd c =
           rw c.in-EvenOdd.is
           (mask_of_flags EvenOdd edges strip c.fill.new.flags s row column (length c.args.flags.now) l m (λ j k j_small k_small.
           let t = rw c.in-EvenOdd.is at (p.totals s j k h j_small k_small) in
-          let sum = from_zeros 2 _ _ _ (total-zeros EvenOdd c.args.flags.now c.args.counters.now s j k c.requires.flags c.requires.counters) t in
-          even_odd_inside edges (sample_of strip s j k) (flag_of c.plot.new.flags s j) (k + 1) (flag_of c.fill.new.flags s j k) _
+          let sum = from_zeros 2 _ _ _ (running_sum-zeros EvenOdd c.args.flags.now c.args.counters.now s j k c.requires.flags c.requires.counters) t in
+          even_odd_inside edges (strip_sample strip s j k) (flag_of c.plot.new.flags s j) (k + 1) (flag_of c.fill.new.flags s j k) _
           (c.fill.ensures.bits s j k (within s _ h (part_small strip.count)) j_small (let e = p.flags_len in omega arith)) (bit_at-lt _ _) refl sum));
       counters = λ column i. ap (λ (cs : List (List ℕ)). slice_index (row_of cs column) i) (p.kept c.in-EvenOdd.is) ∙ c.requires.counters column i;
     }
@@ -45,8 +45,8 @@ returns-in-NonZero c =
           rw c.in-NonZero.is
           (mask_of_flags NonZero (polygon_edges rings) strip c.sum.new.flags s row column (length c.args.flags.now) l m (λ j k j_small k_small.
           let t = rw c.in-NonZero.is at (p.totals s j k h j_small k_small) in
-          let sum = from_zeros (2 ^ 32) _ _ _ (total-zeros NonZero c.args.flags.now c.args.counters.now s j k c.requires.flags c.requires.counters) t in
-          nonzero_inside rings (sample_of strip s j k) (flag_of c.sum.new.flags s j k) _ few
+          let sum = from_zeros (2 ^ 32) _ _ _ (running_sum-zeros NonZero c.args.flags.now c.args.counters.now s j k c.requires.flags c.requires.counters) t in
+          nonzero_inside rings (strip_sample strip s j k) (flag_of c.sum.new.flags s j k) _ few
           (c.sum.ensures.bits s j k (within s _ h (part_small strip.count)) j_small (let e = p.flags_len in omega arith)) sum));
       counters = c.sum.ensures.counters;
     }

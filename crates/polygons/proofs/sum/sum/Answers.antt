@@ -5,7 +5,7 @@ use Rattle.std.specs.Int.{bit_at}
 use Rattle.polygons.specs.declared.rule.Rule.TheVariants.{NonZero}
 use Rattle.polygons.specs.Rows.{sum_to}
 use Rattle.polygons.specs.ManyRows.{row_of}
-use Rattle.polygons.specs.Cells.{word_of, cell, total, IsAlike}
+use Rattle.polygons.specs.Cells.{word_of, cell, running_sum, IsAlike}
 use Rattle.polygons.specs.Summing.{run, nonzero_bit}
 use Rattle.polygons.proofs.RowLists.{row-here, row-other}
 use Rattle.polygons.proofs.Totals.{alike_same}
@@ -70,7 +70,7 @@ loop-column-preserved c =
             ∙ p.bits i r j (word_small s row h l) (omega arith) (omega arith) ∙ ap (λ (cs : List ℕ). nonzero_bit (run cs at start (j + 1))) same in
             let place : 8 * n + (j + 1) ≡ k + 1 = omega arith in
             let alike = subst (λ x. IsAlike (2 ^ 32) (pos (run (row_of c0 n) at start (j + 1))) (sum_to (cell NonZero f0 c0 s row) x)) place (column_sum f0 c0 s row n start (j + 1) (omega arith) (v.sums s row h l)) in
-            let iff = nonzero_iff (run (row_of c0 n) at start (j + 1)) (total NonZero f0 c0 s row k) (run_small (row_of c0 n) at start j) alike in
+            let iff = nonzero_iff (run (row_of c0 n) at start (j + 1)) (running_sum NonZero f0 c0 s row k) (run_small (row_of c0 n) at start j) alike in
             (λ x. iff.0 (sym value ∙ x), λ y. value ∙ iff.1 y)
         | inr e ↦
             let old = ap (λ ws. bit_at (slice_index ws (word_of s row)) (8 * (row % 8) + k % 8)) (row-other c.loop-column.flags n (k / 8) words e) in

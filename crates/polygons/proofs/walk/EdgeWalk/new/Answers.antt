@@ -6,7 +6,7 @@ use Rattle.grid.proofs.Bounds.{passed}
 use Rattle.polygons.proofs.Exact.{within64, wider, negated64, difference64, times_256}
 use Rattle.grid.specs.Edge.{side}
 use Rattle.polygons.specs.declared.edge.Edge.{Edge}
-use Rattle.polygons.specs.Columns.{HasHeight, AreInBand, IsWalking}
+use Rattle.polygons.specs.Columns.{HasHeight, IsWalkInBand, IsWalking}
 use Rattle.polygons.proofs.Columns.{first_row}
 use Rattle.polygons.proofs.walk.EdgeWalk.new.Goals as goal
 
@@ -34,7 +34,7 @@ divide-rest-requires-clause-number c =
     record { low = omega (arith, ints); high = omega (arith, ints) }
 
 -- the numbers of a row, from two divisions
-walking : (e : Edge) (p : Position) (h q r n d k m f o : ℤ) → AreInBand e p.x → HasHeight e p.y → h ≡ e.b.y -ℤ e.a.y
+walking : (e : Edge) (p : Position) (h q r n d k m f o : ℤ) → IsWalkInBand e p.x → HasHeight e p.y → h ≡ e.b.y -ℤ e.a.y
     → e.b.x -ℤ e.a.x ≡ q *ℤ h +ℤ r → pos 0 ≤ℤ r → r <ℤ h → IsWithin (2 ^ 25) q
     → n ≡ neg_ℤ (side e.a e.b p) → d ≡ pos 256 *ℤ h → n ≡ k *ℤ d +ℤ m → pos 0 ≤ℤ m → m <ℤ d
     → m ≡ f *ℤ pos 256 +ℤ o → pos 0 ≤ℤ o → o <ℤ pos 256
@@ -91,5 +91,5 @@ invariant_of-result c =
     let r = within64 c.divide-columns.result.1 (small_part _ H small cols.low cols.high) in
     let k = negated64 c.divide-left.result.0 left.size in
     let f = within64 c.divide-rest.result.0 (wider _ rest.size) in
-    let band : AreInBand e p.x = record { ax = rw ax.value at ax.in_band; ay = rw ay.value at ay.in_band; bx = rw bx.value at bx.in_band; by = rw by.value at by.in_band; start = rw px.value at px.in_band } in
+    let band : IsWalkInBand e p.x = record { ax = rw ax.value at ax.in_band; ay = rw ay.value at ay.in_band; bx = rw bx.value at bx.in_band; by = rw by.value at by.in_band; start = rw px.value at px.in_band } in
     rw (x, y, q, r, k, f) (walking e p H c.divide-columns.result.0 c.divide-columns.result.1 _ _ c.divide-left.result.0 c.divide-left.result.1 c.divide-rest.result.0 c.divide-rest.result.1 band c.requires h (rw w at cols.sum) cols.low cols.high cols_size n d left.sum left.low left.high (rw m at rest.sum) rest.low rest.high)
