@@ -28,7 +28,7 @@ from bench import report, scenes
 from bench.llvmpipe import frame_seconds
 from bench.options import add_any_scenes, add_frames_program, add_runs
 from tools.draw_list import DrawList
-from tools.places import BENCH_OUT, TOP, bytes_of, is_built
+from tools.places import BENCH_OUT, TOP, bytes_of
 
 SCENES = ("small", "mesh", "smooth", "flat")
 MACHINE = os.path.join(BENCH_OUT, "machine")
@@ -152,8 +152,6 @@ def main() -> int:
     add_runs(parser, 5, "turns of three frames, of which the least counts")
     add_any_scenes(parser, SCENES)
     options = parser.parse_args()
-    if not is_built(options.frames, made_by="make frames"):
-        return 2
     scenes.write_all(options.scenes)
     build(COUNTING_MODEL, "model/main.cpp", "g++", "clang++", "-std=c++17", "-O2", "-march=x86-64-v2", "-pthread", "-DCOUNT_GROUPS")
     most = machine()

@@ -235,7 +235,7 @@ def program_of_level(chosen: str | None) -> str | None:
 
 def main() -> int:
     options = parsed()
-    if not is_built(options.program) or not is_built(options.frames, made_by="make frames"):
+    if not is_built(options.program):
         return 2
     lists = options.lists or scenes.write_all(options.scenes)
     try:

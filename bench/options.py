@@ -2,15 +2,24 @@
 
 from __future__ import annotations
 
+import sys
 from argparse import ArgumentParser
 from typing import Sequence
 
 from bench import scenes
-from tools.places import FRAMES_PROGRAM
+from tools.places import FRAMES_PROGRAM, is_built
+
+
+def frames_program(path: str) -> str:
+    """This program, if it is there. Else the benchmark ends with exit status 2."""
+    if not is_built(path, made_by="make frames"):
+        sys.exit(2)
+    return path
 
 
 def add_frames_program(parser: ArgumentParser, flag: str) -> None:
-    parser.add_argument(flag, default=FRAMES_PROGRAM, help="the program of crates/frames (default: where make frames leaves it)")
+    where = "the program of crates/frames (default: where make frames leaves it)"
+    parser.add_argument(flag, type=frames_program, default=FRAMES_PROGRAM, metavar="PROGRAM", help=where)
 
 
 def add_runs(parser: ArgumentParser, default: int, meaning: str) -> None:

@@ -27,7 +27,6 @@ from typing import NamedTuple
 
 from bench import report, scenes
 from bench.options import add_any_scenes, add_frames_program, add_runs
-from tools.places import is_built
 
 SCENES = ("smooth", "mesh", "large_mesh", "flat", "blended", "small")
 WORKERS = (1, 2, 4)
@@ -108,8 +107,6 @@ def main() -> int:
     parser.add_argument("--frames", type=int, default=24, help="frames of a turn (default 24)")
     add_any_scenes(parser, SCENES)
     options = parser.parse_args()
-    if not is_built(options.program, made_by="make frames"):
-        return 2
     print(f"{report.machine()}\n")
     report.print_head(COLUMNS)
     for name, source in zip(options.scenes, scenes.write_all(options.scenes)):
