@@ -25,7 +25,8 @@ import subprocess
 import sys
 from typing import Callable, Sequence
 
-from bench import llvmpipe, run, scenes
+from bench import llvmpipe, report, run, scenes
+from bench.options import add_runs, add_scenes
 from tools import places
 from tools.checks.library.lists import arrays_of
 from tools.places import BENCH_OUT, EXAMPLES, FRAMES_PROGRAM, INCLUDE, STATIC_LIBRARY, TOP, is_built
@@ -216,8 +217,8 @@ def print_tables(options: argparse.Namespace) -> bool:
 
 def main() -> int:
     parser = argparse.ArgumentParser(description="Times canvases.")
-    parser.add_argument("--runs", type=int, default=5, help="rounds of which the least counts (default 5)")
-    parser.add_argument("--scenes", nargs="+", choices=SCENES, default=SCENES, metavar="NAME", help=", ".join(SCENES))
+    add_runs(parser, 5, "rounds of which the least counts")
+    add_scenes(parser, SCENES)
     parser.add_argument("--tables", nargs="+", choices=TABLES, default=TABLES, metavar="TABLE", help=f"{', '.join(TABLES)} (default all)")
     parser.add_argument("--threads", type=int, nargs="+", default=(1, 4), help="of a frame (default 1 4)")
     parser.add_argument("--small-pages", action="store_true", help="without large pages")
@@ -230,10 +231,10 @@ def main() -> int:
         return 1
     more = {"scattered": SCATTERED, "samples": SAMPLED}
     scenes.write_all([*options.scenes, *(name for table in options.tables for name in more.get(table, ()))])
-    print(f"Machine: {run.processor_name()}, {os.cpu_count()} processors; load before the run {run.load()}.")
+    print(report.machine())
     if not print_tables(options):
         return 1
-    print(f"\nLoad after the run {run.load()}.")
+    report.print_end()
     return 0
 
 

@@ -11,7 +11,6 @@ a process of its own, and the table has the greatest memory of the process in pl
 from __future__ import annotations
 
 import argparse
-import os
 import subprocess
 import sys
 import time
@@ -23,7 +22,8 @@ from matplotlib.collections import PolyCollection
 from matplotlib.figure import Figure
 from matplotlib.tri import Triangulation
 
-from bench import run
+from bench import report
+from bench.options import add_runs
 from python.tests.neighbours import bent_grid
 from trirast.matplotlib import FigureCanvasTrirast
 
@@ -129,17 +129,17 @@ def memory_row_of(name: str, dpi: int) -> str:
 
 def main() -> None:
     parser = argparse.ArgumentParser(description="Times figures with faces in matplotlib.")
-    parser.add_argument("--runs", type=int, default=5, help="rounds of which the least counts (default 5)")
+    add_runs(parser, 5, "rounds of which the least counts")
     parser.add_argument("--dpi", type=int, default=100, help="pixels per inch of figures of 6.4 by 4.8 inches (default 100)")
     parser.add_argument("--memory", action="store_true", help="the memory of processes in place of times")
     options = parser.parse_args()
     what = "Greatest memory of a process, MB" if options.memory else f"Least of {options.runs} rounds, milliseconds of a processor"
-    print(f"Machine: {run.processor_name()}, {os.cpu_count()} processors; load before the run {run.load()}.")
+    print(report.machine())
     print(f"{what}; {6.4 * options.dpi:.0f} x {4.8 * options.dpi:.0f} pixels.\n")
-    print("| figure | Agg | trirast | ratio |\n|---|---|---|---|")
+    report.print_head(("figure", "Agg", "trirast", "ratio"))
     for name in FIGURES:
         print(memory_row_of(name, options.dpi) if options.memory else row_of(name, options.dpi, options.runs), flush=True)
-    print(f"\nLoad after the run {run.load()}.")
+    report.print_end()
 
 
 if __name__ == "__main__":

@@ -9,7 +9,6 @@ whole figure, axes and labels too. The two take turns, so that a busy machine sl
 from __future__ import annotations
 
 import argparse
-import os
 import time
 from typing import Any, Callable
 
@@ -20,7 +19,8 @@ from matplotlib.tri import Triangulation
 
 from trirast.matplotlib import FigureCanvasTrirast
 
-from bench import run
+from bench import report
+from bench.options import add_runs
 
 Draws = Callable[[Any, int], int]
 
@@ -83,15 +83,15 @@ def row_of(name: str, side: int, rounds: int) -> str:
 
 def main() -> None:
     parser = argparse.ArgumentParser(description="Times Gouraud triangles in matplotlib.")
-    parser.add_argument("--runs", type=int, default=7, help="rounds of which the least counts (default 7)")
+    add_runs(parser, 7, "rounds of which the least counts")
     parser.add_argument("--side", type=int, default=400, help="points of a side of the grid (default 400)")
     options = parser.parse_args()
-    print(f"Machine: {run.processor_name()}, {os.cpu_count()} processors; load before the run {run.load()}.")
+    print(report.machine())
     print(f"Least of {options.runs} rounds, milliseconds.\n")
-    print("| mesh | triangles | Agg | trirast | Agg, processor | trirast, processor | ratio |\n|---|---|---|---|---|---|---|")
+    report.print_head(("mesh", "triangles", "Agg", "trirast", "Agg, processor", "trirast, processor", "ratio"))
     for name in MESHES:
         print(row_of(name, options.side, options.runs), flush=True)
-    print(f"\nLoad after the run {run.load()}.")
+    report.print_end()
 
 
 if __name__ == "__main__":

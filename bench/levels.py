@@ -17,8 +17,9 @@ import os
 import sys
 from typing import Sequence
 
-from bench import scenes
-from bench.run import SCENES, Run, load, processor_name
+from bench import report, scenes
+from bench.options import add_runs, add_scenes
+from bench.run import SCENES, Run
 from tools.places import BENCH_OUT, is_built
 
 DEFAULT_SCENES = ("tiny", "smooth", "small", "mesh", "blended", "large_mesh", "sprites", "dust", "long_list")
@@ -48,17 +49,16 @@ def times(commands: Sequence[list[str]], source: str, runs: int) -> list[str]:
 def main() -> int:
     parser = argparse.ArgumentParser(description="Times whole processes of several programs in turns.")
     parser.add_argument("programs", nargs="+", metavar="PROGRAM")
-    parser.add_argument("--runs", type=int, default=9, help="runs of which the least counts (default 9)")
-    parser.add_argument("--scenes", nargs="+", choices=SCENES, default=DEFAULT_SCENES, metavar="NAME", help=", ".join(SCENES))
+    add_runs(parser, 9, "runs of which the least counts")
+    add_scenes(parser, SCENES, DEFAULT_SCENES)
     parser.add_argument("--workers", nargs="+", type=int, default=(1, 4), help="numbers of workers (default 1 4)")
     options = parser.parse_args()
     programs = [os.path.abspath(program) for program in options.programs]
     if not is_built(*programs):
         return 2
     scenes.write_all(options.scenes)
-    print(f"Machine: {processor_name()}, {os.cpu_count()} processors; load before the run {load()}. Least of {options.runs} runs.\n")
-    print(f"| scene | workers | {' | '.join(options.programs)} |")
-    print("|---" * (2 + len(programs)) + "|")
+    print(f"{report.machine()} Least of {options.runs} runs.\n")
+    report.print_head(("scene", "workers", *options.programs))
     has_failed = False
     for name in options.scenes:
         source = os.path.join(BENCH_OUT, f"{name}.json")
@@ -69,7 +69,7 @@ def main() -> int:
                 has_failed = True
                 continue
             print(f"| {name} | {workers} | {' | '.join(times(commands, source, options.runs))} |", flush=True)
-    print(f"\nLoad after the run {load()}.")
+    report.print_end()
     return 1 if has_failed else 0
 
 

@@ -20,7 +20,8 @@ from typing import Any, Callable
 import trirast
 from trirast import _ffi
 
-from bench import run, scenes
+from bench import report, run, scenes
+from bench.options import add_runs, add_scenes
 from tools.places import PROGRAM, is_built
 
 SCENES = tuple(name for name in run.SCENES if name not in run.REFUSED)
@@ -73,22 +74,21 @@ def row_of(name: str, chosen: dict[str, Way], rounds: int) -> str:
 def main() -> int:
     parser = argparse.ArgumentParser(description="Times the library beside the program.")
     parser.add_argument("--program", default=PROGRAM, help="default bin/trirast")
-    parser.add_argument("--runs", type=int, default=5, help="rounds of which the least counts (default 5)")
+    add_runs(parser, 5, "rounds of which the least counts")
     parser.add_argument("--threads", type=int, default=4, help="threads and workers (default 4)")
-    parser.add_argument("--scenes", nargs="+", choices=SCENES, default=SCENES, metavar="NAME", help=", ".join(SCENES))
+    add_scenes(parser, SCENES)
     options = parser.parse_args()
     if not is_built(options.program):
         return 1
     scenes.write_all(options.scenes)
-    print(f"Machine: {run.processor_name()}, {os.cpu_count()} processors; load before the run {run.load()}.")
+    print(report.machine())
     print(f"Least of {options.runs} rounds, tiles of {TILE_SIZE} pixels, milliseconds.\n")
     for number, name in enumerate(options.scenes):
         chosen = ways(os.path.abspath(options.program), options.threads, scenes.path_of(name))
         if number == 0:
-            print(f"| scene | {' | '.join(chosen)} |")
-            print("|---" * (len(chosen) + 1) + "|")
+            report.print_head(("scene", *chosen))
         print(row_of(name, chosen, options.runs), flush=True)
-    print(f"\nLoad after the run {run.load()}.")
+    report.print_end()
     return 0
 
 

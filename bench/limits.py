@@ -24,11 +24,11 @@ import subprocess
 import sys
 from typing import Iterable, NamedTuple
 
-from bench import scenes
+from bench import report, scenes
 from bench.llvmpipe import frame_seconds
-from bench.run import load, processor_name
+from bench.options import add_any_scenes, add_frames_program, add_runs
 from tools.draw_list import DrawList
-from tools.places import BENCH_OUT, FRAMES_PROGRAM, TOP, bytes_of, is_built
+from tools.places import BENCH_OUT, TOP, bytes_of
 
 SCENES = ("small", "mesh", "smooth", "flat")
 MACHINE = os.path.join(BENCH_OUT, "machine")
@@ -148,21 +148,19 @@ def row_of(name: str, program: str, most: Machine, runs: int) -> str:
 
 def main() -> int:
     parser = argparse.ArgumentParser(description="Compares frames with what the processor could do at the most.")
-    parser.add_argument("--frames", default=FRAMES_PROGRAM, help="the program of crates/frames (default: where make frames leaves it)")
-    parser.add_argument("--runs", type=int, default=5, help="turns of three frames, of which the least counts (default 5)")
-    parser.add_argument("--scenes", nargs="+", choices=tuple(scenes.SCENES), default=SCENES, metavar="NAME", help="default " + ", ".join(SCENES))
+    add_frames_program(parser, "--frames")
+    add_runs(parser, 5, "turns of three frames, of which the least counts")
+    add_any_scenes(parser, SCENES)
     options = parser.parse_args()
-    if not is_built(options.frames, made_by="make frames"):
-        return 2
     scenes.write_all(options.scenes)
     build(COUNTING_MODEL, "model/main.cpp", "g++", "clang++", "-std=c++17", "-O2", "-march=x86-64-v2", "-pthread", "-DCOUNT_GROUPS")
     most = machine()
-    print(f"Machine: {processor_name()}; load before the run {load()}. One processor does at the most, in a nanosecond: {most.cycles:.2f} cycles,")
+    print(f"{report.machine()} One processor does at the most, in a nanosecond: {most.cycles:.2f} cycles,")
     print(f"{most.vectors:.2f} operations on vectors of 128 bits, {most.read:.1f} bytes from memory and {most.written:.1f} to it.\n")
-    print(f"| {' | '.join(COLUMNS)} |\n" + "|---" * len(COLUMNS) + "|")
+    report.print_head(COLUMNS)
     for name in options.scenes:
         print(row_of(name, options.frames, most, options.runs), flush=True)
-    print(f"\nLoad after the run {load()}.")
+    report.print_end()
     return 0
 
 

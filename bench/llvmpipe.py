@@ -25,11 +25,12 @@ import subprocess
 import sys
 from statistics import median
 
-from bench import scenes
-from bench.run import Run, load
+from bench import report, scenes
+from bench.options import add_frames_program, add_runs, add_scenes
+from bench.run import Run
 from tools import picture_file
 from tools.answers import drawn
-from tools.places import BENCH_OUT, EXAMPLES, FRAMES_OF_LEVEL, FRAMES_PROGRAM, LEVEL, MODEL_PROGRAM, PROGRAM, TOP, is_built
+from tools.places import BENCH_OUT, EXAMPLES, FRAMES_OF_LEVEL, LEVEL, MODEL_PROGRAM, PROGRAM, TOP, is_built
 
 SCENES = (
     "smooth", "small", "mesh", "slivers", "blended", "flat", "flat_depth", "flat_blended", "large_mesh", "whole_values",
@@ -186,24 +187,24 @@ class Table:
 
     def print(self, lists: list[str]) -> None:
         columns = (*COLUMNS, *(LEVEL_COLUMNS if self.of_level else ()), *(MODEL_COLUMNS if self.model else ()), *LAST_COLUMNS)
-        print("| " + " | ".join(columns) + " |\n" + "|---" * len(columns) + "|")
+        report.print_head(columns)
         for source in lists:
             if self.model:
                 check_model(self.model, self.program, source)
             for workers in self.workers:
                 self.row(source, workers)
-        print(f"\nRenderer: {self.renderer}. Load after the run {load()}, {os.cpu_count()} processors.")
+        print(f"\nRenderer: {self.renderer}. Load after the run {report.load()}, {os.cpu_count()} processors.")
 
 
 def parsed() -> argparse.Namespace:
     parser = argparse.ArgumentParser(description="Times the program and llvmpipe.")
     parser.add_argument("--program", default=PROGRAM, help="default bin/trirast")
-    parser.add_argument("--frames", default=FRAMES_PROGRAM, help="the program of crates/frames (default: where make frames leaves it)")
+    add_frames_program(parser, "--frames")
     parser.add_argument("--of-level", help=f"the same for {LEVEL} (default: where make frames CPU={LEVEL} leaves it, if it is there)")
     parser.add_argument("--model", help="the program of bench/model (default: where make model builds it, if it is there)")
-    parser.add_argument("--runs", type=int, default=5, help="turns of each program, of which the median counts (default 5)")
+    add_runs(parser, 5, "turns of each program, of which the median counts")
     parser.add_argument("--workers", type=int, nargs="+", default=WORKERS, help="default 1 4")
-    parser.add_argument("--scenes", nargs="+", choices=SCENES, default=SCENES, metavar="NAME", help=", ".join(SCENES))
+    add_scenes(parser, SCENES)
     parser.add_argument("--lists", nargs="+", metavar="FILE", help="draw lists in place of scenes")
     return parser.parse_args()
 
@@ -234,14 +235,13 @@ def program_of_level(chosen: str | None) -> str | None:
 
 def main() -> int:
     options = parsed()
-    if not is_built(options.program) or not is_built(options.frames, made_by="make frames"):
+    if not is_built(options.program):
         return 2
     lists = options.lists or scenes.write_all(options.scenes)
     try:
         Table(options, chosen_model(options.model), program_of_level(options.of_level)).print(lists)
     except (subprocess.CalledProcessError, NotTimed) as error:
-        print(f"llvmpipe: {error}", file=sys.stderr)
-        return 2
+        return report.failed("llvmpipe", error)
     return 0
 
 

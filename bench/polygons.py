@@ -22,8 +22,9 @@ from typing import Any, Callable, NamedTuple
 
 import numpy as np
 
-from bench.run import load, processor_name
-from tools.places import BENCH_OUT, EXAMPLES, INCLUDE, LEVEL, LIB, SHARED_LIBRARY, TOP, is_built
+from bench import report
+from bench.options import add_scenes
+from tools.places import BENCH_OUT, EXAMPLES, INCLUDE, LEVEL, SHARED_LIBRARY, TOP, is_built
 
 SIDE = 2048
 UNIT = 256
@@ -211,8 +212,8 @@ def print_times(program: str, path: str, name: str, threads: int, turns: int) ->
 
 def print_tables(options: argparse.Namespace, folder: str) -> None:
     program = built()
-    print(f"Machine: {processor_name()}, {os.cpu_count()} processors; load before the run {load()}.\n")
-    print("| Scene | Threads | cairo: ms of the wall, of the processor | AGG by cairo | 4 samples by cairo | 16 samples by cairo |\n" + "|---" * 6 + "|")
+    print(f"{report.machine()}\n")
+    report.print_head(("Scene", "Threads", "cairo: ms of the wall, of the processor", "AGG by cairo", "4 samples by cairo", "16 samples by cairo"))
     paths = {}
     for name in options.scenes:
         try:
@@ -224,17 +225,18 @@ def print_tables(options: argparse.Namespace, folder: str) -> None:
         scene.write(paths[name])
         for threads in options.threads:
             print_times(program, paths[name], name, threads, options.turns)
-    print("\n| Partition | Pixels | Wrong by cairo | by AGG | by 4 samples | by 16 samples |\n" + "|---" * 6 + "|")
+    print()
+    report.print_head(("Partition", "Pixels", "Wrong by cairo", "by AGG", "by 4 samples", "by 16 samples"))
     for name in [name for name in PARTITIONS if name in paths]:
         width, height = np.fromfile(paths[name], np.int32, 2)
         counts = lines_of(program, "seams", paths[name])
         print("| " + " | ".join([name, f"{width * height:,}", *(f"{counts[each][0]:,.0f}" for each in RENDERERS)]) + " |", flush=True)
-    print(f"\nLoad after the run {load()}.")
+    report.print_end()
 
 
 def main() -> int:
     parser = argparse.ArgumentParser(description="Times polygons on a canvas, by cairo and by AGG.")
-    parser.add_argument("--scenes", nargs="+", choices=SCENES, default=list(SCENES), metavar="NAME", help=", ".join(SCENES))
+    add_scenes(parser, tuple(SCENES))
     parser.add_argument("--threads", type=int, nargs="+", default=(1, 4), help="default 1 4")
     parser.add_argument("--turns", type=int, default=4, help="frames of which the least counts (default 4)")
     options = parser.parse_args()
@@ -244,8 +246,7 @@ def main() -> int:
         with tempfile.TemporaryDirectory() as folder:
             print_tables(options, folder)
     except (subprocess.CalledProcessError, OSError) as error:
-        print(f"polygons: {error}", file=sys.stderr)
-        return 2
+        return report.failed("polygons", error)
     return 0
 
 

@@ -19,8 +19,8 @@ import shutil
 import subprocess
 import sys
 
-from bench import scenes
-from bench.run import load, processor_name
+from bench import report, scenes
+from bench.options import add_any_scenes, add_runs
 from tools.places import BENCH_OUT, READER_PROGRAM, TOP, is_built
 
 SCENES = ("long_list", "mesh", "small")
@@ -110,8 +110,8 @@ def row_of(source: str, with_parser: bool, runs: int, before: str) -> str:
 
 def main() -> int:
     parser = argparse.ArgumentParser(description="Times reading beside parsers that only parse.")
-    parser.add_argument("--runs", type=int, default=5, help="turns of seven rounds, of which the least counts (default 5)")
-    parser.add_argument("--scenes", nargs="+", choices=tuple(scenes.SCENES), default=SCENES, metavar="NAME", help="default " + ", ".join(SCENES))
+    add_runs(parser, 5, "turns of seven rounds, of which the least counts")
+    add_any_scenes(parser, SCENES)
     parser.add_argument("--layouts", nargs="+", choices=LAYOUTS, default=LAYOUTS[:1], metavar="NAME", help="of " + ", ".join(LAYOUTS))
     parser.add_argument("--before", default="", metavar="PROGRAM", help="crates/list_bench of another build")
     options = parser.parse_args()
@@ -119,14 +119,14 @@ def main() -> int:
         return 2
     sources = scenes.write_all(options.scenes)
     with_parser = built_parser()
-    print(f"Machine: {processor_name()}; load before the run {load()}. Least of {options.runs} turns of seven rounds.\n")
+    print(f"{report.machine()} Least of {options.runs} turns of seven rounds.\n")
     user_columns = BEFORE_COLUMNS if options.before else ()
     columns = (*COLUMNS[:2], *user_columns, *COLUMNS[2:], *(PARSER_COLUMNS if with_parser else ()))
-    print(f"| {' | '.join(columns)} |\n" + "|---" * len(columns) + "|")
+    report.print_head(columns)
     for source in sources:
         for layout in options.layouts:
             print(row_of(laid_out(source, layout), with_parser, options.runs, options.before), flush=True)
-    print(f"\nLoad after the run {load()}.")
+    report.print_end()
     return 0
 
 

@@ -21,7 +21,8 @@ import sys
 import time
 from typing import Sequence
 
-from bench import scenes
+from bench import report, scenes
+from bench.options import add_runs, add_scenes
 from tools.places import BENCH_OUT, PROGRAM, TOP, is_built
 
 SCENES = (
@@ -90,21 +91,6 @@ def build_plain() -> str | None:
     return program
 
 
-def processor_name() -> str:
-    try:
-        with open("/proc/cpuinfo", encoding="utf-8") as file:
-            for line in file:
-                if line.startswith("model name"):
-                    return line.split(":", 1)[1].strip()
-    except OSError:
-        pass
-    return "a processor without a name"
-
-
-def load() -> str:
-    return " ".join(f"{part:.1f}" for part in os.getloadavg())
-
-
 def milliseconds(seconds: float) -> str:
     return f"{1000 * seconds:.1f}" if seconds < 0.1 else f"{1000 * seconds:.0f}"
 
@@ -123,8 +109,7 @@ class Table:
     def head(self) -> None:
         columns = ["scene", "tile", "1 worker, ms", "2 workers, ms", "4 workers, ms"]
         columns += ["processor ms, 1 and 4", "peak MB, 1, 2 and 4", "plain, ms"]
-        print(f"| {' | '.join(columns)} |")
-        print("|---" * len(columns) + "|")
+        report.print_head(columns)
 
     def scene(self, name: str) -> None:
         source = os.path.join(BENCH_OUT, f"{name}.json")
@@ -170,7 +155,7 @@ def print_beginning(runs: int, plain: str | None) -> None:
     """Prints what the table's numbers are of, and what a process costs here that does nothing."""
     nothing = [shutil.which("true") or "/bin/true"]
     floor, least = Run(nothing, os.devnull, os.devnull), peak_memory(nothing, os.devnull, os.devnull)
-    print(f"Machine: {processor_name()}, {os.cpu_count()} processors; load before the run {load()}.")
+    print(report.machine())
     print(f"Best of {runs} runs, output thrown away. The ratio is the time with one worker by this one.")
     print("Shared machines are noisy: two calls of this script can differ by a third and more, so compare only what")
     print("stands in one table.")
@@ -186,8 +171,8 @@ def print_beginning(runs: int, plain: str | None) -> None:
 def main() -> int:
     parser = argparse.ArgumentParser(description="Times the program on generated scenes.")
     parser.add_argument("--program", default=PROGRAM, help="default bin/trirast")
-    parser.add_argument("--runs", type=int, default=3, help="runs of which the best counts (default 3)")
-    parser.add_argument("--scenes", nargs="+", choices=SCENES, default=SCENES, metavar="NAME", help=", ".join(SCENES))
+    add_runs(parser, 3, "runs of which the best counts")
+    add_scenes(parser, SCENES)
     parser.add_argument("--tiles", nargs="+", type=int, choices=TILES, default=TILES, help="tile sizes (default all)")
     options = parser.parse_args()
     if not is_built(options.program):
@@ -199,7 +184,7 @@ def main() -> int:
     table.head()
     for name in options.scenes:
         table.scene(name)
-    print(f"\nLoad after the run {load()}.")
+    report.print_end()
     for line in table.wrong:
         print(line)
     if plain and not table.wrong:

@@ -12,7 +12,7 @@ import math
 import os
 import random
 import sys
-from typing import Any, Iterable, Sequence
+from typing import Any, Callable, Iterable, Sequence, TypeVar
 
 from tools.draw_list import Draw, DrawList, Vertex, draw
 from tools.places import BENCH_OUT
@@ -20,6 +20,7 @@ from tools.small_pictures import FIRST
 
 # Each triangle by its three vertices.
 Triangles = list[list[Vertex]]
+Number = TypeVar("Number", int, float)
 
 MAX_VERTICES = 65536
 MAX_TRIANGLES = 65536
@@ -120,15 +121,20 @@ def mesh() -> DrawList:
     return {"width": 1920, "height": 1080, "samples": 4, "draws": [{"cull": "back", **sheet}]}
 
 
+def sliver(number: Callable[[int, int], Number], side: int) -> list[tuple[Number, Number]]:
+    """The corners of a triangle from a point of a square of this side to another, and at most 2 to the side of that."""
+    (ax, ay), (bx, by) = ((number(0, side), number(0, side)) for _ in "ab")
+    dx, dy = number(-2, 2), number(-2, 2)
+    return [(ax, ay), (bx, by), (bx + dx, by + dy)]
+
+
 def slivers() -> DrawList:
     """2,048 triangles across the whole picture, each under two pixels wide: large boxes, few samples."""
     pick = random.Random("slivers")
     triangles = []
     for _ in range(2048):
-        (ax, ay), (bx, by) = ((pick.uniform(0, 1024), pick.uniform(0, 1024)) for _ in "ab")
-        dx, dy = pick.uniform(-2, 2), pick.uniform(-2, 2)
-        colour = some_colour(pick)
-        triangles.append([vertex(ax, ay, 0, colour), vertex(bx, by, 0, colour), vertex(bx + dx, by + dy, 0, colour)])
+        corners, colour = sliver(pick.uniform, 1024), some_colour(pick)
+        triangles.append([vertex(x, y, 0, colour) for x, y in corners])
     return {"width": 1024, "height": 1024, "samples": 4, "draws": draws_of(triangles)}
 
 
@@ -195,10 +201,8 @@ def thin_slivers() -> DrawList:
     pick = random.Random("thin slivers")
     triangles = []
     for _ in range(4096):
-        (ax, ay), (bx, by) = ((pick.randint(0, 262144), pick.randint(0, 262144)) for _ in "ab")
-        dx, dy = pick.randint(-2, 2), pick.randint(-2, 2)
-        places = [(ax, ay), (bx, by), (bx + dx, by + dy)]
-        triangles.append([[x, y, 0, *some_colour(pick), pick.randint(100, 255)] for x, y in places])
+        corners = sliver(pick.randint, 262144)
+        triangles.append([[x, y, 0, *some_colour(pick), pick.randint(100, 255)] for x, y in corners])
     return {"width": 1024, "height": 1024, "samples": 4, "draws": draws_of(triangles, blend="over")}
 
 

@@ -24,7 +24,8 @@ import subprocess
 import sys
 from typing import Iterator, NamedTuple
 
-from bench.run import load, processor_name
+from bench import report
+from bench.options import add_scenes
 from tools.places import BENCH_OUT, EXAMPLES, INCLUDE, LEVEL, LIB, SHARED_LIBRARY, TOP, is_built, text_of
 
 SCENES = ("ring", "back", "front", "dust")
@@ -119,7 +120,7 @@ def frames_of(options: argparse.Namespace, program: str) -> Iterator[tuple[str, 
 
 def parsed() -> argparse.Namespace:
     parser = argparse.ArgumentParser(description="Times shading on a canvas and by llvmpipe.")
-    parser.add_argument("--scenes", nargs="+", choices=SCENES, default=SCENES, metavar="NAME", help=" ".join(SCENES))
+    add_scenes(parser, SCENES)
     parser.add_argument("--threads", type=int, nargs="+", default=(1, 4), help="default 1 4")
     parser.add_argument("--frames", type=int, default=9, help="frames of which the least counts (default 9)")
     parser.add_argument("--level", default=LEVEL, help=f"the level for which headers are compiled (default {LEVEL})")
@@ -131,13 +132,12 @@ def parsed() -> argparse.Namespace:
 def lines_of(options: argparse.Namespace) -> Iterator[str]:
     """The table, and below it the aims that are missed."""
     program, renderer = built("shading", options.level), ""
-    machine = f"{processor_name()}, {os.cpu_count()} processors; load before the run {load()}"
-    yield f"Machine: {machine}. Headers for {options.level}.\n\n| {' | '.join(COLUMNS)} |\n{'|---' * len(COLUMNS)}|\n"
+    yield f"{report.machine()} Headers for {options.level}.\n\n{report.head(COLUMNS)}\n"
     missed: list[str] = []
     for renderer, frame in frames_of(options, program):
         missed += frame.missed()
         yield f"| {' | '.join(frame.cells())} |\n"
-    yield f"\nRenderer: {renderer}. Load after the run {load()}. "
+    yield f"\nRenderer: {renderer}. Load after the run {report.load()}. "
     yield f"Missed: {'; '.join(missed) or 'nothing'}.\n"
 
 
@@ -169,8 +169,7 @@ def main() -> int:
         else:
             print_table(options)
     except subprocess.CalledProcessError as error:
-        print(f"shading: {error}", file=sys.stderr)
-        return 2
+        return report.failed("shading", error)
     return 0
 
 

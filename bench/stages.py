@@ -21,8 +21,8 @@ import subprocess
 import sys
 from typing import Mapping, NamedTuple, Sequence
 
-from bench import scenes
-from bench.run import load, processor_name
+from bench import report, scenes
+from bench.options import add_any_scenes
 from tools.places import BENCH_OUT, EXAMPLES, TOP, is_built
 
 SCENES = ("small", "mesh", "smooth", "flat")
@@ -217,7 +217,7 @@ def main() -> int:
     parser.add_argument("--frames", default=PROGRAM, help="a program of crates/frames in which the stages are out of line (default: that of --build)")
     parser.add_argument("--build", action="store_true", help="builds that program first")
     parser.add_argument("--rt", default="rt", help="the command rt")
-    parser.add_argument("--scenes", nargs="+", choices=tuple(scenes.SCENES), default=SCENES, metavar="NAME", help="default " + ", ".join(SCENES))
+    add_any_scenes(parser, SCENES)
     parser.add_argument("--write", metavar="FILE", help="draws the bars to this file, as SVG")
     options = parser.parse_args()
     missing = [tool for tool in ("perf", "valgrind") if shutil.which(tool) is None]
@@ -229,9 +229,9 @@ def main() -> int:
     if not is_built(options.frames, made_by="python3 -m bench.stages --build"):
         return 2
     scenes.write_all(options.scenes)
-    print(f"Machine: {processor_name()}; load before the run {load()}. One worker; percent of a frame.\n")
+    print(f"{report.machine()} One worker; percent of a frame.\n")
     columns = ("scene", "by", "a frame", *(stage.name for stage in STAGES))
-    print(f"| {' | '.join(columns)} |\n" + "|---" * len(columns) + "|")
+    report.print_head(columns)
     bars = []
     for scene in options.scenes:
         for measured in (by_time, by_instructions):

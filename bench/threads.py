@@ -25,9 +25,8 @@ import subprocess
 import sys
 from typing import NamedTuple
 
-from bench import scenes
-from bench.run import load, processor_name
-from tools.places import FRAMES_PROGRAM, is_built
+from bench import report, scenes
+from bench.options import add_any_scenes, add_frames_program, add_runs
 
 SCENES = ("smooth", "mesh", "large_mesh", "flat", "blended", "small")
 WORKERS = (1, 2, 4)
@@ -103,21 +102,19 @@ class Scene:
 
 def main() -> int:
     parser = argparse.ArgumentParser(description="Measures what keeps several workers from being as many times as fast.")
-    parser.add_argument("--program", default=FRAMES_PROGRAM, help="the program of crates/frames (default: where make frames leaves it)")
-    parser.add_argument("--runs", type=int, default=3, help="turns of each (default 3)")
+    add_frames_program(parser, "--program")
+    add_runs(parser, 3, "turns of each")
     parser.add_argument("--frames", type=int, default=24, help="frames of a turn (default 24)")
-    parser.add_argument("--scenes", nargs="+", choices=tuple(scenes.SCENES), default=SCENES, metavar="NAME", help="default " + ", ".join(SCENES))
+    add_any_scenes(parser, SCENES)
     options = parser.parse_args()
-    if not is_built(options.program, made_by="make frames"):
-        return 2
-    print(f"Machine: {processor_name()}, {os.cpu_count()} processors; load before the run {load()}.\n")
-    print(f"| {' | '.join(COLUMNS)} |\n" + "|---" * len(COLUMNS) + "|")
+    print(f"{report.machine()}\n")
+    report.print_head(COLUMNS)
     for name, source in zip(options.scenes, scenes.write_all(options.scenes)):
         scene = Scene(os.path.abspath(options.program), source, options.frames)
         for _ in range(options.runs):
             scene.turn()
         print(scene.row(name), flush=True)
-    print(f"\nLoad after the run {load()}.")
+    report.print_end()
     return 0
 
 

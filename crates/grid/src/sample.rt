@@ -1,90 +1,51 @@
 ghost use Rattle.std.specs.Prelude.{◌≡◌, ◌<◌, slice_index};
-ghost use Rattle.grid.specs.declared.sample_count.SampleCount.TheVariants.{Two, Four, Eight, Sixteen};
 ghost use Rattle.grid.specs.Samples.{count_of, offsets_x, offsets_y, sample_position};
 
 use crate::point::Point;
 use crate::sample_count::SampleCount;
 
-/// How far right of a pixel's upper left corner and below it sample `s` of two lies.
+/// How far right of a pixel's upper left corner and below it sample `s` lies, in 1/256 pixel. Of sixteen, sample 12 lies
+/// on the left border of the pixel, and sample 15 on the upper one.
 #[inline(always)]
-fn offset_of_two(s: u32) -> (u32, u32)
-    requires { s < 2 }
-    ensures right { result.0 ≡ slice_index (offsets_x Two) s }
-    ensures below { result.1 ≡ slice_index (offsets_y Two) s }
+fn offset(s: u32, count: SampleCount) -> (u32, u32)
+    requires { s < count_of count }
+    ensures right { result.0 ≡ slice_index (offsets_x count) s }
+    ensures below { result.1 ≡ slice_index (offsets_y count) s }
     ensures right_small { result.0 < 256 }
     ensures below_small { result.1 < 256 }
 {
-    match s {
-        0 => (192, 192),
-        _ => (64, 64),
-    }
-}
-
-/// How far right of a pixel's upper left corner and below it sample `s` of four lies.
-#[inline(always)]
-fn offset_of_four(s: u32) -> (u32, u32)
-    requires { s < 4 }
-    ensures right { result.0 ≡ slice_index (offsets_x Four) s }
-    ensures below { result.1 ≡ slice_index (offsets_y Four) s }
-    ensures right_small { result.0 < 256 }
-    ensures below_small { result.1 < 256 }
-{
-    match s {
-        0 => (96, 32),
-        1 => (224, 96),
-        2 => (32, 160),
-        _ => (160, 224),
-    }
-}
-
-/// How far right of a pixel's upper left corner and below it sample `s` of eight lies.
-#[inline(always)]
-fn offset_of_eight(s: u32) -> (u32, u32)
-    requires { s < 8 }
-    ensures right { result.0 ≡ slice_index (offsets_x Eight) s }
-    ensures below { result.1 ≡ slice_index (offsets_y Eight) s }
-    ensures right_small { result.0 < 256 }
-    ensures below_small { result.1 < 256 }
-{
-    match s {
-        0 => (144, 80),
-        1 => (112, 176),
-        2 => (208, 144),
-        3 => (80, 48),
-        4 => (48, 208),
-        5 => (16, 112),
-        6 => (176, 240),
-        _ => (240, 16),
-    }
-}
-
-/// How far right of a pixel's upper left corner and below it sample `s` of sixteen lies. Sample 12 lies on the left
-/// border of the pixel, and sample 15 on the upper one.
-#[inline(always)]
-fn offset_of_sixteen(s: u32) -> (u32, u32)
-    requires { s < 16 }
-    ensures right { result.0 ≡ slice_index (offsets_x Sixteen) s }
-    ensures below { result.1 ≡ slice_index (offsets_y Sixteen) s }
-    ensures right_small { result.0 < 256 }
-    ensures below_small { result.1 < 256 }
-{
-    match s {
-        0 => (144, 144),
-        1 => (112, 80),
-        2 => (80, 160),
-        3 => (192, 112),
-        4 => (48, 96),
-        5 => (160, 208),
-        6 => (208, 176),
-        7 => (176, 48),
-        8 => (96, 224),
-        9 => (128, 16),
-        10 => (64, 32),
-        11 => (32, 192),
-        12 => (0, 128),
-        13 => (240, 64),
-        14 => (224, 240),
-        _ => (16, 0),
+    match (count, s) {
+        (SampleCount::One, _) => (128, 128),
+        (SampleCount::Two, 0) => (192, 192),
+        (SampleCount::Two, _) => (64, 64),
+        (SampleCount::Four, 0) => (96, 32),
+        (SampleCount::Four, 1) => (224, 96),
+        (SampleCount::Four, 2) => (32, 160),
+        (SampleCount::Four, _) => (160, 224),
+        (SampleCount::Eight, 0) => (144, 80),
+        (SampleCount::Eight, 1) => (112, 176),
+        (SampleCount::Eight, 2) => (208, 144),
+        (SampleCount::Eight, 3) => (80, 48),
+        (SampleCount::Eight, 4) => (48, 208),
+        (SampleCount::Eight, 5) => (16, 112),
+        (SampleCount::Eight, 6) => (176, 240),
+        (SampleCount::Eight, _) => (240, 16),
+        (SampleCount::Sixteen, 0) => (144, 144),
+        (SampleCount::Sixteen, 1) => (112, 80),
+        (SampleCount::Sixteen, 2) => (80, 160),
+        (SampleCount::Sixteen, 3) => (192, 112),
+        (SampleCount::Sixteen, 4) => (48, 96),
+        (SampleCount::Sixteen, 5) => (160, 208),
+        (SampleCount::Sixteen, 6) => (208, 176),
+        (SampleCount::Sixteen, 7) => (176, 48),
+        (SampleCount::Sixteen, 8) => (96, 224),
+        (SampleCount::Sixteen, 9) => (128, 16),
+        (SampleCount::Sixteen, 10) => (64, 32),
+        (SampleCount::Sixteen, 11) => (32, 192),
+        (SampleCount::Sixteen, 12) => (0, 128),
+        (SampleCount::Sixteen, 13) => (240, 64),
+        (SampleCount::Sixteen, 14) => (224, 240),
+        (SampleCount::Sixteen, _) => (16, 0),
     }
 }
 
@@ -97,12 +58,6 @@ pub fn sample_at(px: u32, py: u32, s: u32, count: SampleCount) -> Point
     requires sample { s < count_of count }
     ensures { result ≡ sample_position px py s count }
 {
-    let (x, y) = match count {
-        SampleCount::One => (128, 128),
-        SampleCount::Two => offset_of_two(s),
-        SampleCount::Four => offset_of_four(s),
-        SampleCount::Eight => offset_of_eight(s),
-        SampleCount::Sixteen => offset_of_sixteen(s),
-    };
+    let (x, y) = offset(s, count);
     Point::on_screen(256 * px + x, 256 * py + y)
 }
