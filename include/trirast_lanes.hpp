@@ -535,7 +535,9 @@ TRIRAST_INLINE void take_four_of(const Number *rows, std::size_t stride, const I
                                  Lanes *found) noexcept {
     std::uint32_t index[lane_count]; /* through memory: single lanes are slow to take out of a vector */
     row.store(index);
-    const auto from = [&](std::size_t lane) { return rows + first + stride * index[lane]; };
+    /* In bytes, so that the places of rows are computed once if more of them is taken. */
+    const unsigned char *bytes = reinterpret_cast<const unsigned char *>(rows) + first * sizeof(Number);
+    const auto from = [&](std::size_t lane) { return bytes + stride * sizeof(Number) * index[lane]; };
 #if TRIRAST_VECTORS && defined(__AVX__)
     using Part = std::decay_t<decltype(found->part[0])>;
     for (std::size_t k = 0; k < 4; k++)
@@ -551,7 +553,7 @@ TRIRAST_INLINE void take_four_of(const Number *rows, std::size_t stride, const I
 #else
     for (std::size_t k = 0; k < 4; k++)
         for (std::size_t lane = 0; lane < lane_count; lane++)
-            std::memcpy(&found[k].part[lane], from(lane) + k, sizeof found[k].part[lane]);
+            std::memcpy(&found[k].part[lane], from(lane) + k * sizeof(Number), sizeof(Number));
 #endif
 }
 
