@@ -7,7 +7,7 @@ from typing import Any, Optional, Tuple
 import numpy as np
 
 from .._vertices import VERTEX
-from ._polygons import Polygons
+from ._polygons import Polygons, as_numbers
 
 # The corners of the triangles on both sides of a quad's first diagonal, and of its second one.
 FIRST, SECOND = np.array(((0, 1, 2, 0, 2, 3), (1, 2, 3, 1, 3, 0)), np.uint32)
@@ -68,7 +68,7 @@ def vertices_of_corners(corners: Any, colors: Any, depth: int) -> Any:
     tails["depth"], tails["color"] = depth, np.ascontiguousarray(colors).view(np.uint32)[:, 0]
     # Pairs of 32 bits are moved as one number each, which takes numpy much less time.
     found = np.empty((len(colors), len(corners) // len(colors), 2), np.int64)
-    found[..., 0] = np.ascontiguousarray(corners).view(np.int64).reshape(found.shape[:2])
+    found[..., 0] = as_numbers(np.ascontiguousarray(corners)).reshape(found.shape[:2])
     for corner in range(found.shape[1]):
         found[:, corner, 1] = tails.view(np.int64)
     return found.reshape(-1).view(VERTEX)

@@ -9,7 +9,10 @@ from matplotlib.path import Path
 
 from ._inside import MAX_SNAPPED, STRAIGHT, all_codes, all_vertices, are_one, cleaned, stacked, stacked_codes
 from ._paths import range_any, rectilinear
-from ._polygons import CLOSEPOLY, LINETO, MOVETO, NOTHING, REACH, Polygons, Rings, equal_rings, in_units, joined, polygons, ranges_of, rings, rings_of_one_length
+from ._polygons import (
+    CLOSEPOLY, LINETO, MOVETO, NOTHING, REACH, Polygons, Rings, as_corners, as_numbers, equal_rings, in_units, joined, polygons, ranges_of,
+    rings, rings_of_one_length,
+)
 from ._transforms import applied, matrix_of
 
 
@@ -322,8 +325,8 @@ def quad_faces(coordinates: Any, transform: Any, snap: Optional[bool], stroke: f
     if snap or (snap is None and upright):
         grid = np.floor(grid + 0.5) + half_of_odd(np.float64(stroke))
     # Corners are rounded before they are put together, of which each is four times there.
-    whole = polygons(grid, (), ()).corners.reshape(grid.shape)
-    corners = np.stack((whole[:-1, :-1], whole[:-1, 1:], whole[1:, 1:], whole[1:, :-1]), 2).reshape(-1, 2)
+    whole = as_numbers(polygons(grid, (), ()).corners).reshape(grid.shape[:2])
+    corners = as_corners(np.stack((whole[:-1, :-1], whole[:-1, 1:], whole[1:, 1:], whole[1:, :-1]), 2).reshape(-1))
     count = len(corners) // 4
     found = Polygons(corners, 4 * np.arange(1, count + 1), np.arange(1, count + 1))
     return Faces(found, np.full(count, upright and snap is not False))

@@ -12,7 +12,7 @@ from ._polygons import LINETO, MOVETO, REACH, Polygons, joined, polygons
 from ._transforms import affine, applied
 
 LINE, CLOSED = bytes((LINETO,)), bytes((Path.CLOSEPOLY,))
-CURVES = (Path.CURVE3, Path.CURVE4)
+CURVES = (int(Path.CURVE3), int(Path.CURVE4))
 FLIPPED = np.array(((1.0, 1.0, 1.0), (-1.0, -1.0, -1.0), (1.0, 1.0, 1.0)))
 # The vertices of a rectangle with its first one again.
 RECTANGLE = 5

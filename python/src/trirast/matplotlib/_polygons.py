@@ -10,7 +10,8 @@ from matplotlib.path import Path
 UNIT = 256
 # Positions are at most this far from the picture's corner, in pixels: the guard band ends at 32,768.
 REACH = 32767.0
-MOVETO, LINETO, CLOSEPOLY = Path.MOVETO, Path.LINETO, Path.CLOSEPOLY
+# matplotlib has them as numbers of numpy, which take many times as long to compare with an integer.
+MOVETO, LINETO, CLOSEPOLY = int(Path.MOVETO), int(Path.LINETO), int(Path.CLOSEPOLY)
 # A single ring of at most this number of corners winds around no point twice, so both rules are the same for it.
 MOST_SIMPLE = 4
 
@@ -139,13 +140,17 @@ def rings(vertices: Any, codes: Any, counts: Any) -> Polygons:
     ring_ends = starts.copy()
     ring_ends[:-1], ring_ends[-1:] = starts[1:], len(codes) - len(dropped)
     found = polygons(vertices, ring_ends, begun.searchsorted(ends))
-    return found._replace(corners=rows_of(found.corners, kept)) if len(dropped) else found
+    return found._replace(corners=as_corners(as_numbers(found.corners)[kept])) if len(dropped) else found
 
 
-def rows_of(corners: Any, kept: Any) -> Any:
-    """The corners that are kept. As single numbers numpy takes them much faster than as rows."""
-    found = corners.view(np.int64)[:, 0][kept]
-    return found.view(np.int32).reshape(-1, 2)
+def as_numbers(corners: Any) -> Any:
+    """Each corner as a single number, which numpy moves much faster than a row of two."""
+    return corners.view(np.int64)[:, 0]
+
+
+def as_corners(numbers: Any) -> Any:
+    """The corners again."""
+    return numbers.view(np.int32).reshape(-1, 2)
 
 
 def opened(vertices: Any, codes: Any) -> Rings:
