@@ -11,7 +11,7 @@ import unittest
 from tools.sources.shared_names import names, shared
 
 # How many names stand in more than one crate. Lower it with each that goes.
-MOST = 8
+MOST = 5
 
 
 class SharedNames(unittest.TestCase):

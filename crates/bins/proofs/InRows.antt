@@ -3,7 +3,7 @@ use Rattle.std.proofs.Common.{◌≡◌, ◌⊎◌, inl, inr, ap, ◌∙◌, ℕ
 use Rattle.std.specs.List.{Contains}
 use Rattle.std.proofs.lemmas.Bool.{cases_lt}
 use Rattle.std.proofs.lemmas.List.Kept.{AllPairs-from_increasing}
-use Rattle.std.proofs.lemmas.List.Elements.{All-nil, All-push, All-weaker, Contains-append_left, Contains-push}
+use Rattle.std.proofs.lemmas.List.Elements.{All-push, All-weaker, Contains-append_left, Contains-push}
 use Rattle.shade.specs.declared.placed.Placed.{Placed}
 use Rattle.model.specs.Scene.{Scene}
 use Rattle.bins.specs.declared.tile_run.TileRun.{TileRun}
@@ -15,14 +15,6 @@ use Rattle.std.proofs.Math.Nat.{mul-le-mul_right}
 use Rattle.bins.proofs.Gathering.{increasing-push, no_runs}
 
 module _ (l : Scene) (g : TileGrid) (first_row rows : ℕ) where
-  -- none before the first triangle
-  pub no_candidates : AreCandidates l g first_row rows 0 []
-  no_candidates = record {
-    before = All-nil (λ number. number < 0);
-    ascending = λ k h. absurd (omega arith);
-    whole = λ m tile t before below e meets. absurd (omega arith);
-  }
-
   module _ (n : ℕ) (numbers : List ℕ) (are : AreCandidates l g first_row rows n numbers) where
     -- one that meets no tile of these rows
     pub candidates_past : ((t : Placed) (tile : ℕ) → slice_get l.triangles n ≡ Some t → tile < rows * columns_of g → ¬ MeetsRect t l.count (rect_of g (first_row * columns_of g + tile)))

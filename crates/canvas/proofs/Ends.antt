@@ -24,8 +24,6 @@ pub ends_at : (ts : List Placed) (n n' : SampleCount) (i i' j j' s : ℕ) (x x' 
 ends_at ts n n' i i' j j' s x x' y y' count across down old new h = rw (← count, ← across, ← down, ← old, ← new) h
 
 -- ---- triangles at one tile
-pub tile_begins : (ts : List Placed) (tile : Tile) (xs : List BlockSamples) → TileHasEnds (take 0 ts) tile xs xs
-tile_begins ts tile xs row column s h = refl
 
 pub tile_more : (ts : List Placed) (tile : Tile) (n : ℕ) (t : Placed) (old middle new : List BlockSamples) → n < length ts → slice_get ts n ≡ Some t
     → TileHasEnds (take n ts) tile old middle → DrawsTile t tile middle new → TileHasEnds (take (n + 1) ts) tile old new
@@ -142,8 +140,6 @@ module _ (ts : List Placed) (c : Canvas) (first end : ℕ) where
     one_row_drawn = one_drawn ts c first end row_of_tiles row old middle (put middle part a n) sample_stays sample_ends before
 
 -- ---- batches
-pub nothing_drawn : (ts : List Placed) (c : Canvas) (first end : ℕ) (xs : List BlockSamples) → HaveEnds (take 0 ts) c first end xs xs
-nothing_drawn ts c first end xs i j s h = refl
 
 pub ends_joined : (ts us : List Placed) (c : Canvas) (first end : ℕ) (old middle new : List BlockSamples) → HaveEnds ts c first end old middle → HaveEnds us c first end middle new → HaveEnds (ts ++ us) c first end old new
 ends_joined ts us c first end old middle new a b i j s h = ends-append c.count i j s ts us _ _ _ (a i j s h) (b i j s h)

@@ -62,9 +62,6 @@ module _ (ts : List Placed) (none : Placed) (numbers : List ℕ) (many : ℕ) (b
 
 -- ---- those of a tile row
 module _ (ts : List Placed) (c : Canvas) (row : ℕ) where
-  pub none_of_row : (numbers firsts ends : List ℕ) (span : Span) → AreOfRow ts c row 0 numbers firsts ends 0 span
-  none_of_row numbers firsts ends span = record { below = λ p l. absurd (omega (arith, l)); columns = λ p t l. absurd (omega (arith, l)); makes = λ none i j s h x y e. e }
-
   module _ (numbers firsts ends : List ℕ) (many : ℕ) (span : Span) where
     -- triangles that do not meet the row
     pub row_past : (n more : ℕ) → ((k : ℕ) (t : Placed) → n ≤ k → k < n + more → slice_get ts k ≡ Some t → (i j s : ℕ) → IsStoredIn c row (row + 1) i j s → ¬ Meets t c.count i j s)

@@ -83,9 +83,6 @@ module _ (count : SampleCount) (xs : List ℕ) (i j s : ℕ) where
 pub many_entries : (count : SampleCount) → 4096 ≤ tile_entries count
 many_entries count = let some : 0 < count_of count = some_samples count in omega (arith, some)
 
-pub entry_below : (count : SampleCount) (i j s : ℕ) → s < count_of count → entry_in_tile count i j s < tile_entries count
-entry_below count i j s h = let below = number_below count (block_in i j) s (omega arith) h in omega (arith, below)
-
 -- ---- a tile whose samples have one id
 module _ (count : SampleCount) (xs : List BlockSamples) where
   pub uniform_plane : IsUniformTile count xs → (s k : ℕ) → s < count_of count → k < 64 → id_of (stored_at (slice_index_or xs (1 + s) none) k) ≡ id_of (stored_at (slice_index_or xs 1 none) 0)

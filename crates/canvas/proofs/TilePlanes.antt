@@ -1,14 +1,12 @@
 -- The planes of one tile.
 use Rattle.std.proofs.Common.{◌≡◌, ◌≢◌, ◌∙◌, inl, inr, refl, ap, sym, ℕ, ◌+◌, ◌-◌, ◌*◌, ◌/◌, ◌%◌, ◌<◌, ◌≤◌, List, [], ◌∷◌, length, slice_index, slice_set, arith}
 use Rattle.std.specs.Prelude.{if◌then◌else◌, slice_index_or}
-use Rattle.std.proofs.lemmas.Bool.{cases_lt}
 use Rattle.std.proofs.lemmas.Bool.Decides.{eqb_tells}
-use Rattle.std.proofs.lemmas.List.{get_or-set_same, get_or-set_other}
+use Rattle.std.proofs.lemmas.List.{get_or-set_same}
 use Rattle.grid.specs.Samples.{count_of}
 use Rattle.grid.specs.declared.sample_count.SampleCount.{SampleCount}
 use Rattle.grid.specs.declared.sample_count.SampleCount.TheVariants.{One, Two, Four, Eight, Sixteen}
 use Rattle.shade.specs.declared.sample.CanvasSample.{CanvasSample}
-use Rattle.shade.proofs.Resolved.{some_samples}
 use Rattle.lanes.specs.declared.block_samples.BlockSamples.{BlockSamples}
 use Rattle.lanes.specs.Block.{stored_at}
 use Rattle.canvas.specs.Layout.{planes_of_tile, block_of, stored_in_tile}
@@ -64,41 +62,9 @@ last_place Four q s h k = omega (arith, h, k)
 last_place Eight q s h k = omega (arith, h, k)
 last_place Sixteen q s h k = omega (arith, h, k)
 
-pub one_before : (count : SampleCount) (place : ℕ) → 1 + count_of count ≤ place → (place - count_of count - 1) % count_of count ≡ (place - 1) % count_of count
-one_before One place h = omega (arith, h)
-one_before Two place h = omega (arith, h)
-one_before Four place h = omega (arith, h)
-one_before Eight place h = omega (arith, h)
-one_before Sixteen place h = omega (arith, h)
-
-pub in_first_block : (count : SampleCount) (k : ℕ) → 1 ≤ k → k < 1 + count_of count → 1 + (k - 1) % count_of count ≡ k
-in_first_block One k h l = omega (arith, h, l)
-in_first_block Two k h l = omega (arith, h, l)
-in_first_block Four k h l = omega (arith, h, l)
-in_first_block Eight k h l = omega (arith, h, l)
-in_first_block Sixteen k h l = omega (arith, h, l)
-
 -- the planes before this place are those of the cleared block, again and again
 abbrev pub AreFilled : SampleCount → List BlockSamples → ℕ → List BlockSamples → Type 0
 AreFilled count old place xs = (k : ℕ) → 1 ≤ k → k < place → slice_index_or xs k none ≡ slice_index_or old (1 + (k - 1) % count_of count) none
-
-pub none_filled : (count : SampleCount) (xs : List BlockSamples) → AreFilled count xs (1 + count_of count) xs
-none_filled count xs k h l = ap (λ p. slice_index_or xs p none) (sym (in_first_block count k h l))
-
-pub one_filled : (count : SampleCount) (old xs : List BlockSamples) (place : ℕ) (plane : BlockSamples) → 1 + count_of count ≤ place → place < length xs → plane ≡ slice_index_or xs (place - count_of count) none
-    → AreFilled count old place xs → AreFilled count old (place + 1) (slice_set xs place plane)
-one_filled count old xs place plane from room is before k h l =
-    elim (cases_lt k place) [
-      | inl less ↦ get_or-set_other xs place k plane none (λ e. omega (arith, e, less)) ∙ before k h less
-      | inr more ↦
-          let here : k ≡ place = omega (arith, l, more) in
-          let some : 0 < count_of count = some_samples count in
-          ap (λ p. slice_index_or (slice_set xs place plane) p none) here
-          ∙ get_or-set_same xs place plane none room
-          ∙ is
-          ∙ before (place - count_of count) (omega (arith, from)) (omega (arith, from, some))
-          ∙ ap (λ m. slice_index_or old (1 + m) none) (one_before count place from ∙ ap (λ p. (p - 1) % count_of count) (sym here))
-    ]
 
 pub tile_filled : (count : SampleCount) (old new : List BlockSamples) → slice_index (slice_index_or old 0 none).r 0 ≡ 1 → slice_index (slice_index_or new 0 none).r 0 ≢ 1
     → AreFilled count old (planes_of_tile count) new → (i j s : ℕ) → s < count_of count → stored_in_tile count new i j s ≡ stored_in_tile count old i j s

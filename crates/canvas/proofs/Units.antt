@@ -1,5 +1,5 @@
 -- Pixels of some entries each, one after another in a list, and rows of such pixels.
-use Rattle.std.proofs.Common.{◌≡◌, ◌≢◌, ◌∙◌, inl, inr, refl, sym, ap, subst, ℕ, ◌+◌, ◌-◌, ◌*◌, ◌/◌, ◌%◌, ◌<◌, ◌≤◌, List, length, slice_index, slice_set, arith}
+use Rattle.std.proofs.Common.{◌≡◌, ◌≢◌, ◌∙◌, inl, inr, sym, ap, subst, ℕ, ◌+◌, ◌-◌, ◌*◌, ◌/◌, ◌%◌, ◌<◌, ◌≤◌, List, length, slice_index, slice_set, arith}
 use Rattle.std.proofs.Math.Nat.{mul_comm, add-mul, mul-le-mul_right}
 use Rattle.std.proofs.lemmas.Bool.{cases_lt}
 use Rattle.std.proofs.lemmas.List.{get_or-set_same, get_or-set_other}
@@ -94,9 +94,6 @@ module _ (c : Canvas) (first end w stride : ℕ) (P : ℕ → ℕ → (ℕ → �
   pub record AreRowsWritten (row : ℕ) (old new : List ℕ) : Type 0 where
     pub pixels : (i j : ℕ) → HasPixel c first end i j → j < 64 * first + row → P i j (λ k. slice_index new (entry_of first w stride i j + k))
     pub others : (n : ℕ) → ((i j k : ℕ) → HasPixel c first end i j → j < 64 * first + row → k < w → n ≢ entry_of first w stride i j + k) → slice_index new n ≡ slice_index old n
-
-  pub no_row_written : (xs : List ℕ) → AreRowsWritten 0 xs xs
-  no_row_written xs = record { pixels = λ i j h l. let from = h.from in absurd (omega arith); others = λ n _. refl }
 
   pub all_rows_written : (row : ℕ) (old new : List ℕ) → shown_rows c first end ≤ row → AreRowsWritten row old new → AreWritten c first end w stride P old new
   all_rows_written row old new past d =

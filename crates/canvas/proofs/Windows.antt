@@ -7,23 +7,23 @@ use Rattle.shade.specs.declared.placed.Placed.{Placed}
 use Rattle.canvas.specs.declared.canvas.Canvas.{Canvas}
 use Rattle.canvas.specs.declared.window.Origin.{Origin}
 use Rattle.canvas.specs.Drawing.{HaveEnds}
-use Rattle.canvas.specs.Window.{saturated, moved, HaveEndsOnScreen}
+use Rattle.canvas.specs.Window.{clamped_to_i32, moved, HaveEndsOnScreen}
 use Rattle.canvas.proofs.Moved.{all_return}
 
 -- the guard band is far within 32 bits
-pub saturated_in_band : (z : ℤ) → IsInBand z → saturated z ≡ z
-saturated_in_band z h = let low = h.low in let high = h.high in omega (arith, ints, clamps)
+pub clamped_in_band : (z : ℤ) → IsInBand z → clamped_to_i32 z ≡ z
+clamped_in_band z h = let low = h.low in let high = h.high in omega (arith, ints, clamps)
 
-pub in_band_saturated : (z : ℤ) → IsInBand (saturated z) → IsInBand z
-in_band_saturated z h = let low = h.low in let high = h.high in record { low = omega (arith, ints, clamps); high = omega (arith, ints, clamps) }
+pub in_band_clamped : (z : ℤ) → IsInBand (clamped_to_i32 z) → IsInBand z
+in_band_clamped z h = let low = h.low in let high = h.high in record { low = omega (arith, ints, clamps); high = omega (arith, ints, clamps) }
 
 -- ---- what the code computes
 -- a difference that is narrowed to 32 bits
 pub narrowed_position : (a x f g r : ℤ) → FitsSigned w32 a → FitsSigned w32 x → f ≡ to_z w32 (of_z w32 a) → g ≡ to_z w32 (of_z w32 x)
-    → r ≡ saturated (to_z w64 (of_z w64 (to_z w64 (of_z w64 f) -ℤ to_z w64 (of_z w64 (pos 256 *ℤ to_z w64 (of_z w64 g)))))) → to_z w32 (of_z w32 r) ≡ saturated (a -ℤ pos 256 *ℤ x)
+    → r ≡ clamped_to_i32 (to_z w64 (of_z w64 (to_z w64 (of_z w64 f) -ℤ to_z w64 (of_z w64 (pos 256 *ℤ to_z w64 (of_z w64 g)))))) → to_z w32 (of_z w32 r) ≡ clamped_to_i32 (a -ℤ pos 256 *ℤ x)
 narrowed_position a x f g r p q e h is =
     let plain : to_z w64 (of_z w64 (to_z w64 (of_z w64 f) -ℤ to_z w64 (of_z w64 (pos 256 *ℤ to_z w64 (of_z w64 g))))) ≡ a -ℤ pos 256 *ℤ x = omega (arith, ints) in
-    let same : r ≡ saturated (a -ℤ pos 256 *ℤ x) = is ∙ ap saturated plain in
+    let same : r ≡ clamped_to_i32 (a -ℤ pos 256 *ℤ x) = is ∙ ap clamped_to_i32 plain in
     let fits : to_z w32 (of_z w32 r) ≡ r = omega (arith, ints, clamps, same) in
     fits ∙ same
 

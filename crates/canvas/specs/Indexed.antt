@@ -11,14 +11,14 @@ pub record AreIndices (many : ℕ) (indices : List ℕ) : Type 0 where
   pub third : slice_index indices 2 < many
 
 -- The vertex of index k; past the end one at the origin, without a colour.
-abbrev pub vertex_at : List Vertex → ℕ → Vertex
-vertex_at vertices k = slice_index_or vertices k (record { position = record { x = pos 0; y = pos 0 }; z = 0; rgba = [] })
+abbrev pub indexed_vertex : List Vertex → ℕ → Vertex
+indexed_vertex vertices k = slice_index_or vertices k (record { position = record { x = pos 0; y = pos 0 }; z = 0; rgba = [] })
 
 -- The triangle whose vertices have these three indices, in this state.
 abbrev pub placed_by : List Vertex → State → List ℕ → Placed
 placed_by vertices state indices = record {
-  tri = record { a = (vertex_at vertices (slice_index indices 0)).position; b = (vertex_at vertices (slice_index indices 1)).position; c = (vertex_at vertices (slice_index indices 2)).position };
-  z = (vertex_at vertices (slice_index indices 0)).z ∷ (vertex_at vertices (slice_index indices 1)).z ∷ (vertex_at vertices (slice_index indices 2)).z ∷ [];
-  rgba = (vertex_at vertices (slice_index indices 0)).rgba ∷ (vertex_at vertices (slice_index indices 1)).rgba ∷ (vertex_at vertices (slice_index indices 2)).rgba ∷ [];
+  tri = record { a = (indexed_vertex vertices (slice_index indices 0)).position; b = (indexed_vertex vertices (slice_index indices 1)).position; c = (indexed_vertex vertices (slice_index indices 2)).position };
+  z = (indexed_vertex vertices (slice_index indices 0)).z ∷ (indexed_vertex vertices (slice_index indices 1)).z ∷ (indexed_vertex vertices (slice_index indices 2)).z ∷ [];
+  rgba = (indexed_vertex vertices (slice_index indices 0)).rgba ∷ (indexed_vertex vertices (slice_index indices 1)).rgba ∷ (indexed_vertex vertices (slice_index indices 2)).rgba ∷ [];
   state = state;
 }

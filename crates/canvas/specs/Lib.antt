@@ -94,7 +94,7 @@
 --   IsUniformTile: The tile with these planes is unchanged since it was cleared, and all of its samples have one id.
 --   planes_in: The planes of the tile in a column and a row of tiles.
 --   IsUniform: The tile in a column and a row of tiles is unchanged since it was cleared, and all of its samples have one id.
---   IsWritten: The number of ids that are written of a tile: one if it is unchanged since it was cleared, else one for each sample.
+--   IsIdCount: The number of ids that are written of a tile: one if it is unchanged since it was cleared, else one for each sample.
 --   with_colour: The sample in the colour of this number, red its lowest byte.
 --   AreTileColours: The samples of a tile have the colours that the entries say, and the depths that they had.
 --   HasBytes: The channels of the sample are bytes.
@@ -112,12 +112,12 @@
 --
 -- Indexed.antt
 --   AreIndices: The first three indices are indices of vertices, of which there are `many`.
---   vertex_at: The vertex of index k; past the end one at the origin, without a colour.
+--   indexed_vertex: The vertex of index k; past the end one at the origin, without a colour.
 --   placed_by: The triangle whose vertices have these three indices, in this state.
 --
 -- Window.antt
 --   moved_position: A position of the screen, as seen from the corner of pixel (x, y), in 1/256 pixel.
---   saturated: The number, or the nearest one that has 32 bits.
+--   clamped_to_i32: The number, or the nearest one that has 32 bits.
 --   moved_box: A rectangle of the screen's pixels, as seen from pixel (x, y).
 --   moved_state: The state of triangles, with its scissor, as seen from pixel (x, y).
 --   moved: The triangle, with its scissor, as seen from the corner of pixel (x, y).

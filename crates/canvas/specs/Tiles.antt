@@ -62,8 +62,8 @@ abbrev pub IsUniform : Canvas → ℕ → ℕ → ℕ → List BlockSamples → 
 IsUniform c first column row samples = IsUniformTile c.count (planes_in c first column row samples)
 
 -- The number of ids that are written of a tile: one if it is unchanged since it was cleared, else one for each sample.
-abbrev pub IsWritten : Canvas → ℕ → ℕ → ℕ → List BlockSamples → ℕ → Type 0
-IsWritten c first column row samples many =
+abbrev pub IsIdCount : Canvas → ℕ → ℕ → ℕ → List BlockSamples → ℕ → Type 0
+IsIdCount c first column row samples many =
     ((many ≡ 1) × IsUniform c first column row samples) ⊎ ((many ≡ tile_entries c.count) × ¬ IsUniform c first column row samples)
 
 -- The sample in the colour of this number, red its lowest byte. Its depth and its alpha are unchanged, and what is above the third byte is not read.

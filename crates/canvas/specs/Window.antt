@@ -16,12 +16,12 @@ abbrev pub moved_position : ℤ → ℤ → Position → Position
 moved_position x y p = record { x = p.x -ℤ pos 256 *ℤ x; y = p.y -ℤ pos 256 *ℤ y }
 
 -- The number, or the nearest one that has 32 bits.
-abbrev pub saturated : ℤ → ℤ
-saturated z = int_max (int_min z (pos 2147483647)) (negsuc 2147483647)
+abbrev pub clamped_to_i32 : ℤ → ℤ
+clamped_to_i32 z = int_max (int_min z (pos 2147483647)) (negsuc 2147483647)
 
 -- A rectangle of the screen's pixels, as seen from pixel (x, y).
 abbrev pub moved_box : ℤ → ℤ → PixelBox → PixelBox
-moved_box x y r = record { x0 = saturated (r.x0 -ℤ x); y0 = saturated (r.y0 -ℤ y); x1 = saturated (r.x1 -ℤ x); y1 = saturated (r.y1 -ℤ y) }
+moved_box x y r = record { x0 = clamped_to_i32 (r.x0 -ℤ x); y0 = clamped_to_i32 (r.y0 -ℤ y); x1 = clamped_to_i32 (r.x1 -ℤ x); y1 = clamped_to_i32 (r.y1 -ℤ y) }
 
 -- The state of triangles, with its scissor, as seen from pixel (x, y).
 abbrev pub moved_state : ℤ → ℤ → State → State

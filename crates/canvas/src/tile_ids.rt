@@ -4,7 +4,7 @@ ghost use Rattle.lanes.specs.Block.{stored_at};
 ghost use Rattle.grid.specs.Samples.{count_of};
 ghost use Rattle.canvas.specs.Layout.{planes_of_tile, stored_in_tile};
 ghost use Rattle.canvas.specs.Colours.{id_of};
-ghost use Rattle.canvas.specs.Tiles.{FitTile, IsTileMisfit, tile_entries as entries_of, entry_in_tile, said_of, AreTileIds, IsUniformTile, IsWritten};
+ghost use Rattle.canvas.specs.Tiles.{FitTile, IsTileMisfit, tile_entries as entries_of, entry_in_tile, said_of, AreTileIds, IsUniformTile, IsIdCount};
 
 use crate::entries::{Entry, write_entries};
 use crate::misfit::Misfit;
@@ -101,7 +101,7 @@ impl View<'_> {
     pub fn tile_ids(&self, column: u32, row: u32, ids: &mut [u32]) -> Result<usize, Misfit>
         ensures fits { IsOk result ↔ FitTile self.now.rows.canvas self.now.rows.first self.now.rows.end column row
             (length ids.old) }
-        ensures many { IfOk result (IsWritten self.now.rows.canvas self.now.rows.first column row self.now.planes.now) }
+        ensures many { IfOk result (IsIdCount self.now.rows.canvas self.now.rows.first column row self.now.planes.now) }
         ensures ids { IfOk result (λ many. AreTileIds self.now.rows.canvas self.now.rows.first self.now.rows.end column
             row self.now.planes.now (take many ids.new)) }
         ensures others { IfOk result (λ many. (n : ℕ) → many ≤ n → slice_index ids.new n ≡ slice_index ids.old n) }

@@ -2,7 +2,7 @@
 ghost use Rattle.std.specs.Prelude.{◌≡◌, ◌↔◌, ◌<◌, ◌-ℤ◌, map, IsSome, IfSome};
 ghost use Rattle.std.specs.List.{All};
 ghost use Rattle.grid.specs.Position.{IsInGuardBand};
-ghost use Rattle.canvas.specs.Window.{moved_position, moved_state, saturated, moved, CanMove};
+ghost use Rattle.canvas.specs.Window.{moved_position, moved_state, clamped_to_i32, moved, CanMove};
 
 use grid::{PixelBox, Point, Tri};
 use shade::{Placed, State, Triangles};
@@ -18,7 +18,7 @@ pub struct Origin {
 
 /// The number, or the nearest one that has 32 bits.
 fn narrowed(number: i64) -> i32
-    ensures { result ≡ saturated number }
+    ensures { result ≡ clamped_to_i32 number }
 {
     number.clamp(-2_147_483_648, 2_147_483_647) as i32
 }
@@ -35,7 +35,7 @@ pub fn seen_point(p: Point, origin: &Origin) -> Option<Point>
 
 /// An edge of a rectangle as seen from a pixel, or the nearest number that has 32 bits.
 fn seen_edge(edge: i32, pixel: i32) -> i32
-    ensures { result ≡ saturated (edge -ℤ pixel) }
+    ensures { result ≡ clamped_to_i32 (edge -ℤ pixel) }
 {
     edge.saturating_sub(pixel)
 }

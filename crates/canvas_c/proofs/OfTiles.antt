@@ -5,7 +5,7 @@ use Rattle.canvas.specs.declared.canvas.Canvas.{Canvas}
 use Rattle.canvas.specs.declared.misfit.Misfit.{Misfit}
 use Rattle.canvas.specs.declared.tile_rows.TileRows.{TileRows as Rows}
 use Rattle.canvas.specs.Layout.{HasTile}
-use Rattle.canvas.specs.Tiles.{IsTileMisfit, IsWritten, AreTileIds}
+use Rattle.canvas.specs.Tiles.{IsTileMisfit, IsIdCount, AreTileIds}
 use Rattle.canvas.proofs.TileEntries.{many_entries}
 use Rattle.model.specs.Checking.{done, check, followed_by, Pass, FirstIs}
 use Rattle.model.proofs.Checking.{pass_both, fails_later}
@@ -36,7 +36,7 @@ module _ (head : CanvasHead) (rows : Rows) (are : AreRowsOf head rows) (column r
         ])
 
 -- what was written of a tile, by whether it was one entry
-pub told_ids : (c : Canvas) (first end column row : ℕ) (samples : List BlockSamples) (old ids : List ℕ) (many uniform : ℕ) → IsWritten c first column row samples many → AreTileIds c first end column row samples (take many ids)
+pub told_ids : (c : Canvas) (first end column row : ℕ) (samples : List BlockSamples) (old ids : List ℕ) (many uniform : ℕ) → IsIdCount c first column row samples many → AreTileIds c first end column row samples (take many ids)
     → ((n : ℕ) → many ≤ n → slice_index ids n ≡ slice_index old n) → (many ≡ 1 → uniform ≡ 1) → (many ≢ 1 → uniform ≡ 0) → AreIdsOfTile c first end column row samples old ids uniform
 told_ids c first end column row samples old ids many uniform is are others one more =
     elim is [

@@ -5,7 +5,6 @@ use Rattle.std.proofs.lemmas.Bool.Decides.{nat_tests}
 use Rattle.std.proofs.lemmas.Simd.{Each1-get_or}
 use Rattle.std.specs.Simd.Lanes.{zip2, sel_l, Each1}
 use Rattle.planes.specs.Lanes.{HasLanes}
-use Rattle.lanes.specs.Operands.{AreByteLanes}
 use Rattle.planes.proofs.Lanes.{itself, zipped, splat, chosen}
 
 -- lanes by another form of the same function
@@ -60,12 +59,6 @@ saturated_difference a b m p i least =
     by_numbers x y i = omega arith
 
 -- ---- bytes
-pub bytes : (v : List ℕ) → length v ≡ 16 → Each1 (λ n. n ≤ 255) v → AreByteLanes v
-bytes v long each = record { long = long; small = λ i l. Each1-get_or (λ n. n ≤ 255) v i 0 (omega (arith, long)) each }
-
-pub same_byte : (n : ℕ) → n ≤ 255 → AreByteLanes (replicate 16 n)
-same_byte n byte = record { long = (splat n).long; small = λ i l. rw ((splat n).each i l) byte }
-
 pub product : (a b : List ℕ) → length a ≡ 16 → length b ≡ 16 → ((k : ℕ) → k < 16 → get_or a k 0 ≤ 255) → ((k : ℕ) → k < 16 → get_or b k 0 ≤ 255)
     → HasLanes (zip2 times a b) (λ k. get_or a k 0 * get_or b k 0)
 product a b p q i j = becomes _ _ _ (zipped times a b _ _ (itself a p) (itself b q)) (λ k l. by_numbers (get_or a k 0) (get_or b k 0) (i k l) (j k l))

@@ -1,10 +1,10 @@
 -- The columns of blocks of a tile row, one after another, and what their bits say.
-use Rattle.std.proofs.Common.{◌≡◌, ◌≢◌, ◌⊎◌, ◌↔◌, inl, inr, refl, sym, subst, ap, ◌∙◌, arith, ℕ, ◌+◌, ◌-◌, ◌*◌, ◌/◌, ◌%◌, ◌^◌, ◌<◌, ◌≤◌, List, length, take, drop, slice_index, IsBitSet, ℤ, pos, negsuc, ◌+ℤ◌, ◌*ℤ◌, ◌≤ℤ◌, ◌<ℤ◌}
+use Rattle.std.proofs.Common.{◌≡◌, ◌≢◌, ◌⊎◌, ◌↔◌, inl, inr, refl, sym, subst, ap, ◌∙◌, arith, ℕ, ◌+◌, ◌-◌, ◌*◌, ◌/◌, ◌%◌, ◌^◌, ◌<◌, ◌≤◌, List, length, take, drop, slice_index, IsBitSet, ℤ, pos, ◌+ℤ◌, ◌*ℤ◌}
 use Rattle.std.proofs.lemmas.Bool.{cases_lt}
 use Rattle.std.proofs.lemmas.Int.{ints, clamps}
 use Rattle.std.specs.Int.{bit_at}
 use Rattle.grid.specs.Position.{Position}
-use Rattle.grid.specs.Samples.{count_of, part_size, IsPart, sample_position, offsets_x, offsets_y}
+use Rattle.grid.specs.Samples.{count_of, part_size, sample_position, offsets_x, offsets_y}
 use Rattle.grid.specs.declared.pixels.TileSide.TheVariants.{T64}
 use Rattle.grid.specs.declared.sample_count.SampleCount.{SampleCount}
 use Rattle.grid.specs.declared.sample_count.SampleCount.TheVariants.{One, Two, Four, Eight, Sixteen}
@@ -33,7 +33,7 @@ use Rattle.canvas.specs.Window.{moved_state}
 use Rattle.canvas.proofs.Cut.{put}
 use Rattle.canvas.proofs.Places.{tile_of, tile_put, tile_kept}
 use Rattle.painting.specs.declared.polygon.Polygon.{Polygon}
-use Rattle.painting.specs.Painting.{IsInScissor, MeetsSample}
+use Rattle.painting.specs.Painting.{IsInScissor}
 use Rattle.painting.specs.Parts.{over_screen, IsInColumn, IsFlagged, MeetsHere, TilePaints, RowsPaint}
 use Rattle.painting.proofs.Joined.{rows_joined}
 

@@ -1,5 +1,5 @@
 -- Sixteen lanes, operation by operation.
-use Rattle.std.proofs.Common.{◌≡◌, ℕ, zero, suc, ◌+◌, ◌*◌, ◌/◌, ◌%◌, ◌^◌, ◌<◌, List, [], ◌∷◌, Bool, true, false, cond, length, get_or, map, replicate, refl, sym, ap, ◌∙◌, arith}
+use Rattle.std.proofs.Common.{◌≡◌, ℕ, zero, suc, ◌/◌, ◌%◌, ◌^◌, ◌<◌, List, Bool, true, false, cond, length, get_or, map, replicate, refl, sym, ap, ◌∙◌, arith}
 use Rattle.std.specs.Int.{bit_at}
 use Rattle.std.specs.Simd.Lanes.{zip2, sel_l, Each1, mask_l}
 use Rattle.std.proofs.lemmas.Simd.{length-zip2, get_or-zip2, get_or-replicate, length-replicate, length-sel_l, get_or-sel_l, Each1-from_get_or, bit_mask_l}
@@ -60,17 +60,6 @@ sixteen P p0 p1 p2 p3 p4 p5 p6 p7 p8 p9 p10 p11 p12 p13 p14 p15 (suc (suc (suc (
 sixteen P p0 p1 p2 p3 p4 p5 p6 p7 p8 p9 p10 p11 p12 p13 p14 p15 (suc (suc (suc (suc (suc (suc (suc (suc (suc (suc (suc (suc (suc (suc (suc (suc n)))))))))))))))) l = absurd (omega (arith, l))
 
 -- ---- some lane
-pub some_set : (p : ℕ → Bool) (xs : List ℕ) → 0 < mask_l (map p xs) → (i : ℕ) × (i < length xs) × (p (get_or xs i 0) ≡ true)
-some_set p [] h = absurd (omega (arith, h))
-some_set p (x ∷ xs) h = first (p x) refl (λ rest. some_set p xs rest)
-  where
-    first : (b : Bool) → p x ≡ b → (0 < mask_l (map p xs) → (i : ℕ) × (i < length xs) × (p (get_or xs i 0) ≡ true)) → (i : ℕ) × (i < length (x ∷ xs)) × (p (get_or (x ∷ xs) i 0) ≡ true)
-    first true e later = (0, omega arith, e)
-    first false e later =
-        let more : 0 < cond {A = ℕ} (p x) 1 0 + 2 * mask_l (map p xs) = h in
-        let rest : 0 < 0 + 2 * mask_l (map p xs) = rw e at more in
-        let found = later (omega (arith, rest)) in
-        (suc found.0, omega (arith, found.1), found.2)
 
 pub is_set : (p : ℕ → Bool) (xs : List ℕ) (i : ℕ) → i < length xs → p (get_or xs i 0) ≡ true → 0 < mask_l (map p xs)
 is_set p xs i l e =

@@ -1,5 +1,5 @@
 -- What the flags of a row say of the edges.
-use Rattle.std.proofs.Common.{◌≡◌, ◌≢◌, ◌⊎◌, inl, inr, refl, sym, subst, ap, ◌∙◌, arith, ℕ, ◌+◌, ◌*◌, ◌/◌, ◌%◌, ◌^◌, ◌<◌, ◌≤◌, Bool, false, cond, List, length, set, slice_index, get_or-set_same, get_or-set_other, ℤ, pos, negsuc, neg_ℤ, nat_abs, w64, to_z, of_z, FitsSigned, ◌+ℤ◌, ◌<ℤ◌, ◌≤ℤ◌}
+use Rattle.std.proofs.Common.{◌≡◌, ◌≢◌, ◌⊎◌, inl, inr, refl, sym, subst, ap, ◌∙◌, arith, ℕ, ◌+◌, ◌*◌, ◌/◌, ◌%◌, ◌^◌, ◌<◌, Bool, false, cond, List, length, set, slice_index, get_or-set_same, get_or-set_other, ℤ, pos, negsuc, neg_ℤ, nat_abs, w64, to_z, of_z, FitsSigned, ◌+ℤ◌, ◌<ℤ◌, ◌≤ℤ◌}
 use Rattle.std.proofs.lemmas.Int.{ints, clamps}
 use Rattle.std.proofs.lemmas.Nat.{one_shl}
 use Rattle.polygons.proofs.Exact.{exact64}

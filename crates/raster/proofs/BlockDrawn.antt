@@ -6,7 +6,7 @@ use Rattle.std.proofs.Math.Nat.{div-div-eq-div-mul}
 use Rattle.std.proofs.lemmas.Nat.{pow-add}
 use Rattle.grid.specs.Pixels.{side_of, IsInBox}
 use Rattle.grid.specs.Triangle.{Covers}
-use Rattle.grid.specs.Samples.{count_of, part_size, IsPart, sample_position, offsets_x, offsets_y}
+use Rattle.grid.specs.Samples.{part_size, IsPart, sample_position, offsets_x, offsets_y}
 use Rattle.grid.specs.declared.sample_count.SampleCount.{SampleCount}
 use Rattle.grid.specs.declared.sample_count.SampleCount.TheVariants.{One, Two, Four, Eight, Sixteen}
 use Rattle.cover.specs.Rasterized.{IsRasterized}
@@ -61,16 +61,6 @@ part_at_most Two = (omega arith, omega arith)
 part_at_most Four = (omega arith, omega arith)
 part_at_most Eight = (omega arith, omega arith)
 part_at_most Sixteen = (omega arith, omega arith)
-
-pub part_below : (count : SampleCount) (from : ℕ) → IsPart count from → from ≤ 12
-part_below One from h = omega (arith, h)
-part_below Two from h = omega (arith, h)
-part_below Four from h = omega (arith, h)
-part_below Eight from h = omega (arith, h)
-part_below Sixteen from h = omega (arith, h)
-
-pub part_begins : (count : SampleCount) (from : ℕ) → IsPart count from → from < count_of count
-part_begins count from h = let some = part_at_most count in omega (arith, h, some.0)
 
 -- ---- where they lie
 at_pixel : (m : BlockMask) (s k : ℕ) → position_in (first_of m s) k ≡ sample_position (8 * m.bx + k % 8) (8 * m.by + k / 8) (m.from + s) m.count

@@ -197,13 +197,6 @@ all_parts Four s h = omega (arith, h)
 all_parts Eight s h = omega (arith, h)
 all_parts Sixteen s h = omega (arith, h)
 
-pub part_of_count : (count : SampleCount) (part : ℕ) → part < parts_of count → IsPart count (4 * part)
-part_of_count One part h = omega (arith, h)
-part_of_count Two part h = omega (arith, h)
-part_of_count Four part h = omega (arith, h)
-part_of_count Eight part h = omega (arith, h)
-part_of_count Sixteen part h = omega (arith, h)
-
 -- a sample before the part's end is before the part or in it
 in_part : (count : SampleCount) (part s : ℕ) → part < parts_of count → s < count_of count → 4 * part ≤ s → s < 4 * (part + 1) → s < 4 * part + part_size count
 in_part One part s h k low high = omega (arith, h, k, low)

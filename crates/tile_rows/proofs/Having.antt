@@ -1,8 +1,8 @@
 -- Bins that have those of some tile rows.
-use Rattle.std.proofs.Common.{rules, ◌≡◌, ap, ℕ, ◌+◌, ◌-◌, ◌*◌, ◌<◌, ◌≤◌, Result, Ok, Err, IfOk, Vec, vec_len, arith}
+use Rattle.std.proofs.Common.{rules, ◌≡◌, ap, ℕ, ◌+◌, ◌-◌, ◌*◌, ◌≤◌, Result, Ok, Err, IfOk, Vec, vec_len, arith}
 use Rattle.std.proofs.Math.Nat.{mul-le-mul_right}
 use Rattle.model.specs.Scene.{Scene}
-use Rattle.bins.specs.Bin.{TileBins, HasBin, AreBins, AreBinsFrom, AreOfTiles}
+use Rattle.bins.specs.Bin.{TileBins, AreBins, AreBinsFrom}
 use Rattle.bins.proofs.Binned.{has_tile_of_rows}
 use Rattle.pool.specs.Work.{RightInOrder}
 use Rattle.tiling.specs.Grid.{TileGrid, columns_of}
@@ -12,16 +12,6 @@ use Rattle.tile_rows.specs.TileRows.{HaveBins}
 
 pub have_all : (l : Scene) (g : TileGrid) (first end : ℕ) (b : TileBins) → AreBins l g first (end - first) b → HaveBins l g first end b
 have_all l g first end b are = record { has = λ n h. has_tile_of_rows l g first (end - first) n b h are; each = are.each }
-
--- one tile row, by its first tile and its last
-pub have_row : (l : Scene) (g : TileGrid) (row : ℕ) (b : TileBins) → AreOfTiles l g b → HasBin b (row * columns_of g) → HasBin b (row * columns_of g + (columns_of g - 1)) → HaveBins l g row (row + 1) b
-have_row l g row b each begin last = record {
-  has = λ n h.
-      let one : row + 1 - row ≡ 1 = omega arith in
-      let below : n < columns_of g = omega (arith, rw one at h) in
-      record { from = omega (arith, begin.from); below = omega (arith, last.below) };
-  each = each;
-}
 
 -- the first of the tile rows whose bins they are
 pub have_first : (l : Scene) (g : TileGrid) (row : ℕ) (b : TileBins) → AreBinsFrom l g row b → HaveBins l g row (row + 1) b

@@ -1,5 +1,5 @@
 -- A tile by its column and its row, and the runs that it adds to the rows of its tile row.
-use Rattle.std.proofs.Common.{◌≡◌, ◌⊎◌, inl, inr, refl, sym, ap, subst, ◌∙◌, ℕ, ◌+◌, ◌-◌, ◌*◌, ◌/◌, ◌%◌, ◌<◌, ◌≤◌, min, List, [], ◌++◌, Result, Ok, Err, IfOk, zero-add, append_assoc, append-nil, length-append, arith}
+use Rattle.std.proofs.Common.{◌≡◌, ◌⊎◌, inl, inr, refl, sym, ap, subst, ◌∙◌, ℕ, ◌+◌, ◌-◌, ◌*◌, ◌/◌, ◌%◌, ◌<◌, ◌≤◌, min, List, ◌++◌, Result, Ok, Err, IfOk, zero-add, append_assoc, length-append, arith}
 use Rattle.std.proofs.lemmas.Bool.{cases_lt}
 use Rattle.std.proofs.lemmas.Nat.{same_from_place}
 use Rattle.std.proofs.Math.Nat.{mod-lt, div-add-mod'}
@@ -10,7 +10,7 @@ use Rattle.model.specs.PixelPrefix.{IsPixelPrefix, IsPixelRun}
 use Rattle.model.specs.Scene.{Scene}
 use Rattle.model.specs.Picture.{IsPixel, pixel_at}
 use Rattle.model.proofs.PixelPrefix.{prefix_run, part_of_rows}
-use Rattle.model.proofs.Pixels.{bytes_of_both, bytes_of_none, same_pixel, pixel_before, pixel_behind}
+use Rattle.model.proofs.Pixels.{bytes_of_both, same_pixel, pixel_before, pixel_behind}
 use Rattle.tiling.specs.Grid.{TileGrid, columns_of, rect_at, rect_of, tiles_over}
 use Rattle.tiling.specs.Pixels.{AddsPixelRun, IsPictureIn}
 use Rattle.tiling.specs.declared.tile_pixels.TilePixels.{TilePixels}
@@ -62,14 +62,6 @@ module _ (l : Scene) (i j m n : ℕ) (a b : List ℕ) (h : IsPixelRun l i j m a)
     size = omega (arith, length-append a b, h.size, k.size, bytes_of_both l.output m n);
     pixels = λ t below. pixel t below (cases_lt t m);
   }
-
--- nothing was added yet
-pub no_run : (l : Scene) (i j many : ℕ) (bytes : List ℕ) → many ≡ 0 → AddsPixelRun l i j many bytes bytes
-no_run l i j many bytes none = record {
-  run = [];
-  is = record { size = sym (bytes_of_none l.output many none); pixels = λ m below. absurd (omega arith) };
-  behind = sym (append-nil bytes);
-}
 
 -- a tile's run behind those of the tiles on its left
 pub column_added : (l : Scene) (g : TileGrid) (y column : ℕ) (old bytes run all : List ℕ) → column < columns_of g → g.width ≡ l.width

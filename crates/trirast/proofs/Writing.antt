@@ -74,10 +74,6 @@ tile_row_of l l' g g' row first end old new d e f h none adds =
     let here : AreTileRows l' g'.side first end new = subst (AreTileRows l' g'.side first end) (sym same) adds.are in
     rw (← d, ← e, ← h, ← f) here
 
--- the bytes and the bins of tile rows by what their parts are called
-pub bytes_of : (l l' : Scene) (g g' : TileGrid) (first end : ℕ) (bytes : List ℕ) → l' ≡ l → g' ≡ g → AreTileRows l' g'.side first end bytes → AreTileRows l g.side first end bytes
-bytes_of l l' g g' first end bytes d e are = rw (← d, ← e) are
-
 pub bins_of : (l l' : Scene) (g g' : TileGrid) (first first' end end' : ℕ) (bins : Option TileBins) → l' ≡ l → g' ≡ g → first' ≡ first → end' ≡ end → IfSome bins (AreBins l' g' first' (end' - first')) → IfSome bins (AreBins l g first (end - first))
 bins_of l l' g g' first first' end end' bins d e f h are = rw (← d, ← e, ← f, ← h) are
 
