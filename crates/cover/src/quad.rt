@@ -25,10 +25,7 @@ impl Sides {
         ensures sides { AreSidesOf quad.now result }
         ensures convex { IsStrictlyConvex quad.now.a quad.now.b quad.now.c quad.now.d }
     {
-        let a = quad.a();
-        let b = quad.b();
-        let c = quad.c();
-        let d = quad.d();
+        let (a, b, c, d) = quad.corners();
         if quad.is_clockwise() {
             Sides {
                 ab: Edge::new(a, b),

@@ -4,8 +4,8 @@ ghost use Rattle.grid.specs.Samples.{count_of, offsets_x, offsets_y, sample_posi
 use crate::point::Point;
 use crate::sample_count::SampleCount;
 
-/// How far right of a pixel's upper left corner and below it sample `s` lies, in 1/256 pixel. Of sixteen, sample 12 lies
-/// on the left border of the pixel, and sample 15 on the upper one.
+/// How far right of a pixel's upper left corner and below it sample `s` lies, in 1/256 pixel. Of sixteen, sample 12
+/// lies on the left border of the pixel, and sample 15 on the upper one.
 #[inline(always)]
 fn offset(s: u32, count: SampleCount) -> (u32, u32)
     requires { s < count_of count }

@@ -64,10 +64,11 @@ fn says_masks(words: &mut Words<'_>, samples: u32, masks: &Masks) -> bool {
 }
 
 fn says_corners(words: &mut Words<'_>, quad: &Quad) -> bool {
-    words.point() == Some(quad.a())
-        && words.point() == Some(quad.b())
-        && words.point() == Some(quad.c())
-        && words.point() == Some(quad.d())
+    let (a, b, c, d) = quad.corners();
+    words.point() == Some(a)
+        && words.point() == Some(b)
+        && words.point() == Some(c)
+        && words.point() == Some(d)
 }
 
 fn says_square(words: &mut Words<'_>, at: (u32, u32), side: TileSide, class: Class) -> bool {
