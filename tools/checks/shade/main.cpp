@@ -196,6 +196,18 @@ void weights(int rounds) {
     expect(worst.ahead * 100 > all && worst.back * 100 > all, "one side alone was taken", "weights");
 }
 
+// Whole numbers are not above the numbers, on both sides of 0: a texture that repeats does not show it.
+void floors() {
+    const float numbers[8] = {-2.75f, -2, -0.25f, 0, 0.25f, 0.75f, 3, 1000.5f};
+    float whole[8];
+    std::int32_t integers[8];
+    floors_of(numbers, whole, integers);
+    for (std::size_t lane = 0; lane < 8; lane++)
+        expect(whole[lane] == std::floor(numbers[lane]) &&
+                   integers[lane] == static_cast<std::int32_t>(std::floor(numbers[lane])),
+               "the whole number below a number", "floors");
+}
+
 // ---- Which points are shaded
 
 // Each place that Rate::pixel may take lies in the triangle of any three of its samples, and the patterns are those of
@@ -522,7 +534,7 @@ void cleared() {
 
 void run(int seeds) {
     weights(seeds == 1 ? 10000 : 100000);
-    patterns();
+    floors(), patterns();
     for (const std::uint32_t samples : {4u, 1u, 2u, 8u, 16u})
         for (const At rate : {At::pixel, At::centre, At::sample}) pairs("ring", rate, samples);
     pairs("front", At::pixel, 16); // where a triangle is all that many pixels show

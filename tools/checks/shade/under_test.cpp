@@ -33,6 +33,11 @@ EdgesOfEight weigh_eight(const std::vector<trirast_vertex> &vertices, const std:
     return found;
 }
 
+void floors_of(const float (&numbers)[8], float (&whole)[8], std::int32_t (&integers)[8]) {
+    const trirast::Floats eight = trirast::Floats::load(numbers);
+    floor(eight).store(whole), floor_to_integers(eight).store(integers);
+}
+
 void place_of(std::uint32_t samples, std::uint32_t s, std::int32_t &x, std::int32_t &y) {
     const trirast_shade_place place = trirast_shade_sample_place(samples, s);
     x = place.x, y = place.y;

@@ -32,6 +32,9 @@ EdgesOfEight weigh_eight(const std::vector<trirast_vertex> &vertices, const std:
 // Where sample s lies in its pixel.
 void place_of(std::uint32_t samples, std::uint32_t s, std::int32_t &x, std::int32_t &y);
 
+// The greatest whole numbers that are not above eight numbers, as floats and as integers.
+void floors_of(const float (&numbers)[8], float (&whole)[8], std::int32_t (&integers)[8]);
+
 // What a shader gives eight fragments: red, green and blue.
 using Shader = std::function<void(const Eight &, float (&)[3][8])>;
 
