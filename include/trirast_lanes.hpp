@@ -281,8 +281,8 @@ TRIRAST_INLINE Integers operator<<(const Integers &v, int bits) noexcept {
 
 /* ---- Conversions ---- */
 
-/* The bits of floats, and back. Of a positive v, (bits_of(v) >> 23) - 127 is the exponent: the integer part of its
- * logarithm to base 2. floats_of_bits((n + 127) << 23) is 2^n, for n from -126 to 127. */
+/* The bits of floats, and back. (bits_of(v) >> 23) - 127 is the exponent of a positive v, the floor of its logarithm to
+ * base 2 from 2^-126 on, and floats_of_bits((n + 127) << 23) is 2^n, for n from -126 to 127. */
 TRIRAST_INLINE Integers bits_of(const Floats &v) noexcept {
     return detail::made<Integers>([](auto x) { return detail::loaded<detail::IntegerPart>(&x); }, v);
 }
