@@ -9,7 +9,7 @@ parts of ours are shares of its processor time: setup is clipping, projection an
 shading, of which `plain` is that by one colour, and `calls` are the two calls of the library for tiles; glass; resolve.
 `by in place's` is the time by calls, divided by what would be left if the two calls took none: at most what a layout in
 place could save. The last column is the share of pixels of which a channel is more than 4 away. Below the table stands
-which of the aims are missed. --write puts all of it into docs/shading.md.
+which of the aims are missed. --write puts all of it into docs/shaded_frames.md.
 
 --probe asks llvmpipe where it takes w when it shades each sample. It needs `make library`, g++, libegl-dev and
 libgl-dev. Exit status 2 if a program cannot be built or ends with an error.
@@ -37,7 +37,7 @@ COLUMNS = (
 )
 # The aims: of llvmpipe's frame at each rate, of the frame in place, and four threads by one.
 MOST, MOST_BY_CALLS, LEAST_BY_FOUR = {"pixel": 0.5, "sample": 0.4}, 1.06, 3.2
-PAGE = os.path.join(TOP, "docs", "shading.md")
+PAGE = os.path.join(TOP, "docs", "shaded_frames.md")
 
 
 def built(name: str, level: str) -> str:
@@ -124,7 +124,7 @@ def parsed() -> argparse.Namespace:
     parser.add_argument("--threads", type=int, nargs="+", default=(1, 4), help="default 1 4")
     parser.add_argument("--frames", type=int, default=9, help="frames of which the least counts (default 9)")
     parser.add_argument("--level", default=LEVEL, help=f"the level for which headers are compiled (default {LEVEL})")
-    parser.add_argument("--write", action="store_true", help="put the table into docs/shading.md")
+    parser.add_argument("--write", action="store_true", help="put the table into docs/shaded_frames.md")
     parser.add_argument("--probe", action="store_true", help="ask llvmpipe for w, and time nothing")
     return parser.parse_args()
 

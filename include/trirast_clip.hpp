@@ -210,8 +210,8 @@ private:
 /* Clips and projects triangles by threads of the caller: what is made is the same for any number of parts.
  *
  * @parts: in how many the work is done, at least 1: as many as threads, or a few times that.
- * @each: called as each(parts, job) it calls job(k), which does not throw, once for each k below parts, on any threads
- *     and in any order, and waits for them. It is called three times, once by once. */
+ * @each: called as each(parts, job) it has to call job(k), which does not throw, once for each k below parts, on any
+ *     threads and in any order, and to wait for these calls. It is called three times, one after another. */
 template <class Each>
 void clip_triangles(const Clip &clip, Span<const ClipPosition> positions, Span<const std::uint32_t> indices,
                     Clipped &out, std::size_t parts, const Each &each) {

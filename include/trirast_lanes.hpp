@@ -12,7 +12,8 @@
  * with a sum: GCC does by itself for processors that can (-ffp-contract=off). Do not use -ffast-math.
  *
  * A comparison gives Integers: -1 in the lanes where it holds, else 0. Such masks are taken by choose, any and bits,
- * and joined by &, | and ~. Lanes are not set by themselves: store, change the array, and load. */
+ * and joined by &, | and ~. Lanes are not set by themselves: store, change the array, and load. docs/shading.md has a
+ * table of all operators and functions. */
 #ifndef TRIRAST_LANES_HPP
 #define TRIRAST_LANES_HPP
 
@@ -232,8 +233,12 @@ TRIRAST_COMPARISON(Floats, <)
 TRIRAST_COMPARISON(Floats, <=)
 TRIRAST_COMPARISON(Floats, >)
 TRIRAST_COMPARISON(Floats, >=)
+TRIRAST_COMPARISON(Floats, ==)
+TRIRAST_COMPARISON(Floats, !=)
 TRIRAST_COMPARISON(Integers, <)
+TRIRAST_COMPARISON(Integers, <=)
 TRIRAST_COMPARISON(Integers, >)
+TRIRAST_COMPARISON(Integers, >=)
 TRIRAST_COMPARISON(Integers, ==)
 TRIRAST_COMPARISON(Integers, !=)
 
@@ -259,7 +264,7 @@ TRIRAST_INLINE Integers operator~(const Integers &v) noexcept {
     return detail::made<Integers>([](auto x) { return ~x; }, v);
 }
 
-/* Shifts by 0 to 31 bits; to the right the sign comes in. */
+/* Shifts by 0 to 31 bits, the same in each lane; to the right the sign comes in. For 2^n of each lane see bits_of. */
 TRIRAST_INLINE Integers operator>>(const Integers &v, int bits) noexcept {
     return detail::made<Integers>([bits](auto x) { return x >> bits; }, v);
 }
@@ -276,7 +281,8 @@ TRIRAST_INLINE Integers operator<<(const Integers &v, int bits) noexcept {
 
 /* ---- Conversions ---- */
 
-/* The bits of floats, and back. */
+/* The bits of floats, and back. (bits_of(v) >> 23) - 127 is the exponent of a positive v, the floor of its logarithm to
+ * base 2 from 2^-126 on, and floats_of_bits((n + 127) << 23) is 2^n, for n from -126 to 127. */
 TRIRAST_INLINE Integers bits_of(const Floats &v) noexcept {
     return detail::made<Integers>([](auto x) { return detail::loaded<detail::IntegerPart>(&x); }, v);
 }
@@ -469,7 +475,8 @@ TRIRAST_INLINE Floats sqrt(const Floats &v) noexcept {
 
 /* ---- From arrays ---- */
 
-/* Of each lane the number of this index. Indices are not negative. */
+/* Of each lane the number of this index. Indices are not negative. Tables of floats are looked up by their bits, which
+ * floats_of_bits turns back, or by take_four. */
 TRIRAST_INLINE Integers gather(const std::uint32_t *from, const Integers &index) noexcept {
     const auto at = [&](std::size_t lane) {
         return static_cast<std::int32_t>(from[static_cast<std::uint32_t>(index[lane])]);

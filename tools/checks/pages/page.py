@@ -10,7 +10,7 @@ from tools import places
 PAGES = ("README.md", *(
     f"docs/{name}.md" for name in (
         "canvas", "canvas_proved", "conformance", "cpp_and_rust", "draw-list", "gallery", "library", "matplotlib", "performance", "polygons",
-        "posters", "proofs", "python", "rules", "shading", "tested", "web",
+        "posters", "proofs", "python", "rules", "shaded_frames", "shading", "tested", "web",
     )
 ))
 FENCE = re.compile(r"^```(\w*)\n(.*?)^```$", re.MULTILINE | re.DOTALL)

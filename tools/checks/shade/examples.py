@@ -91,25 +91,62 @@ int main() {{
 }}
 """
 
+# Looks up levels whose red is ten times their number, and whose green and blue are the texel's place, for steps to the
+# right and below.
+LEVELS = """
+#include <cmath>
+#include <vector>
+#include <trirast_shade.hpp>
+int main() {{
+    std::vector<std::uint32_t> texels;
+    for (std::uint32_t level = 0, side = 64; side > 0; level++, side /= 2)
+        for (std::uint32_t k = 0; k < side * side; k++) texels.push_back(10 * level | k % side << 8 | k / side << 16);
+    const float steps[8] = {{0, 1, 1.5f, 2, 3, 6, 100, NAN}}, reds[8] = {{0, 0, 5, 10, 15, 25, 59.6875f, 0}};
+    const trirast::Floats corner[2][3] = {{{{0.0f, 1.0f, 0.0f}}, {{0.0f, 0.0f, 1.0f}}}};
+    for (bool is_right : {{true, false}}) {{
+        trirast::Fragments at;
+        for (std::size_t c = 0; c < 3; c++) at.right[c] = at.down[c] = 0.0f;
+        at.weight[0] = -0.1f, at.weight[1] = 1.3f, at.weight[2] = -0.2f;
+        (is_right ? at.right[1] : at.down[2]) = trirast::Floats::load(steps) / 64.0f;
+        const trirast::Floats u = at.value(corner[0]), v = at.value(corner[1]);
+        trirast::Colors out;
+        {}
+        for (std::size_t k = 0; k < 8; k++)
+            if (out.red[k] != reds[k]) return 1;
+        if (out.green[0] != 19 || out.blue[0] != 51 || out.green[3] != 9 || out.blue[3] != 25) return 1;
+    }}
+    return 0;
+}}
+"""
+
 
 def built(name: str, text: str) -> str:
     """Builds a program in C++ over the library. Returns its path."""
     program, source = os.path.join(OUT, name), os.path.join(OUT, f"{name}.cpp")
     with open(source, "w", encoding="ascii") as file:
         file.write(text)
-    run([need("g++"), *STRICT, "-O1", "-I", INCLUDE, source, library(), "-o", program, "-lm"])
+    run([need("g++"), *STRICT, "-O1", "-I", INCLUDE, source, library(), "-o", program, "-pthread", "-lm"])
     return program
 
 
+def by_threads(program: str, lines: str) -> str:
+    """The program of the page with those lines for a frame that threads share."""
+    begin, end = program.index("    // A frame."), program.index("    // Pixels.")
+    return f"#include <atomic>\n#include <thread>\n{program[:begin]}{lines}{program[end:]}"
+
+
 def check_page() -> str:
-    """The program of the page draws the cube: other pictures from other sides, each with the checks of its faces.
-    Returns how many pixels."""
-    text, texel = re.findall(r"```cpp\n(.*?)```", places.text_of(PAGE), re.DOTALL)
+    """The program of the page draws the cube: other pictures from other sides, each with the checks of its faces, and
+    the same bytes by threads. Returns how many pixels."""
+    text, texel, levels, threads = re.findall(r"```cpp\n(.*?)```", places.text_of(PAGE), re.DOTALL)
     run([built("texel", TEXEL.format(texel))])
-    program = built("page", text)
+    run([built("levels", LEVELS.format(levels))])
+    program, threaded = built("page", text), built("page-threads", by_threads(text, threads))
     shown = []
     for turn in ("0.6", "1.4"):
-        pixels = picture_file.decode(run([program, turn])).pixel_data
+        picture_bytes = run([program, turn])
+        must(run([threaded, turn]) == picture_bytes, f"another picture by threads at {turn}")
+        pixels = picture_file.decode(picture_bytes).pixel_data
         colors = [pixels[k : k + 3] for k in range(0, len(pixels), 3)]
         shown.append(len(colors) - colors.count(bytes((24, 24, 32))))
         frequent = [color for color in set(colors) if colors.count(color) > 300]

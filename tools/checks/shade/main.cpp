@@ -196,6 +196,29 @@ void weights(int rounds) {
     expect(worst.ahead * 100 > all && worst.back * 100 > all, "one side alone was taken", "weights");
 }
 
+// ---- Lanes
+
+// Each comparison of each pair of these numbers, in each lane.
+template <class Number>
+void compare_pairs(const Number (&numbers)[8], const char *where) {
+    for (std::size_t turn = 0; turn < 8; turn++) {
+        Number other[8];
+        for (std::size_t k = 0; k < 8; k++) other[k] = numbers[(k + turn) % 8];
+        const Compared got = compare_eight(numbers, other);
+        for (std::size_t k = 0; k < 8; k++) {
+            const Number a = numbers[k], b = other[k];
+            const bool wanted[6] = {a < b, a <= b, a > b, a >= b, a == b, a != b};
+            for (std::size_t by = 0; by < 6; by++)
+                expect(got.by[by][k] == (wanted[by] ? -1 : 0), "a comparison", where);
+        }
+    }
+}
+
+void comparisons() {
+    compare_pairs<float>({0.0f, -0.0f, 1.0f, 0x1.000002p0f, -1.0f, INFINITY, -INFINITY, NAN}, "floats");
+    compare_pairs<std::int32_t>({0, -1, 1, 2, 7, 7, INT32_MAX, INT32_MIN}, "integers");
+}
+
 // Whole numbers are not above the numbers, on both sides of 0: a texture that repeats does not show it.
 void floors() {
     const float numbers[8] = {-2.75f, -2, -0.25f, 0, 0.25f, 0.75f, 3, 1000.5f};
@@ -534,7 +557,7 @@ void cleared() {
 
 void run(int seeds) {
     weights(seeds == 1 ? 10000 : 100000);
-    floors(), patterns();
+    patterns(), comparisons(), floors();
     for (const std::uint32_t samples : {4u, 1u, 2u, 8u, 16u})
         for (const At rate : {At::pixel, At::centre, At::sample}) pairs("ring", rate, samples);
     pairs("front", At::pixel, 16); // where a triangle is all that many pixels show

@@ -19,6 +19,14 @@ Eight numbers_of(const trirast::Fragments &at) {
     return found;
 }
 
+template <class Lanes>
+Compared compared(const Lanes &a, const Lanes &b) {
+    Compared found;
+    (a < b).store(found.by[0]), (a <= b).store(found.by[1]), (a > b).store(found.by[2]);
+    (a >= b).store(found.by[3]), (a == b).store(found.by[4]), (a != b).store(found.by[5]);
+    return found;
+}
+
 } // namespace
 
 EdgesOfEight weigh_eight(const std::vector<trirast_vertex> &vertices, const std::vector<float> &w,
@@ -36,6 +44,14 @@ EdgesOfEight weigh_eight(const std::vector<trirast_vertex> &vertices, const std:
 void floors_of(const float (&numbers)[8], float (&whole)[8], std::int32_t (&integers)[8]) {
     const trirast::Floats eight = trirast::Floats::load(numbers);
     floor(eight).store(whole), floor_to_integers(eight).store(integers);
+}
+
+Compared compare_eight(const float (&a)[8], const float (&b)[8]) {
+    return compared(trirast::Floats::load(a), trirast::Floats::load(b));
+}
+
+Compared compare_eight(const std::int32_t (&a)[8], const std::int32_t (&b)[8]) {
+    return compared(trirast::Integers::load(a), trirast::Integers::load(b));
 }
 
 void place_of(std::uint32_t samples, std::uint32_t s, std::int32_t &x, std::int32_t &y) {

@@ -29,6 +29,13 @@ struct EdgesOfEight {
 EdgesOfEight weigh_eight(const std::vector<trirast_vertex> &vertices, const std::vector<float> &w,
                          const std::vector<std::uint32_t> &indices, Eight &at);
 
+// The comparisons of eight numbers by <, <=, >, >=, == and !=.
+struct Compared {
+    std::int32_t by[6][8];
+};
+Compared compare_eight(const float (&a)[8], const float (&b)[8]);
+Compared compare_eight(const std::int32_t (&a)[8], const std::int32_t (&b)[8]);
+
 // Where sample s lies in its pixel.
 void place_of(std::uint32_t samples, std::uint32_t s, std::int32_t &x, std::int32_t &y);
 
