@@ -256,6 +256,7 @@ class Edges(unittest.TestCase):
         for corners in (((0, 0), (1, 0), (0, 8388608), [(0, 0)]), ((0, 0), (1, 0), (0, 1), [(0, 0), (8388608, 0)])):
             with self.assertRaises(trirast.PositionError):
                 trirast.edges_at(*corners)
+        self.assertEqual(len(memoryview(trirast.edges_at((0, 0), (1, 0), (0, 1), []))), 0)
 
     def test_a_point_is_covered_where_a_canvas_is_drawn(self) -> None:
         corners = ((300, -400), (2300, 700), (-500, 1900))

@@ -263,7 +263,7 @@ CHECKS = (
         about="posters against the program, stopped and resumed",
         command="pytest tools/checks/poster", seconds=230,
         long="--long -m 'long or not long'", long_seconds=900,
-        runs=EVERYTHING, needs=COMPILER,
+        runs=EVERYTHING, needs=(*COMPILER, "python:numpy"),
     ),
     Check(
         name="check-web",

@@ -2,6 +2,7 @@
 
 import ctypes
 import struct
+from array import array
 from threading import RLock
 from typing import Any, Callable, Dict, List, Literal, Optional, Sequence, SupportsFloat, SupportsIndex, Tuple, Union
 
@@ -479,6 +480,8 @@ def edges_at(
     table = table_of("points", points, PLACE)
     places = table.fill(bytearray(8 * table.count), 8)
     found = new_array(Form(("int64",), (table.count, 5)))
+    if not table.count:
+        return found
     with Buffer(memoryview(places)) as given_points, Buffer(check_writable("points", found, Form(("int64",), (table.count, 5)))) as written:
         with adding(PositionError, lambda _error: point_values(places)):
             library().trirast_edges_at(CCorners(*corners), given_points.address, 0, table.count, written.address)
@@ -508,10 +511,12 @@ def given(memory: Any, size: int) -> Tuple[Any, int]:
 
 
 def new_array(form: Form) -> Any:
-    """A numpy array, or without numpy a memoryview."""
+    """A numpy array, or without numpy a memoryview, which is flat if it has no items."""
     try:
         import numpy
     except ImportError:
         code = CODES[form.kinds[0]]
+        if not form.items:
+            return memoryview(array(code))
         return memoryview(bytearray(form.items * struct.calcsize(code))).cast(code, shape=list(form.shape))
     return numpy.empty(form.shape, dtype=form.kinds[0])

@@ -10,13 +10,15 @@ from array import array
 from typing import Any, Iterable, List, NamedTuple, Optional, Sequence, Tuple, Union
 
 from ._arguments import CHANNEL, of_length, shown
-from ._buffers import buffer_of, family_of, kind_of, refuse_masked
+from ._buffers import OTHER_ORDER, buffer_of, family_of, kind_of, refuse_masked
 
 LOW, HIGH = -8388608, 8388607
 POSITION = " in 1/256 pixel"
 SNAP = "use trirast.snap(xy)"
 # The least and the greatest integer of each type, by the letter that array, numpy and memoryview have for it.
 LIMITS = {"i": (-(1 << 31), (1 << 31) - 1), "I": (0, (1 << 32) - 1), "H": (0, 65535), "B": (0, 255)}
+# The letter of signed integers by their bytes.
+WIDTHS = {1: "b", 2: "h", 4: "i", 8: "q"}
 # Rows that are looked at and then copied, so that what is copied is still in a processor's cache.
 CHUNK = 1 << 13
 # Memory that nobody else has.
@@ -141,13 +143,22 @@ def table_of(name: str, values: Any, *choices: Columns) -> Table:
     if numpy is not None:
         return Table(name, columns, list(numpy.asarray(view).reshape(-1, len(columns)).T))
     try:
-        rows: List[Any] = view.tolist()
+        rows: List[Any] = in_own_order(view, family).tolist()
     except NotImplementedError:
         view.release()
         raise TypeError(f"{name}: integers in the machine's order, and not {kind}") from None
     if view.ndim == 1:
         return Table(name, columns, [rows[k :: len(columns)] for k in range(len(columns))])
     return Table(name, columns, list(zip(*rows)))
+
+
+def in_own_order(view: memoryview, family: str) -> memoryview:
+    """The same integers by a code without an order of bytes, which `tolist` does not know. Arrays of ctypes name the machine's own."""
+    order = view.format[0]
+    if order not in "<>=!" or (view.itemsize > 1 and order in OTHER_ORDER):
+        return view
+    code = WIDTHS[view.itemsize]
+    return memoryview(view.tobytes()).cast(code if family == "int" else code.upper(), shape=list(view.shape or ()))
 
 
 def choice_of(view: memoryview, choices: Sequence[Columns]) -> Optional[Columns]:
