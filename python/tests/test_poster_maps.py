@@ -9,6 +9,7 @@ import pytest
 from .test_poster_polygons import box, feature
 
 from trirast import poster
+from trirast.poster import _command
 
 SQUARE = box(0, 0, 3, 3)
 STEPS = [[10, "#000000"]]
@@ -92,3 +93,13 @@ def test_a_feature_without_the_property_has_color(tmp_path: Any) -> None:
 
     assert colors({"colors": {"null": [7, 7, 7], "3": [8, 8, 8]}}) == [1, 7, 8, 1]
     assert colors({"steps": [[10, [9, 9, 9]]]}) == [1, 1, 1, 9]
+
+
+def test_the_closing_line_counts_features(tmp_path: Any, capsys: Any) -> None:
+    far = feature(polygon(box(100, 0, 103, 3)), a=10)
+    style = {"window": [0, 0, 6, 3], "width": 60, "property": "a", "steps": STEPS}
+    scene(tmp_path, collection(feature(polygon(SQUARE), a=10), feature(polygon(SQUARE), a=1), far, feature(None)), style)
+    names = [str(tmp_path / name) for name in ("map.geojson", "style.json", "a.png", "tiles")]
+    assert _command.main([names[0], "--style", names[1], "-o", names[2], "--tiles", names[3]]) == 0
+    size = "60 by 30 pixels; 2 of 4 features drawn, 1 in the style's color"
+    assert capsys.readouterr() == ("", f"poster: {names[2]} and {names[3]}: {size}\n")

@@ -59,7 +59,9 @@ def scene_of_geojson(path: str, style: Optional[str] = None) -> Scene:
     polygons = own_polygons(Polygons(corners, ring_ends, polygon_ends, colors))
     blend = {"blend": "over"} if (colors[:, 3] < 255).any() else {}
     draws = [PosterDraw(polygons=len(features), state=blend)]
-    return owned(Scene(drawn.sheet, *NO_TRIANGLES, draws, path, copy=False, polygons=polygons))
+    plain = sum(color is None for color, is_drawn in zip(found, is_seen) if is_drawn)
+    summary = f"; {is_seen.sum()} of {len(features)} features drawn, {plain} in the style's color"
+    return owned(Scene(drawn.sheet, *NO_TRIANGLES, draws, path, copy=False, polygons=polygons, summary=summary))
 
 
 def read_json(path: str) -> Any:
