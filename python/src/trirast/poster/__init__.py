@@ -18,12 +18,11 @@ if TYPE_CHECKING:
 else:
     # At the first use of a name, so that the command is there before numpy is, and Ctrl-C ends it well.
     def __getattr__(name: str) -> Any:
-        if name != "__all__" and name.startswith("_"):
-            raise AttributeError(f"module {__name__!r} has no attribute {name!r}")
-        try:
-            return getattr(importlib.import_module(f"{__name__}._public"), name)
-        except AttributeError:
-            raise AttributeError(f"module {__name__!r} has no attribute {name!r}") from None
+        if name == "__all__" or not name.startswith("_"):
+            public = importlib.import_module(f"{__name__}._public")
+            if hasattr(public, name):
+                return getattr(public, name)
+        raise AttributeError(f"module {__name__!r} has no attribute {name!r}")
 
     def __dir__() -> List[str]:
         return sorted({*globals(), *importlib.import_module(f"{__name__}._public").__all__})
