@@ -85,7 +85,8 @@ def test_open_rings_and_empty_polygons_are_drawn(tmp_path: Any, geometry: Any, c
 
 
 def test_a_feature_without_the_property_has_color(tmp_path: Any) -> None:
-    value = collection(*(feature(polygon(SQUARE), **each) for each in ({}, {"a": None}, {"a": 3}, {"a": 10})))
+    given: List[Dict[str, Any]] = [{}, {"a": None}, {"a": 3}, {"a": 10}]
+    value = collection(*(feature(polygon(SQUARE), **each) for each in given))
 
     def colors(style: Dict[str, Any]) -> List[int]:
         found: List[List[int]] = scene(tmp_path, value, {"property": "a", "color": [1, 1, 1], **style}).polygons.colors.tolist()
