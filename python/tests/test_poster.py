@@ -388,9 +388,15 @@ class Command(Files):
             status = _command.main(list(words))
         return status, errors.getvalue()
 
+    def run_to_end(self, *words: str) -> None:
+        """A run succeeds, and says so in one line."""
+        status, line = self.run_command(*words)
+        self.assertEqual(status, 0, line)
+        self.assertRegex(line, r"\Aposter: .*: 3 by 3 pixels\n\Z")
+
     def test_draws_a_list(self) -> None:
         name = self.write("a.json", list_of())
-        self.assertEqual(self.run_command(name, "-o", self.path("a.ppm")), (0, ""))
+        self.run_to_end(name, "-o", self.path("a.ppm"))
         self.assertEqual(self.content("a.ppm"), FILE)
 
     def test_takes_a_number_of_samples(self) -> None:
@@ -399,7 +405,7 @@ class Command(Files):
             canvas = trirast.Canvas(3, 3, samples=samples)
             canvas.clear()
             canvas.draw(VERTICES, [[0, 1, 2]])
-            self.assertEqual(self.run_command(name, "--samples", str(samples), "-o", self.path("a.ppm")), (0, ""))
+            self.run_to_end(name, "--samples", str(samples), "-o", self.path("a.ppm"))
             self.assertEqual(self.content("a.ppm")[-27:], memoryview(canvas.rgb()).tobytes())
         with self.assertRaises(SystemExit), redirect_stderr(io.StringIO()):
             _command.main([name, "--samples", "3", "-o", self.path("a.ppm")])

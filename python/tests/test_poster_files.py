@@ -58,6 +58,12 @@ class Runs(Files):
             status = _command.main(list(words))
         return status, errors.getvalue()
 
+    def run_to_end(self, *words: str) -> None:
+        """A run succeeds, and says so in one line."""
+        status, line = self.run_command(*words)
+        self.assertEqual(status, 0, line)
+        self.assertRegex(line, r"\Aposter: .*: 3 by 3 pixels\n\Z")
+
     def must_refuse(self, error: str, *words: str) -> None:
         """A run ends with a line for this error before it draws, and changes no file."""
         before = self.there()
@@ -69,7 +75,7 @@ class Runs(Files):
         self.assertEqual(self.there(), before)
 
     def must_draw(self, name: str, *words: str) -> None:
-        self.assertEqual(self.run_command(self.list, "-o", self.path(name), *words), (0, ""))
+        self.run_to_end(self.list, "-o", self.path(name), *words)
         self.assertEqual(self.content(name), FILE)
 
 
@@ -129,7 +135,7 @@ class Outputs(Runs):
 
     def test_endings_may_be_capital(self) -> None:
         for name in ("a.PNG", "a.Png"):
-            self.assertEqual(self.run_command(self.list, "-o", self.path(name)), (0, ""))
+            self.run_to_end(self.list, "-o", self.path(name))
             self.assertTrue(self.content(name).startswith(PNG))
         poster.save_arrays(self.path("a.NPZ"), np.array(VERTICES), np.array([[0, 1, 2]]), VALUE)
         self.assertEqual(poster.scene_of(self.path("a.NPZ")).sheet.width, 3)
@@ -182,7 +188,7 @@ class Folders(Runs):
             for words in ((), ("--resume",)):
                 self.must_refuse("OutputError", "--tiles", self.path("tiles"), *words)
             os.remove(self.path(name))
-        self.assertEqual(self.run_command(self.list, "--tiles", self.path("tiles")), (0, ""))
+        self.run_to_end(self.list, "--tiles", self.path("tiles"))
 
     def leave_part(self) -> None:
         """Leaves a folder of tiles that a run has begun."""
@@ -193,15 +199,15 @@ class Folders(Runs):
     def test_tiles_of_another_list_do_not_stay(self) -> None:
         poster.draw_poster(random_scene(1, 700, 700), tiles=self.path("tiles"))
         os.rename(self.path("tiles"), self.path("tiles.part"))
-        self.assertEqual(self.run_command(self.list, "--tiles", self.path("tiles"), "--resume"), (0, ""))
+        self.run_to_end(self.list, "--tiles", self.path("tiles"), "--resume")
         self.assertEqual(sorted(set(self.there()) - set(self.before)), ["tiles", "tiles/0", "tiles/0/0", "tiles/0/0/0.png", "tiles/index.html"])
 
     def test_whole_tiles_are_resumed_at_once(self) -> None:
         words = ("--tiles", self.path("tiles"))
-        self.assertEqual(self.run_command(self.list, *words), (0, ""))
+        self.run_to_end(self.list, *words)
         there = self.there()
         self.must_refuse("OutputError", *words)
-        self.assertEqual(self.run_command(self.list, *words, "--resume"), (0, ""))
+        self.run_to_end(self.list, *words, "--resume")
         self.assertEqual(self.there(), there)
         self.must_draw("a.ppm", *words, "--resume")
         self.list = self.write("other.json", json.dumps({**DRAW_LIST, "clear": [1, 2, 3]}).encode())
@@ -222,7 +228,7 @@ class Locks(Runs):
 
             rows = _threads.rows_by_threads
             with mock.patch.object(_poster, "rows_by_threads", rows_meanwhile):
-                self.assertEqual(self.run_command(self.list, *words), (0, ""))
+                self.run_to_end(self.list, *words)
             self.assertEqual(len(second), 1)
             for name in set(self.there()) - set(self.before):
                 self.assertTrue(name == "a.ppm" or name.startswith("tiles"), name)
@@ -235,7 +241,7 @@ class Locks(Runs):
         self.must_refuse("BusyError", "--tiles", self.path("tiles"))
         self.must_refuse("BusyError", "-o", self.path("a.ppm"), "--tiles", self.path("tiles"))
         os.close(opened)
-        self.assertEqual(self.run_command(self.list, "--tiles", self.path("tiles")), (0, ""))
+        self.run_to_end(self.list, "--tiles", self.path("tiles"))
 
     def test_a_file_that_was_renamed_meanwhile_is_not_taken(self) -> None:
         path = self.write("a", b"")
@@ -391,6 +397,28 @@ class Processes(Runs):
                 _, errors = child.communicate(timeout=SECONDS)
             self.assertEqual((child.returncode, errors), (130, b"poster: stopped; --resume goes on\n"))
             self.assertEqual(subprocess.run([*words, "--resume"], env=self.environment(), timeout=SECONDS).returncode, 0)
+
+
+    def test_an_interrupt_while_modules_are_imported_is_one_line(self) -> None:
+        """Wherever in these imports the signal comes: here as numpy begins, and as the command's own module does."""
+        for name in ("numpy", "trirast.poster._command"):
+            hook = (
+                "import os, signal, sys\n"
+                "class Hook:\n"
+                "    def find_spec(self, name, path=None, target=None):\n"
+                f"        if name == {name!r}: os.kill(os.getpid(), signal.SIGINT)\n"
+                "sys.meta_path.insert(0, Hook())\n"
+            )
+            self.write("sitecustomize.py", hook.encode())
+            environment = self.environment()
+            environment["PYTHONPATH"] = os.pathsep.join((self.folder, environment["PYTHONPATH"]))
+            done = subprocess.run(self.command("-o", self.path("a.ppm")), env=environment, stderr=subprocess.PIPE, timeout=SECONDS)
+            self.assertEqual((done.returncode, done.stderr), (130, b"poster: stopped\n"), name)
+            self.assertFalse(os.path.exists(self.path("a.ppm")))
+
+    def test_a_folder_that_is_not_there_is_named(self) -> None:
+        status, line = self.run_command(self.list, "-o", self.path("none/a.ppm"))
+        self.assertEqual((status, line), (1, f"poster: FileNotFoundError: [Errno 2] No such file or directory: '{self.path('none')}'\n"))
 
 
 class BrokenArrays(Files):

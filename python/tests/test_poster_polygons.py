@@ -237,13 +237,12 @@ class Maps(Files):
         good = {"type": "Polygon", "coordinates": [box(0, 0, 3, 3)]}
         features = [feature(good, people=5), feature(None, kind="a"), {**feature(good), "properties": None}]
         value: Any = {"type": "FeatureCollection", "features": features}
-        for name in ("kind", "people"):
-            self.scene(value, {"property": name, "colors": {}})
+        for name, color in (("kind", "a"), ("people", "5")):
+            self.scene(value, {"property": name, "colors": {color: "#000000"}})
         with self.assertRaisesRegex(poster.MapError, r"style: property: one of \['kind', 'people'\] of .*, and not 'poeple'"):
             self.scene(value, {"property": "poeple", "steps": [[1, "#000000"]]})
         with self.assertRaisesRegex(poster.MapError, r"one of \[\] of "):
             self.scene(good, {"property": "kind", "colors": {}})
-        self.scene({**value, "features": []}, {"property": "kind", "colors": {}})
 
     def test_what_is_refused(self) -> None:
         good = {"type": "Polygon", "coordinates": [box(0, 0, 3, 3)]}
@@ -270,6 +269,8 @@ class Maps(Files):
                 self.scene(good, {"property": name, "colors": {}})
         with self.assertRaises(poster.ArraysError):
             self.scene(good, {"samples": 3})
+        with self.assertRaisesRegex(poster.MapError, "width: 32768 by this window makes the height 5242880"):
+            self.scene(good, {"window": [0, -80, 1, 80], "width": 32768})
         self.write("broken.geojson", b"{")
         with self.assertRaises(poster.MapError):
             poster.scene_of(self.path("broken.geojson"))

@@ -245,7 +245,8 @@ def check_left_behind(runs: Runs) -> None:
                "left_behind.set_exception(TimeoutError('Timeout'))\n"
                f"sys.exit(command.main([{runs.small_scene!r}, '-o', {out!r}, '--scheduler', 'local', '--workers', '1']))")
     done = subprocess.run([sys.executable, "-c", program], capture_output=True, timeout=SECONDS)
-    must(done.returncode == 0 and done.stderr == b"", f"status {done.returncode}: {done.stderr[-500:]!r}")
+    # The line that each run ends with.
+    must(done.returncode == 0 and done.stderr.count(b"\n") == 1 and b" pixels" in done.stderr, f"status {done.returncode}: {done.stderr[-500:]!r}")
     must(os.path.exists(out), "no file")
 
 

@@ -10,28 +10,19 @@
 docs/posters.md is the reference. It needs numpy, for clusters Dask, and for a bar of progress tqdm.
 """
 
-from ._arrays import save_arrays, save_polygons, scene_of, scene_of_arrays, scene_of_polygons
-from ._draw_list import scene_of_list
-from ._errors import (
-    ArraysError,
-    BusyError,
-    EngineMissingError,
-    GuardBandError,
-    MapError,
-    OutputError,
-    PosterError,
-    ResumeError,
-    SchedulerLostError,
-    ThreadError,
-    WorkerLostError,
-)
-from ._geojson import scene_of_geojson
-from ._polygons import Polygons
-from ._poster import draw_poster
-from ._scene import PosterDraw, Scene, Sheet
+import importlib
+from typing import TYPE_CHECKING, Any, List
 
-__all__ = [
-    "ArraysError", "BusyError", "EngineMissingError", "GuardBandError", "MapError", "OutputError", "Polygons", "PosterDraw", "PosterError",
-    "ResumeError", "Scene", "SchedulerLostError", "Sheet", "ThreadError", "WorkerLostError", "draw_poster", "save_arrays", "save_polygons",
-    "scene_of", "scene_of_arrays", "scene_of_geojson", "scene_of_list", "scene_of_polygons",
-]
+if TYPE_CHECKING:
+    from ._public import *
+else:
+    # At the first use of a name, so that the command is there before numpy is, and Ctrl-C ends it well.
+    def __getattr__(name: str) -> Any:
+        if name == "__all__" or not name.startswith("_"):
+            public = importlib.import_module(f"{__name__}._public")
+            if hasattr(public, name):
+                return getattr(public, name)
+        raise AttributeError(f"module {__name__!r} has no attribute {name!r}")
+
+    def __dir__() -> List[str]:
+        return sorted({*globals(), *importlib.import_module(f"{__name__}._public").__all__})

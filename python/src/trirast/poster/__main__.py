@@ -1,10 +1,17 @@
 """python3 -m trirast.poster LIST -o OUT"""
 
+import os
 import signal
 import sys
 from typing import Any
 
-from ._command import main
+
+def stop_at_once(*_: Any) -> None:
+    """Ends the run while modules are imported, which may make other errors of a KeyboardInterrupt. Nothing is begun yet."""
+    if sys.stderr is not None:
+        print("poster: stopped", file=sys.stderr, flush=True)
+    # The status of a program that Ctrl-C ended, as shells give it.
+    os._exit(130)
 
 
 def stop_once(*_: Any) -> None:
@@ -16,6 +23,11 @@ def stop_once(*_: Any) -> None:
 # Dask's processes import this file under another name.
 if __name__ == "__main__":
     # A program that was started in the background by a shell ignores Ctrl-C already.
-    if signal.getsignal(signal.SIGINT) is signal.default_int_handler:
+    is_stopped = signal.getsignal(signal.SIGINT) is signal.default_int_handler
+    if is_stopped:
+        signal.signal(signal.SIGINT, stop_at_once)
+    from ._command import main
+
+    if is_stopped:
         signal.signal(signal.SIGINT, stop_once)
     sys.exit(main())

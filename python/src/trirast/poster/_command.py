@@ -12,6 +12,7 @@ from ._dask import quiet_for_good
 from ._errors import PosterError
 from ._poster import SIDE, draw_poster
 from ._scene import SAMPLES
+from ._tiff_writer import TIFF
 
 # The status of a program that Ctrl-C ended, as shells give it.
 INTERRUPTED = 130
@@ -41,8 +42,8 @@ def arguments(words: Optional[List[str]] = None) -> argparse.Namespace:
 
 
 def main(words: Optional[List[str]] = None) -> int:
-    """Draws a poster. Returns 1 after an error, which one line on standard error names, and 130 after Ctrl-C. Exits with 2 if the
-    arguments are wrong."""
+    """Draws a poster, and says so in one line on standard error. Returns 1 after an error, which such a line names, and 130 after Ctrl-C.
+    Exits with 2 if the arguments are wrong."""
     options = arguments(words)
     try:
         scene = scene_of(options.list, options.style)
@@ -56,9 +57,18 @@ def main(words: Optional[List[str]] = None) -> int:
         # Also one that nobody thought of: a user reads one line. python3 -X dev shows where it came from.
         if sys.flags.dev_mode and not isinstance(error, (Error, PosterError, OSError, ValueError, MemoryError)):
             raise
-        print(f"poster: {type(error).__name__}: {' '.join(str(error).split())}", file=sys.stderr)
+        say(f"{type(error).__name__}: {' '.join(str(error).split())}")
         return 1
     except KeyboardInterrupt:
-        print("poster: stopped; --resume goes on", file=sys.stderr)
+        is_anew = options.out is not None and options.out.lower().endswith(TIFF)
+        say("stopped; a TIFF file begins anew" if is_anew else "stopped; --resume goes on")
         return INTERRUPTED
+    drawn = " and ".join(filter(None, (options.out, options.tiles)))
+    say(f"{drawn}: {scene.sheet.width} by {scene.sheet.height} pixels{scene.summary}")
     return 0
+
+
+def say(line: str) -> None:
+    """Writes a line to standard error, if it is not closed."""
+    if sys.stderr is not None:
+        print(f"poster: {line}", file=sys.stderr)

@@ -1,4 +1,4 @@
-"""Polygons of GeoJSON (RFC 7946) in a style: the window of a map, its projection, and colours by a property.
+"""Polygons of GeoJSON (RFC 7946) as a scene, in the style of a map.
 
 A feature is one polygon of all its rings by the even-odd rule, so holes and the parts of multipolygons need nothing else. Neighbours that
 share corners in the file share them on the sheet: each position is projected and rounded by itself.
@@ -7,7 +7,6 @@ share corners in the file share them on the sheet: each position is projected an
 from __future__ import annotations
 
 import json
-import math
 from typing import Any, Iterator, Mapping, NamedTuple, Optional, Sequence
 
 import numpy as np
@@ -15,65 +14,54 @@ from numpy.typing import NDArray
 
 from .._snap import UNIT, snap
 from ._errors import MapError
+from ._map_style import STEEPEST, Places, Style, mercator, shown, style_of
 from ._polygons import Polygons, own_polygons, with_zero
-from ._scene import HIGH, LOW, MAX_SIDE, NO_TRIANGLES, PosterDraw, Scene, Sheet, owned
+from ._scene import HIGH, LOW, NO_TRIANGLES, PosterDraw, Scene, Sheet, owned
 
 # How a name ends that is of GeoJSON, in small or capital letters.
 GEOJSON = ".geojson"
-# Where the map of Web Mercator ends, which is a square then.
-STEEPEST = math.degrees(math.atan(math.sinh(math.pi)))
-WORLD = {"plate carree": (-180.0, -90.0, 180.0, 90.0), "web mercator": (-180.0, -STEEPEST, 180.0, STEEPEST)}
-KEYS = ("projection", "window", "width", "samples", "background", "color", "property", "colors", "steps", "opacity")
 # Pixels around a map at which polygons are cut that reach too far.
 MARGIN = 64
-
-Places = NDArray[np.float64]
-Color = Sequence[int]
-
-
-class Style(NamedTuple):
-    """How a map is drawn, as docs/posters.md has it."""
-
-    projection: str
-    # West, south, east and north, in degrees.
-    window: tuple[float, float, float, float]
-    sheet: Sheet
-    color: Color
-    property: Optional[str]
-    colors: Mapping[str, Color]
-    steps: Sequence[tuple[float, Color]]
-
-    def color_of(self, properties: Any) -> Color:
-        """The colour of a feature with these properties."""
-        value = properties.get(self.property) if self.property is not None and isinstance(properties, dict) else None
-        if self.steps and is_number(value) and value is not None:
-            below = [color for least, color in self.steps if least <= value]
-            return below[-1] if below else self.color
-        name = value if isinstance(value, str) else json.dumps(value)
-        return self.colors.get(name, self.color)
+# The greatest longitude and latitude of a position, with room for rounding. Some data has longitudes up to 360.
+FARTHEST = 360 + 1e-6, 90 + 1e-6
+# The fewest different positions of a ring: the fourth one of RFC 7946 (3.1.6) is the first again.
+FEWEST = 3
 
 
 class Feature(NamedTuple):
-    """The rings of a feature, in degrees, and its colour."""
+    """The rings of a feature, in degrees, and its properties."""
 
     rings: Sequence[Places]
-    color: Color
+    properties: Mapping[str, Any]
 
 
 def scene_of_geojson(path: str, style: Optional[str] = None) -> Scene:
     """The scene of a GeoJSON file, in the style of a JSON file, or without one in that of a style without keys. Feature k of the file, also
-    one without a geometry, is polygon k of the scene's `polygons`. Raises MapError if one of the files is none."""
+    one without a geometry, is polygon k of the scene's `polygons`. Raises MapError if one of the files is none, or if nothing of the map
+    would be seen, or nothing in the colours of a property: such files are a slip."""
     drawn = style_of({} if style is None else read_json(style))
-    features = list(features_of(read_json(path), drawn, path))
+    features = list(features_of(read_json(path), path))
+    drawn.check_values([feature.properties for feature in features], path)
     rings = [ring for feature in features for ring in feature.rings]
-    places = projected(np.concatenate([np.zeros((0, 2)), *rings]), drawn)
-    corners, ring_ends = within_band(places, np.cumsum([len(ring) for ring in rings], dtype=np.uint32), drawn.sheet)
-    colors = np.array([feature.color for feature in features], np.uint8).reshape(-1, 4)
+    if not rings:
+        raise MapError(f"{path}: no feature has a polygon")
+    degrees = np.concatenate(rings)
+    ring_ends = np.cumsum([len(ring) for ring in rings], dtype=np.uint32)
     polygon_ends = np.cumsum([len(feature.rings) for feature in features], dtype=np.uint32)
+    check_degrees(degrees, with_zero(ring_ends)[polygon_ends], path)
+    places = projected(degrees, drawn)
+    is_seen = seen(places, ring_ends, polygon_ends, drawn.sheet)
+    if not is_seen.any():
+        raise MapError(f"{path}: no feature meets the style's window, {list(drawn.window)}; {reach_of(degrees)}: are these degrees?")
+    found = [drawn.color_of(feature.properties) for feature in features]
+    colors = np.array([drawn.color if color is None else color for color in found], np.uint8).reshape(-1, 4)
+    corners, ring_ends = within_band(places, ring_ends, drawn.sheet)
     polygons = own_polygons(Polygons(corners, ring_ends, polygon_ends, colors))
     blend = {"blend": "over"} if (colors[:, 3] < 255).any() else {}
     draws = [PosterDraw(polygons=len(features), state=blend)]
-    return owned(Scene(drawn.sheet, *NO_TRIANGLES, draws, path, copy=False, polygons=polygons))
+    plain = sum(color is None for color, is_drawn in zip(found, is_seen) if is_drawn)
+    summary = f"; {is_seen.sum()} of {len(features)} features drawn, {plain} in the style's color"
+    return owned(Scene(drawn.sheet, *NO_TRIANGLES, draws, path, copy=False, polygons=polygons, summary=summary))
 
 
 def read_json(path: str) -> Any:
@@ -84,109 +72,30 @@ def read_json(path: str) -> Any:
             raise MapError(f"{path}: no JSON text: {error}") from error
 
 
-# ---- The style
-
-
-def style_of(value: Any) -> Style:
-    if not isinstance(value, dict):
-        raise MapError(f"style: an object with some of the keys {', '.join(KEYS)}, and not {shown(value)}")
-    for key in value:
-        if key not in KEYS:
-            raise MapError(f"style: some of the keys {', '.join(KEYS)}, and not {shown(key)}")
-    projection = value.get("projection", "plate carree")
-    if projection not in WORLD:
-        raise MapError(f"style: projection: {' or '.join(WORLD)}, and not {shown(projection)}")
-    window = window_of(value.get("window", WORLD[projection]), WORLD[projection])
-    opacity = value.get("opacity", 1)
-    if not is_number(opacity) or not 0 <= opacity <= 1:
-        raise MapError(f"style: opacity: 0 to 1, and not {shown(opacity)}")
-    if ("property" in value) != ("colors" in value or "steps" in value):
-        raise MapError("style: a property and colors or steps, or neither")
-    if not isinstance(value.get("property", ""), str):
-        raise MapError(f"style: property: a name, and not {shown(value['property'])}")
-
-    def color(name: str, given: Any) -> Color:
-        red, green, blue, *alpha = color_of(name, given)
-        return red, green, blue, *(alpha or [round(255 * opacity)])
-
-    steps = [(least, color("steps", given)) for least, given in pairs_of(value.get("steps", []))]
-    if [least for least, _ in steps] != sorted(least for least, _ in steps):
-        raise MapError("style: steps: numbers that rise")
-    colors = value.get("colors", {})
-    if not isinstance(colors, dict):
-        raise MapError(f"style: colors: an object of values and their colours, and not {shown(colors)}")
-    named = {name: color(f"colors: {name}", given) for name, given in colors.items()}
-    sheet = sheet_of(value, projection, window)
-    return Style(projection, window, sheet, color("color", value.get("color", "#d0c8b0")), value.get("property"), named, steps)
-
-
-def window_of(given: Any, world: Sequence[float]) -> tuple[float, float, float, float]:
-    if not isinstance(given, (list, tuple)) or len(given) != 4 or not all(map(is_number, given)):
-        raise MapError(f"style: window: west, south, east and north in degrees, and not {shown(given)}")
-    west, south, east, north = map(float, given)
-    if not (west < east and world[1] <= south < north <= world[3] and east - west <= 360):
-        raise MapError(f"style: window: west below east, and south below north within {world[1]} to {world[3]}, and not {shown(given)}")
-    return west, south, east, north
-
-
-def sheet_of(value: Mapping[str, Any], projection: str, window: tuple[float, float, float, float]) -> Sheet:
-    west, south, east, north = window
-    width = value.get("width", 4096)
-    rise = math.degrees(mercator(north) - mercator(south)) if projection == "web mercator" else north - south
-    if type(width) is not int or not 1 <= width <= MAX_SIDE:
-        raise MapError(f"style: width: 1 to {MAX_SIDE} pixels, and not {shown(width)}")
-    red, green, blue, *_ = color_of("background", value.get("background", "#ffffff"))
-    return Sheet(width, max(1, round(width * rise / (east - west))), value.get("samples", 4), (red, green, blue))
-
-
-def color_of(name: str, given: Any) -> Color:
-    """A colour of 3 or 4 numbers, or a text as #rrggbb or #rrggbbaa."""
-    if isinstance(given, str) and given[:1] == "#" and len(given) in (7, 9):
-        try:
-            return list(bytes.fromhex(given[1:]))
-        except ValueError:
-            pass
-    is_list = isinstance(given, list) and len(given) in (3, 4)
-    if is_list and all(type(each) is int and 0 <= each <= 255 for each in given):
-        return tuple(given)
-    raise MapError(f"style: {name}: a colour as #rrggbb, #rrggbbaa or three or four numbers up to 255, and not {shown(given)}")
-
-
-def pairs_of(steps: Any) -> Iterator[tuple[float, Any]]:
-    for step in steps if isinstance(steps, list) else [steps]:
-        if not isinstance(step, list) or len(step) != 2 or not is_number(step[0]):
-            raise MapError(f"style: steps: pairs of a number and a colour, and not {shown(step)}")
-        yield step[0], step[1]
-
-
-def is_number(value: Any) -> bool:
-    return isinstance(value, (int, float)) and not isinstance(value, bool) and math.isfinite(value)
-
-
-def shown(value: Any) -> str:
-    text = repr(value)
-    return text if len(text) <= 80 else f"{text[:77]}..."
-
-
 # ---- GeoJSON
 
 
-def features_of(value: Any, style: Style, path: str) -> Iterator[Feature]:
-    """The features of a GeoJSON text, each with its rings. Raises MapError if none has the style's property: it is a slip."""
+def features_of(value: Any, path: str) -> Iterator[Feature]:
+    """The features of a GeoJSON text. Raises MapError if it is none, or has another geometry than polygons."""
+    for number, feature in enumerate(listed_features(value, path)):
+        where = f"{path}: feature {number}"
+        if not isinstance(feature, dict):
+            raise MapError(f"{where}: an object, and not {shown(feature)}")
+        properties = feature.get("properties")
+        yield Feature(list(rings_of(feature.get("geometry"), where)), properties if isinstance(properties, dict) else {})
+
+
+def listed_features(value: Any, path: str) -> Sequence[Any]:
+    """The features of a text as they stand there, of which a Feature or a geometry alone is one."""
     kind = value.get("type") if isinstance(value, dict) else None
+    if kind == "Topology":
+        raise MapError(f"{path}: it is TopoJSON: convert it to GeoJSON first")
+    if not isinstance(kind, str):
+        raise MapError(f"{path}: a FeatureCollection, a Feature or a geometry, which has a type, and not {shown(value)}")
     features = value.get("features") if kind == "FeatureCollection" else [value if kind == "Feature" else {"geometry": value}]
     if not isinstance(features, list):
         raise MapError(f"{path}: features: an array, and not {shown(features)}")
-    names: set[str] = set()
-    for number, feature in enumerate(features):
-        if not isinstance(feature, dict):
-            raise MapError(f"{path}: feature {number}: an object, and not {shown(feature)}")
-        rings = list(rings_of(feature.get("geometry"), f"{path}: feature {number}"))
-        properties = feature.get("properties")
-        names.update(properties if isinstance(properties, dict) else ())
-        yield Feature(rings, style.color_of(properties))
-    if features and style.property is not None and style.property not in names:
-        raise MapError(f"style: property: one of {shown(sorted(names))} of {path}, and not {shown(style.property)}")
+    return features
 
 
 def rings_of(geometry: Any, where: str) -> Iterator[Places]:
@@ -195,15 +104,15 @@ def rings_of(geometry: Any, where: str) -> Iterator[Places]:
         return
     kind = geometry.get("type") if isinstance(geometry, dict) else None
     if kind == "GeometryCollection":
-        for each in array_of(geometry.get("geometries"), where):
-            yield from rings_of(each, where)
+        for number, each in enumerate(array_of(geometry.get("geometries"), where)):
+            yield from rings_of(each, f"{where}, geometry {number}")
         return
     if kind not in ("Polygon", "MultiPolygon"):
         raise MapError(f"{where}: Polygon, MultiPolygon or a collection of them, and not {shown(kind)}")
     coordinates = array_of(geometry.get("coordinates"), where)
-    for polygon in [coordinates] if kind == "Polygon" else coordinates:
-        for ring in array_of(polygon, where):
-            yield ring_of(ring, where)
+    for polygon, rings in enumerate([coordinates] if kind == "Polygon" else coordinates):
+        for ring, places in enumerate(array_of(rings, where)):
+            yield ring_of(places, f"{where}, polygon {polygon}, ring {ring}")
 
 
 def array_of(value: Any, where: str) -> Sequence[Any]:
@@ -213,24 +122,46 @@ def array_of(value: Any, where: str) -> Sequence[Any]:
 
 
 def ring_of(ring: Any, where: str) -> Places:
-    """The positions of a ring, without their heights, which some may have and others not."""
-    if not array_of(ring, where):
-        return np.zeros((0, 2))
+    """The positions of a ring, without their heights, which some may have and others not. The last one may be the first one again."""
     try:
-        found = np.array([place[:2] for place in ring])
+        found = np.array([place[:2] for place in array_of(ring, where)])
     except (TypeError, ValueError):
         found = np.zeros(0)
-    if found.shape != (len(ring), 2) or found.dtype.kind not in "iuf" or not np.isfinite(found).all():
+    if ring and (found.shape != (len(ring), 2) or found.dtype.kind not in "iuf"):
         raise MapError(f"{where}: positions of a longitude and a latitude, and not {shown(ring)}")
+    if not has_different(ring, FEWEST):
+        raise MapError(f"{where}: {FEWEST} different positions or more, and not {shown(ring)}")
     return found.astype(np.float64)
+
+
+def has_different(ring: Sequence[Any], count: int) -> bool:
+    """Whether a ring has as many different positions. Most rings show it by their first ones."""
+    found: set[tuple[float, float]] = set()
+    for longitude, latitude, *_ in ring:
+        found.add((longitude, latitude))
+        if len(found) == count:
+            return True
+    return False
 
 
 # ---- Places
 
 
-def mercator(latitude: Any) -> Any:
-    """The height of a latitude on a map of Mercator whose globe has the radius 1."""
-    return np.arctanh(np.sin(np.radians(latitude)))
+def check_degrees(degrees: Places, ends: NDArray[Any], path: str) -> None:
+    """Raises MapError at a position that is no longitude and latitude. `ends` has of each feature the index behind its last position."""
+    wrong = ~(np.abs(degrees) <= FARTHEST).all(1)
+    if wrong.any():
+        first = int(wrong.argmax())
+        number = int(np.searchsorted(ends, first, "right"))
+        raise MapError(
+            f"{path}: feature {number}: a longitude of -360 to 360 and a latitude of -90 to 90, and not {degrees[first].tolist()}; "
+            f"{reach_of(degrees)}: are these degrees?"
+        )
+
+
+def reach_of(degrees: Places) -> str:
+    (west, south), (east, north) = degrees.min(0), degrees.max(0)
+    return f"its longitudes are {west:.10g} to {east:.10g}, and its latitudes {south:.10g} to {north:.10g}"
 
 
 def projected(degrees: Places, style: Style) -> Places:
@@ -242,6 +173,15 @@ def projected(degrees: Places, style: Style) -> Places:
         south, north = mercator(south), mercator(north)
     down = (north - latitude) / (north - south)
     return np.stack((across * style.sheet.width, down * style.sheet.height), 1)
+
+
+def seen(places: Places, ring_ends: NDArray[Any], polygon_ends: NDArray[Any], sheet: Sheet) -> NDArray[np.bool_]:
+    """Of each polygon whether the bounds of one of its rings meet the sheet. No ring is empty."""
+    begins = with_zero(ring_ends)[:-1]
+    low, high = np.minimum.reduceat(places, begins), np.maximum.reduceat(places, begins)
+    meets = ((low < (sheet.width, sheet.height)) & (high > 0)).all(1)
+    is_seen: NDArray[np.bool_] = np.diff(with_zero(np.cumsum(meets))[with_zero(polygon_ends)]) > 0
+    return is_seen
 
 
 def within_band(places: Places, ends: NDArray[Any], sheet: Sheet) -> tuple[NDArray[Any], NDArray[Any]]:

@@ -37,6 +37,8 @@ def places_of(out: Optional[Path], tiles: Optional[Path], source: Optional[str])
     if "" in places:
         raise OutputError("a file or a folder without a name")
     check_names(places)
+    # The error names the folder, and not the first file that the run would make.
+    os.stat(os.path.dirname(places.journal) or ".")
     if places.file is not None:
         check_file(places.file)
         if source is not None and is_same(places.file, source):

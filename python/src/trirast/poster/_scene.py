@@ -165,6 +165,8 @@ class Scene:
     source: Optional[str] = field(default=None, compare=False)
     copy: InitVar[bool] = True
     polygons: Polygons = NONE
+    # What the command says of it when it is drawn.
+    summary: str = field(default="", repr=False, compare=False)
     # Whether nobody else can change the arrays.
     is_own: bool = field(init=False, repr=False, compare=False, default=True)
 

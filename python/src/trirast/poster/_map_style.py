@@ -1,0 +1,168 @@
+"""The style of a map: its window, its projection, and colours by a property. docs/posters.md has its keys."""
+
+from __future__ import annotations
+
+import json
+import math
+from typing import Any, Iterator, Mapping, NamedTuple, Optional, Sequence
+
+import numpy as np
+from numpy.typing import NDArray
+
+from ._errors import MapError
+from ._scene import MAX_SIDE, Sheet
+
+# Where the map of Web Mercator ends, which is a square then.
+STEEPEST = math.degrees(math.atan(math.sinh(math.pi)))
+WORLD = {"plate carree": (-180.0, -90.0, 180.0, 90.0), "web mercator": (-180.0, -STEEPEST, 180.0, STEEPEST)}
+KEYS = ("projection", "window", "width", "samples", "background", "color", "property", "colors", "steps", "opacity")
+
+# What JSON calls its values.
+TYPES = {str: "string", int: "number", float: "number", bool: "boolean", type(None): "null", list: "array", dict: "object"}
+# How many of a property's values an error lists.
+FEW = 4
+
+Places = NDArray[np.float64]
+Color = Sequence[int]
+
+
+class Style(NamedTuple):
+    """How a map is drawn, as docs/posters.md has it."""
+
+    projection: str
+    # West, south, east and north, in degrees.
+    window: tuple[float, float, float, float]
+    sheet: Sheet
+    color: Color
+    property: Optional[str]
+    colors: Mapping[str, Color]
+    # In place of `colors`.
+    steps: Optional[Sequence[tuple[float, Color]]]
+
+    def color_of(self, properties: Mapping[str, Any]) -> Optional[Color]:
+        """The colour of a feature with these properties, or `None` if it has `color`."""
+        if self.property is None or self.property not in properties:
+            return None
+        value = properties[self.property]
+        if self.steps is None:
+            return self.colors.get(name_of(value))
+        below = [color for least, color in self.steps if least <= value] if is_number(value) else []
+        return below[-1] if below else None
+
+    def check_values(self, features: Sequence[Mapping[str, Any]], path: str) -> None:
+        """Raises MapError if no feature of a file, of these properties, has the style's property, or none has a value for its colours."""
+        if self.property is None or not features:
+            return
+        names = {name for properties in features for name in properties}
+        if self.property not in names:
+            raise MapError(f"style: property: one of {shown(sorted(names))} of {path}, and not {shown(self.property)}")
+        values = [properties[self.property] for properties in features if self.property in properties]
+        if self.steps is not None and not any(map(is_number, values)):
+            raise MapError(f"style: steps: no feature of {path} has a number as {shown(self.property)}, but {some_of(values)}")
+        if self.steps is None and not any(name_of(value) in self.colors for value in values):
+            wanted = shown(list(self.colors))
+            raise MapError(f"style: colors: no feature of {path} has one of {wanted} as {shown(self.property)}, but {some_of(values)}")
+
+
+def style_of(value: Any) -> Style:
+    if not isinstance(value, dict):
+        raise MapError(f"style: an object with some of the keys {', '.join(KEYS)}, and not {shown(value)}")
+    for key in value:
+        if key not in KEYS:
+            raise MapError(f"style: some of the keys {', '.join(KEYS)}, and not {shown(key)}")
+    projection = value.get("projection", "plate carree")
+    if projection not in WORLD:
+        raise MapError(f"style: projection: {' or '.join(WORLD)}, and not {shown(projection)}")
+    window = window_of(value.get("window", WORLD[projection]), WORLD[projection])
+    opacity = value.get("opacity", 1)
+    if not is_number(opacity) or not 0 <= opacity <= 1:
+        raise MapError(f"style: opacity: 0 to 1, and not {shown(opacity)}")
+    if ("property" in value) != ("colors" in value or "steps" in value):
+        raise MapError("style: a property and colors or steps, or neither")
+    if "colors" in value and "steps" in value:
+        raise MapError("style: colors or steps, and not both")
+    if not isinstance(value.get("property", ""), str):
+        raise MapError(f"style: property: a name, and not {shown(value['property'])}")
+
+    def color(name: str, given: Any) -> Color:
+        red, green, blue, *alpha = color_of(name, given)
+        return red, green, blue, *(alpha or [round(255 * opacity)])
+
+    steps = [(least, color("steps", given)) for least, given in pairs_of(value.get("steps", []))]
+    numbers = [least for least, _ in steps]
+    if numbers != sorted(numbers):
+        raise MapError(f"style: steps: numbers that rise, and not {shown(numbers)}")
+    colors = value.get("colors", {})
+    if not isinstance(colors, dict):
+        raise MapError(f"style: colors: an object of values and their colours, and not {shown(colors)}")
+    named = {name: color(f"colors: {name}", given) for name, given in colors.items()}
+    sheet = sheet_of(value, projection, window)
+    plain = color("color", value.get("color", "#d0c8b0"))
+    return Style(projection, window, sheet, plain, value.get("property"), named, steps if "steps" in value else None)
+
+
+def window_of(given: Any, world: Sequence[float]) -> tuple[float, float, float, float]:
+    if not isinstance(given, (list, tuple)) or len(given) != 4 or not all(map(is_number, given)):
+        raise MapError(f"style: window: west, south, east and north in degrees, and not {shown(given)}")
+    west, south, east, north = map(float, given)
+    if not (west < east and world[1] <= south < north <= world[3] and east - west <= 360):
+        raise MapError(f"style: window: west below east, and south below north within {world[1]} to {world[3]}, and not {shown(given)}")
+    return west, south, east, north
+
+
+def sheet_of(value: Mapping[str, Any], projection: str, window: tuple[float, float, float, float]) -> Sheet:
+    west, south, east, north = window
+    width = value.get("width", 4096)
+    rise = math.degrees(mercator(north) - mercator(south)) if projection == "web mercator" else north - south
+    if type(width) is not int or not 1 <= width <= MAX_SIDE:
+        raise MapError(f"style: width: 1 to {MAX_SIDE} pixels, and not {shown(width)}")
+    red, green, blue, *_ = color_of("background", value.get("background", "#ffffff"))
+    height = width * rise / (east - west)
+    if not height < MAX_SIDE + 0.5:
+        raise MapError(f"style: width: {width} by this window makes the height {height:.0f}, which is at most {MAX_SIDE}")
+    return Sheet(width, max(1, round(height)), value.get("samples", 4), (red, green, blue))
+
+
+def color_of(name: str, given: Any) -> Color:
+    """A colour of 3 or 4 numbers, or a text as #rrggbb or #rrggbbaa."""
+    if isinstance(given, str) and given[:1] == "#" and len(given) in (7, 9):
+        try:
+            return list(bytes.fromhex(given[1:]))
+        except ValueError:
+            pass
+    is_list = isinstance(given, list) and len(given) in (3, 4)
+    if is_list and all(type(each) is int and 0 <= each <= 255 for each in given):
+        return tuple(given)
+    raise MapError(f"style: {name}: a colour as #rrggbb, #rrggbbaa or three or four numbers up to 255, and not {shown(given)}")
+
+
+def pairs_of(steps: Any) -> Iterator[tuple[float, Any]]:
+    for step in steps if isinstance(steps, list) else [steps]:
+        if not isinstance(step, list) or len(step) != 2 or not is_number(step[0]):
+            raise MapError(f"style: steps: pairs of a number and a colour, and not {shown(step)}")
+        yield step[0], step[1]
+
+
+def mercator(latitude: Any) -> Any:
+    """The height of a latitude on a map of Mercator whose globe has the radius 1."""
+    return np.arctanh(np.sin(np.radians(latitude)))
+
+
+def is_number(value: Any) -> bool:
+    return isinstance(value, (int, float)) and not isinstance(value, bool) and math.isfinite(value)
+
+
+def name_of(value: Any) -> str:
+    """A value as a name of `colors`: a text is its own, and others stand as in JSON."""
+    return value if isinstance(value, str) else json.dumps(value)
+
+
+def some_of(values: Sequence[Any]) -> str:
+    """The first few different values, with their types."""
+    found = dict.fromkeys(f"{shown(value)} ({TYPES[type(value)]})" for value in values)
+    return ", ".join(list(found)[:FEW]) + (", .." if len(found) > FEW else "")
+
+
+def shown(value: Any) -> str:
+    text = repr(value)
+    return text if len(text) <= 80 else f"{text[:77]}..."

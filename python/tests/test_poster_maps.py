@@ -1,0 +1,106 @@
+"""Maps whose data or style is a slip: each is an error that says where, and no empty map is drawn."""
+
+import json
+import os
+from typing import Any, Dict, List
+
+import pytest
+
+from .test_poster_polygons import box, feature
+
+from trirast import poster
+from trirast.poster import _command
+
+SQUARE = box(0, 0, 3, 3)
+STEPS = [[10, "#000000"]]
+
+
+def polygon(*rings: Any) -> Dict[str, Any]:
+    return {"type": "Polygon", "coordinates": list(rings)}
+
+
+def collection(*features: Any) -> Dict[str, Any]:
+    return {"type": "FeatureCollection", "features": list(features)}
+
+
+def scene(folder: Any, value: Any, style: Any) -> poster.Scene:
+    names = [os.path.join(str(folder), name) for name in ("map.geojson", "style.json")]
+    for name, each in zip(names, (value, style)):
+        with open(name, "w", encoding="ascii") as file:
+            json.dump(each, file)
+    return poster.scene_of(*names)
+
+
+@pytest.mark.parametrize(
+    "value, style, text",
+    [
+        # Nothing would be seen.
+        (collection(), {}, "no feature has a polygon"),
+        (collection(feature(None), feature(polygon())), {}, "no feature has a polygon"),
+        (feature(polygon(SQUARE)), {"window": [3, 0, 9, 3]}, r"no feature meets .* longitudes are 0 to 3, .* are these degrees"),
+        (feature(polygon(box(0, 86, 3, 88))), {"projection": "web mercator"}, "no feature meets .* latitudes 86 to 88"),
+        (feature(polygon(box(334000, 4865942, 668000, 5621521))), {}, "feature 0: .* 334000 to 668000, .* 4865942 to 5621521: are these degrees"),
+        # No value has a colour.
+        (feature(polygon(SQUARE), a="12.5"), {"property": "a", "steps": STEPS}, r"steps: no feature .* a number as 'a', but '12.5' \(string\)$"),
+        (feature(polygon(SQUARE), a=None), {"property": "a", "steps": STEPS}, r"but None \(null\)$"),
+        (feature(polygon(SQUARE), a="Wood"), {"property": "a", "colors": {"wood": "#000000"}}, r"one of \['wood'\] as 'a', but 'Wood' \(string\)$"),
+        (feature(polygon(SQUARE), a=7), {"property": "a", "colors": {}}, r"one of \[\] as 'a', but 7 \(number\)$"),
+        (
+            collection(*(feature(polygon(SQUARE), a=value) for value in (True, [1], {}, True, 2, 3))), {"property": "a", "colors": {"b": "#000000"}},
+            r"but True \(boolean\), \[1\] \(array\), \{\} \(object\), 2 \(number\), \.\.$",
+        ),
+        # Rings.
+        (collection(feature(None), feature(polygon(SQUARE, [[1, 1], [2, 2]]))), {}, "feature 1, polygon 0, ring 1: 3 different positions"),
+        (feature(polygon([[1, 1], [2, 2], [1, 1], [2, 2], [1, 1]])), {}, "feature 0, polygon 0, ring 0: 3 different"),
+        (feature({"type": "MultiPolygon", "coordinates": [[SQUARE], [[]]]}), {}, "feature 0, polygon 1, ring 0: 3 different"),
+        ({"type": "GeometryCollection", "geometries": [polygon(SQUARE), polygon([[1, 1]])]}, {}, "feature 0, geometry 1, polygon 0, ring 0: "),
+        # Places.
+        (collection(feature(polygon(SQUARE)), feature(None), feature(polygon([*SQUARE, [5, 95]]))), {}, r"feature 2: .* not \[5.0, 95.0\]"),
+        (collection(feature(None), feature(polygon([*SQUARE, [361, 5]]))), {}, r"feature 1: .* not \[361.0, 5.0\]"),
+        (feature(polygon([*SQUARE, [float("nan"), 5]])), {}, r"feature 0: .* not \[nan, 5.0\]"),
+        (feature(polygon([*SQUARE, [5, float("inf")]])), {}, r"feature 0: .* not \[5.0, inf\]"),
+        # What is no GeoJSON, and styles.
+        ([1, 2, 3], {}, r"a FeatureCollection, a Feature or a geometry, .* not \[1, 2, 3\]"),
+        ({"type": "Topology", "arcs": [], "objects": {}}, {}, "TopoJSON: convert it"),
+        (feature(polygon(SQUARE), a=7), {"property": "a", "colors": {"7": "#000000"}, "steps": STEPS}, "colors or steps, and not both"),
+        (feature(polygon(SQUARE), a=7), {"property": "a", "steps": [[5, "#000000"], [3, "#000000"]]}, r"numbers that rise, and not \[5, 3\]"),
+    ],
+)
+def test_a_slip_is_an_error(tmp_path: Any, value: Any, style: Any, text: str) -> None:
+    with pytest.raises(poster.MapError, match=text):
+        scene(tmp_path, value, style)
+
+
+@pytest.mark.parametrize(
+    "geometry, count",
+    [
+        (polygon(SQUARE[:-1]), 4), (polygon(SQUARE), 5), (polygon(SQUARE[:3]), 3), (polygon([*SQUARE[:-1], [359.5, 90.0000005], SQUARE[0]]), 6),
+        ({"type": "GeometryCollection", "geometries": [polygon(), polygon(SQUARE)]}, 5), (polygon([[x, y, 7] for x, y in SQUARE]), 5),
+    ],
+)
+def test_open_rings_and_empty_polygons_are_drawn(tmp_path: Any, geometry: Any, count: int) -> None:
+    value = collection(feature(None), feature(polygon()), feature(geometry), feature({"type": "MultiPolygon", "coordinates": []}))
+    found = scene(tmp_path, value, {}).polygons
+    assert (found.polygon_ends.tolist()[:2], found.count, len(found.corners)) == ([0, 0], 4, count)
+
+
+def test_a_feature_without_the_property_has_color(tmp_path: Any) -> None:
+    given: List[Dict[str, Any]] = [{}, {"a": None}, {"a": 3}, {"a": 10}]
+    value = collection(*(feature(polygon(SQUARE), **each) for each in given))
+
+    def colors(style: Dict[str, Any]) -> List[int]:
+        found: List[List[int]] = scene(tmp_path, value, {"property": "a", "color": [1, 1, 1], **style}).polygons.colors.tolist()
+        return [color[0] for color in found]
+
+    assert colors({"colors": {"null": [7, 7, 7], "3": [8, 8, 8]}}) == [1, 7, 8, 1]
+    assert colors({"steps": [[10, [9, 9, 9]]]}) == [1, 1, 1, 9]
+
+
+def test_the_closing_line_counts_features(tmp_path: Any, capsys: Any) -> None:
+    far = feature(polygon(box(100, 0, 103, 3)), a=10)
+    style = {"window": [0, 0, 6, 3], "width": 60, "property": "a", "steps": STEPS}
+    scene(tmp_path, collection(feature(polygon(SQUARE), a=10), feature(polygon(SQUARE), a=1), far, feature(None)), style)
+    names = [str(tmp_path / name) for name in ("map.geojson", "style.json", "a.png", "tiles")]
+    assert _command.main([names[0], "--style", names[1], "-o", names[2], "--tiles", names[3]]) == 0
+    size = "60 by 30 pixels; 2 of 4 features drawn, 1 in the style's color"
+    assert capsys.readouterr() == ("", f"poster: {names[2]} and {names[3]}: {size}\n")
