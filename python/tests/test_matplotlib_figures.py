@@ -229,6 +229,26 @@ class Files(unittest.TestCase):
         self.assertLess(int((difference > 3).sum()), 400)
 
 
+class Settings(unittest.TestCase):
+    def test_wrong_values(self) -> None:
+        """They are named when the first face is drawn."""
+        wrong: Any = (
+            ("samples", 5, ValueError, "RendererTrirast.samples: 1, 2, 4, 8 or 16, and not 5"),
+            ("samples", "16", ValueError, "RendererTrirast.samples: 1, 2, 4, 8 or 16, and not '16'"),
+            ("smooth", "no", TypeError, "RendererTrirast.smooth: True or False, and not 'no'"),
+            ("threads", 0, ValueError, "threads: at least 1, and not 0"),
+        )
+        for name, value, kind, message in wrong:
+            with mock.patch.object(RendererTrirast, name, value), self.assertRaisesRegex(kind, message):
+                drawn(lambda axes: axes.add_collection(PolyCollection(stars(2), facecolors="r")))
+
+    def test_a_missing_library_is_known_at_once(self) -> None:
+        with mock.patch.dict(os.environ, {"TRIRAST_LIBRARY": "/no/libtrirast.so"}):
+            ended = run("import trirast.matplotlib")
+        self.assertEqual(ended.returncode, 1)
+        self.assertIn(b"OSError: the library of trirast cannot be loaded", ended.stderr)
+
+
 WINDOW = """
     import matplotlib
     matplotlib.use("module://trirast.matplotlib.{backend}")
