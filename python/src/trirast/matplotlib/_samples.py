@@ -63,7 +63,7 @@ class Samples:
     @property
     def can_draw(self) -> bool:
         """Whether windows reach all of the picture."""
-        return max(self._width, self._height) <= MAX_ORIGIN
+        return bool(max(self._width, self._height) <= MAX_ORIGIN)
 
     def is_opaque(self, box_of: Callable[[], Box]) -> bool:
         """Whether the pixels of a box are opaque, so that samples need no alpha. The box is asked for if some other pixel is not."""
