@@ -158,9 +158,9 @@ WHOLE: Dict[Plot, Callable[[Any, Any], None]] = {
 # ---- Counted
 
 
-def drawn(draw: Callable[[Any], Any], canvas_class: Any, dpi: int = DPI) -> Any:
+def drawn(draw: Callable[[Any], Any], canvas_class: Any, dpi: int = DPI, **more: Any) -> Any:
     """The pixels of a figure whose axes, without a frame, show 0 to 1 in both directions."""
-    figure = Figure(figsize=SIZE, dpi=dpi)
+    figure = Figure(figsize=SIZE, dpi=dpi, **more)
     canvas = canvas_class(figure)
     axes = figure.add_axes((0.1, 0.1, 0.8, 0.8), frameon=False)
     draw(axes)
@@ -192,11 +192,11 @@ def inside(plot: Plot, canvas_class: Any, alpha: float, dpi: int = DPI) -> Any:
     return found
 
 
-def seams(plot: Plot, canvas_class: Any, alpha: float, dpi: int = DPI) -> Any:
+def seams(plot: Plot, canvas_class: Any, alpha: float, dpi: int = DPI, **more: Any) -> Any:
     """Which pixels inside show a seam: all faces have one colour, and they have another one than most."""
     within = inside(plot, canvas_class, alpha, dpi)
     assert within.sum() > 10000 or dpi < DPI
-    picture = drawn(lambda axes: plot(axes, one_color(alpha)), canvas_class, dpi)
+    picture = drawn(lambda axes: plot(axes, one_color(alpha)), canvas_class, dpi, **more)
     return within & (picture != commonest(picture[within])).any(2)
 
 

@@ -1,16 +1,19 @@
 """Faces of the backend of matplotlib beside Agg's: what is equal byte for byte, what differs on edges alone, and seams."""
 
+import io
 import unittest
-from typing import Any, List
+from typing import Any, Dict, List
 from unittest import mock
 
-from .figures import BOTH, INSIDE, WHITE, Draws, colors, differences, drawn, stars, twice, unlike
+from .figures import BOTH, INSIDE, WHITE, Draws, colors, differences, drawn, stars, tiles, twice, unlike
 
 import matplotlib
 import numpy as np
 from matplotlib.backends.backend_agg import FigureCanvasAgg, RendererAgg
+from matplotlib.backends.backend_pdf import RendererPdf
 from matplotlib.collections import PatchCollection, PolyCollection
-from matplotlib.patches import Circle, PathPatch, Rectangle
+from matplotlib.figure import Figure
+from matplotlib.patches import Circle, Ellipse, PathPatch, Polygon, Rectangle, Wedge
 from matplotlib.path import Path
 from matplotlib.transforms import Bbox, IdentityTransform
 
@@ -100,17 +103,6 @@ class EqualToAgg(unittest.TestCase):
                 # The left side is slanted.
                 self.assertLessEqual(int(difference[:, 26:].max()), 1)
                 self.assertLess(int(difference.max()), 24)
-
-    def test_transparent_figure(self) -> None:
-        """Its faces are Agg's."""
-        draws: List[Draws] = [
-            lambda axes: axes.add_patch(Circle((0.5, 0.5), 0.3, facecolor=(1, 0.5, 0, 0.3))),
-            lambda axes: axes.add_collection(PolyCollection(stars(5), facecolors="r")),
-            lambda axes: axes.pcolormesh(*neighbours.bent_grid(3, 2), np.ones((2, 3)), alpha=0.5),
-        ]
-        for draw in draws:
-            for facecolor in ("none", (1, 1, 1, 0.5)):
-                self.check(lambda axes: (axes.patch.set_alpha(0.3), draw(axes)), facecolor=facecolor)
 
     def test_hidden_faces(self) -> None:
         self.check(lambda axes: axes.add_collection(PolyCollection(stars(5), facecolors=(0, 0, 0, 0), edgecolors="k")))
@@ -257,6 +249,119 @@ class Seams(unittest.TestCase):
             picture = drawn(lambda axes: axes.add_collection(PolyCollection(given, facecolors=(0, 0, 1, 0.5))))
             shown = picture[rows, column - 3 : column + 3].reshape(-1, 4)
             self.assertTrue((shown == shown[0]).all())
+
+
+def over_white(pixels: Any) -> Any:
+    share = pixels[..., 3:] / 255
+    return share * pixels[..., :3] + (1 - share) * 255
+
+
+class Transparent(unittest.TestCase):
+    """Figures whose ground is not opaque: samples with alpha."""
+
+    def test_no_seams(self) -> None:
+        for ground in ("none", (1, 0.5, 0, 0.4)):
+            for name in ("contourf", "pcolormesh", "stackplot"):
+                self.assertEqual(int(neighbours.seams(neighbours.PLOTS[name], FigureCanvasTrirast, 0.5, facecolor=ground).sum()), 0, name)
+        self.assertGreater(int(neighbours.seams(neighbours.stackplot, FigureCanvasAgg, 0.5, facecolor="none").sum()), 5000)
+
+    def test_over_white_they_are_opaque_figures(self) -> None:
+        """Apart from roundings, of which Agg's own strokes over clear pixels have most."""
+        draws: List[Draws] = [
+            lambda axes: axes.add_patch(Circle((0.5, 0.5), 0.3, facecolor=(1, 0.5, 0, 0.3), edgecolor="k")),
+            lambda axes: axes.add_collection(PolyCollection(stars(9), facecolors=colors(9, 0.5))),
+            lambda axes: axes.add_collection(PolyCollection(tiles(), facecolors=colors(30, 0.5), edgecolors="k")),
+            lambda axes: axes.pcolormesh(*neighbours.bent_grid(3, 2), np.arange(6).reshape(2, 3), alpha=0.5),
+            lambda axes: axes.add_patch(Circle((0.5, 0.5), 0.4, color="g")).set_clip_path(Circle((0.3, 0.5), 0.4, transform=axes.transAxes)),
+        ]
+        for number, draw in enumerate(draws):
+            clear, opaque = (drawn(lambda axes: (axes.set_axis_off(), draw(axes)), facecolor=ground) for ground in ("none", "white"))
+            self.assertGreater(unlike(opaque, np.uint8(255)), 4000)
+            self.assertEqual(clear[0, 0].tolist(), [255, 255, 255, 0])
+            difference = np.abs(over_white(clear) - opaque[..., :3]).max(2)
+            self.assertLess(difference.max(), 3, number)
+            self.assertLess(int((difference > 2).sum()), 100, number)
+
+    def test_pixels_without_a_face_keep_their_bytes(self) -> None:
+        """Also those that samples with alpha do not hold exactly, in the bounds of a face."""
+        noise = np.random.default_rng(1).integers(0, 256, (240, 320, 4)).astype(np.uint8)
+        triangle = np.array(((0.1, 0.1), (0.9, 0.15), (0.2, 0.9)))
+
+        def draw(axes: Any, faces: bool) -> None:
+            axes.set_axis_off()
+            axes.figure.figimage(noise, zorder=-1)
+            for n in range(2 * faces):
+                axes.add_patch(PathPatch(Path(triangle + 0.02 * n), facecolor=(0, 0, 1, 0.5), linewidth=0))
+
+        below, above = (drawn(lambda axes: draw(axes, faces), facecolor="none") for faces in (False, True))
+        self.assertGreater(unlike(below, above), 12000)
+        x, y = (np.arange(320) + 0.5 - 32) / 256, (216 - np.arange(240)[:, None] - 0.5) / 192
+        outside = (x + y > 1.2) | (y < 0.05) | (x < 0.05)
+        self.assertGreater(int(outside[INSIDE].sum()), 10000)
+        self.assertTrue((below[outside] == above[outside]).all())
+
+    def test_what_pdf_rasterizes(self) -> None:
+        """One mesh of a figure: its picture as the file has it."""
+        found = []
+        for canvas_class in BOTH:
+            figure = Figure(figsize=(3.2, 2.4))
+            canvas_class(figure)
+            axes = figure.add_axes((0.1, 0.1, 0.8, 0.8), xlim=(0, 1), ylim=(0, 1))
+            axes.pcolormesh(*neighbours.bent_grid(20, 15), np.ones((15, 20)), alpha=0.5, rasterized=True, snap=False)
+            with mock.patch.object(RendererPdf, "draw_image") as drawing:
+                figure.savefig(io.BytesIO(), format="pdf", dpi=100)
+            inside = np.array(drawing.call_args[0][3])[5:-5, 5:-5].reshape(-1, 4)
+            self.assertGreater(len(inside), 40000)
+            found.append(int((inside != inside[0]).any(1).sum()))
+        self.assertEqual(found[1], 0)
+        self.assertGreater(found[0], 1000)
+
+    def test_ground_that_a_face_makes_opaque(self) -> None:
+        """Neighbours on it have samples without alpha, and those before it have them with alpha."""
+
+        def draw(axes: Any) -> None:
+            axes.set_axis_off()
+            for zorder in (1, 3):
+                axes.add_collection(PolyCollection(tiles(), facecolors=(0, 0, 1, 0.5), zorder=zorder))
+            axes.add_patch(PathPatch(Path(((-1, -1), (2, -1), (2, 2), (-1.01, 2))), color="w", zorder=2))
+            # Agg draws it, so that what waits is drawn before.
+            axes.plot((0.9, 0.95), (0.9, 0.95), zorder=2.5)
+
+        shown = drawn(draw, facecolor="none")
+        self.assertTrue((shown[INSIDE][..., 3] == 255).all())
+        self.assertEqual(len(np.unique(shown[100:140, 100:200].reshape(-1, 4), axis=0)), 1)
+
+
+# What has one closed ring, with a part of its edge or its inside where the axes are zoomed to: at (0, 0).
+CLOSED: Dict[str, Draws] = {
+    "fill": lambda axes: axes.fill((0, 1, 0.5), (0, 0, 1), alpha=0.5),
+    "polygon": lambda axes: axes.add_patch(Polygon(((0, 0), (1, 0), (1, 1)), alpha=0.5, linewidth=0)),
+    "polygon with an edge": lambda axes: axes.add_patch(Polygon(((0, 0), (1, 0), (1, 1)), facecolor="c", edgecolor="k")),
+    "circle": lambda axes: axes.add_patch(Circle((0.5, 0.5), 0.7074, alpha=0.5)),
+    "ellipse": lambda axes: axes.add_patch(Ellipse((0.5, 0.5), 1.4143, 0.9, angle=45, alpha=0.5)),
+    "wedge": lambda axes: axes.add_patch(Wedge((0, 0), 0.7, 20, 300, alpha=0.5)),
+    "turned rectangle": lambda axes: axes.add_patch(Rectangle((0, 0), 1, 1, angle=10, alpha=0.5)),
+    "pie": lambda axes: axes.pie((1, 2, 3)),
+    "filled steps": lambda axes: axes.hist(np.random.default_rng(0).normal(size=900), 200, histtype="stepfilled", alpha=0.5),
+    "boxplot": lambda axes: axes.boxplot((-0.5, -0.1, 0.4, 0.9), positions=(0,), patch_artist=True),
+    "arrow": lambda axes: axes.arrow(0, 0, 1, 1, width=0.1),
+}
+
+
+class FarZoom(unittest.TestCase):
+    def test_closed_patches(self) -> None:
+        """With corners at 40,000 and more pixels: beside Agg, pixels on edges alone differ."""
+        for name, draw in CLOSED.items():
+            for limit in (1 / 200, 1e-3):
+
+                def zoomed(axes: Any) -> None:
+                    draw(axes)
+                    axes.set(xlim=(-limit / 3, limit), ylim=(-limit / 3, limit), aspect="auto", frame_on=True)
+
+                with self.subTest(name=name, limit=limit):
+                    agg, ours = (drawn(zoomed, canvas_class).astype(int) for canvas_class in BOTH)
+                    self.assertGreater(int((ours[INSIDE] != 255).any(2).sum()), 5000)
+                    self.assertLess(int((np.abs(agg - ours).max(2) > 1).sum()), 1000)
 
 
 class Rules(unittest.TestCase):

@@ -47,16 +47,18 @@ class Again(unittest.TestCase):
         self.assertEqual(unlike(np.array(canvas.buffer_rgba()), first), 0)
 
     def test_opaque_and_then_transparent(self) -> None:
-        """One renderer draws both, the second as Agg does."""
+        """One renderer draws both, and the second is as another renderer draws it."""
         pictures = []
-        for canvas_class in BOTH:
-            figure, canvas, axes = figure_of(canvas_class)
-            canvas.draw()
+        for both in (True, False):
+            figure, canvas, axes = figure_of()
+            if both:
+                canvas.draw()
             figure.set_facecolor("none")
             axes.patch.set_visible(False)
             canvas.draw()
             pictures.append(np.array(canvas.buffer_rgba()))
         self.assertEqual(unlike(*pictures), 0)
+        self.assertEqual(pictures[0][0, 0, 3], 0)
 
     def test_blitting(self) -> None:
         """Restored pixels have one colour each, so the bytes of a whole drawing may differ on edges, by a little."""
@@ -152,10 +154,11 @@ class Samples(unittest.TestCase):
             axes.tripcolor((0, 1, 0, 1), (0, 0, 1, 1), (1, 2, 3, 4), shading="gouraud", alpha=0.5)
             axes.add_patch(Circle((0.5, 0.5), 0.4, color=(1, 0, 0, 0.4))).set_clip_path(Circle((0.3, 0.5), 0.4, transform=axes.transAxes))
 
-        wanted = drawn(draw)
-        for changed in (mock.patch.object(_samples, "MAX_SIDE", 64), mock.patch.object(RendererTrirast, "threads", 3)):
-            with changed:
-                self.assertEqual(unlike(drawn(draw), wanted), 0)
+        for ground in ("white", "none"):
+            wanted = drawn(draw, facecolor=ground)
+            for changed in (mock.patch.object(_samples, "MAX_SIDE", 64), mock.patch.object(RendererTrirast, "threads", 3)):
+                with changed:
+                    self.assertEqual(unlike(drawn(draw, facecolor=ground), wanted), 0)
 
     def test_many_clip_paths(self) -> None:
         """Their numbers begin again when they end."""
@@ -224,6 +227,26 @@ class Files(unittest.TestCase):
         difference = np.abs(pictures[0] - pictures[1]).max(2)
         self.assertLess(difference.max(), 40)
         self.assertLess(int((difference > 3).sum()), 400)
+
+
+class Settings(unittest.TestCase):
+    def test_wrong_values(self) -> None:
+        """They are named when the first face is drawn."""
+        wrong: Any = (
+            ("samples", 5, ValueError, "RendererTrirast.samples: 1, 2, 4, 8 or 16, and not 5"),
+            ("samples", "16", ValueError, "RendererTrirast.samples: 1, 2, 4, 8 or 16, and not '16'"),
+            ("smooth", "no", TypeError, "RendererTrirast.smooth: True or False, and not 'no'"),
+            ("threads", 0, ValueError, "threads: at least 1, and not 0"),
+        )
+        for name, value, kind, message in wrong:
+            with mock.patch.object(RendererTrirast, name, value), self.assertRaisesRegex(kind, message):
+                drawn(lambda axes: axes.add_collection(PolyCollection(stars(2), facecolors="r")))
+
+    def test_a_missing_library_is_known_at_once(self) -> None:
+        with mock.patch.dict(os.environ, {"TRIRAST_LIBRARY": "/no/libtrirast.so"}):
+            ended = run("import trirast.matplotlib")
+        self.assertEqual(ended.returncode, 1)
+        self.assertIn(b"OSError: the library of trirast cannot be loaded", ended.stderr)
 
 
 WINDOW = """

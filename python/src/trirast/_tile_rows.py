@@ -6,7 +6,7 @@ from ._canvas import FORMATS, TILE_SIZE, Canvas
 from ._ffi import CCanvas, library
 from ._threads import share
 
-RGBA = FORMATS["rgba"][0]
+RGBA, STRAIGHT = FORMATS["rgba"][0], FORMATS["rgba_straight"][0]
 
 
 class TileRows:
@@ -15,6 +15,7 @@ class TileRows:
 
     def __init__(self, canvas: Canvas, first: int, end: int, threads: int = 1) -> None:
         self._canvas, self._first, self._end, self._threads = canvas, first, end, threads
+        self._format = STRAIGHT if canvas.alpha else RGBA
 
     @property
     def pixels(self) -> slice:
@@ -22,19 +23,19 @@ class TileRows:
         return slice(self._first * TILE_SIZE, min(self._end * TILE_SIZE, self._canvas.height))
 
     def load(self, picture: Any) -> None:
-        """Makes a picture the colour of all samples of its pixels. Alpha is not read."""
-        self._each(library().trirast_canvas_load, (RGBA,), picture)
+        """Makes a picture the colour of all samples of its pixels. Alpha is read if the canvas has it, and colours are multiplied by it."""
+        self._each(library().trirast_canvas_load, (self._format,), picture)
 
     def resolve(self, picture: Any) -> None:
-        """Writes the colours, with alpha 255."""
-        self._each(library().trirast_canvas_resolve, (RGBA,), picture)
+        """Writes the colours, with alpha 255 if the canvas has none, else divided by their alpha."""
+        self._each(library().trirast_canvas_resolve, (self._format,), picture)
 
     def colors(self, sample: int, picture: Any) -> None:
-        """Writes the colours of one sample, with alpha 255."""
+        """Writes the colours of one sample as they are stored, with alpha 255 if the canvas has none."""
         self._each(library().trirast_canvas_colors, (sample, RGBA), picture)
 
     def store(self, sample: int, picture: Any) -> None:
-        """Makes a picture the colour of one sample of its pixels."""
+        """Makes a picture the colour of one sample of its pixels, stored as it is."""
         self._each(library().trirast_canvas_store, (sample, RGBA), picture)
 
     def _each(self, call: Callable[..., Any], chosen: Tuple[int, ...], picture: Any) -> None:

@@ -27,9 +27,9 @@ def path_polygon(path: Any, matrix: Any, height: int, snap: Optional[bool], stro
     ring = codes.tobytes()
     count = len(ring) - ring.endswith(CLOSED)
     if count and ring.count(LINE) == count - 1 and ring[0] == MOVETO:
-        vertices = vertices[:count]
-        if -REACH <= vertices.min() and vertices.max() <= REACH:
-            return polygons(vertices, (count,), (1,))
+        corners = vertices[:count]
+        if -REACH <= corners.min() and corners.max() <= REACH:
+            return polygons(corners, (count,), (1,))
     return joined([(vertices, codes)])
 
 

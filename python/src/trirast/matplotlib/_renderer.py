@@ -8,6 +8,7 @@ import numpy as np
 from matplotlib.backends.backend_agg import RendererAgg
 from matplotlib.path import Path
 
+from .._arguments import flag, shown
 from ._clips import Clips, clip_box
 from ._collection import Collection, rounds_in_order
 from ._colors import byte_of, color_bytes, edge_alpha, edges_of, face_bytes
@@ -24,6 +25,8 @@ from ._window import OPAQUE
 
 # Its functions have no types.
 ma: Any = np.ma
+# The samples of a pixel, of which there is a choice.
+SAMPLES = (1, 2, 4, 8, 16)
 
 
 class RendererTrirast(RendererAgg):
@@ -102,7 +105,7 @@ class RendererTrirast(RendererAgg):
 
     def draw_path(self, gc: Any, path: Any, transform: Any, rgbFace: Any = None) -> None:
         alpha = byte_of(face_alpha(gc, rgbFace)) if rgbFace is not None and gc.get_antialiased() else 0
-        if not alpha or self._is_whole(gc, path, transform, alpha) or not self._is_opaque(gc):
+        if not alpha or self._is_whole(gc, path, transform, alpha) or not self._all_samples().can_draw:
             super().draw_path(gc, path, transform, rgbFace)
             return
         has_edge = edge_alpha(gc) != 0
@@ -129,7 +132,7 @@ class RendererTrirast(RendererAgg):
         markers stay Agg's: it puts them on whole pixels, so they have no side in common."""
         smooth = rgbFace is not None and len(marker_path.vertices) > 2 and is_origin(path, trans) and self._is_smooth(gc.get_antialiased())
         color = face_bytes(gc, rgbFace) if smooth else (0, 0, 0, 0)
-        if color[3] and self._is_opaque(gc):
+        if color[3] and self._all_samples().can_draw:
             matrix = np.array(marker_trans.get_matrix())
             snapped = is_snapped(marker_path, matrix, gc.get_snap())
             if not snapped:
@@ -166,7 +169,7 @@ class RendererTrirast(RendererAgg):
         points, edged = edges_of(whole.edges, whole.widths, count)
         if gc.get_hatch() is not None:
             edged[:] = True
-        if not ours.any() or (edged.any() and all(map(has_curve, whole.paths))) or not self._is_opaque(gc):
+        if not ours.any() or (edged.any() and all(map(has_curve, whole.paths))) or not self._all_samples().can_draw:
             return False
         by_agg = edged | (~ours & (colors[:, 3] > 0))
         faces = self._faces(gc, whole, self.points_to_pixels(points), not by_agg.any(), edged.any())
@@ -212,7 +215,7 @@ class RendererTrirast(RendererAgg):
     ) -> None:
         given = [gc, master_transform, meshWidth, meshHeight, coordinates, offsets, offsetTrans, facecolors, antialiased, edgecolors]
         smooth = self._is_smooth(bool(antialiased)) and len(facecolors) and len(offsets) <= 1 and gc.get_hatch() is None
-        if smooth and self._is_opaque(gc):
+        if smooth and self._all_samples().can_draw:
             transform = placed(master_transform, (), offsets, offsetTrans, 1, int(self.height))[0]
             stroke = self.points_to_pixels(gc.get_linewidth()) if len(edgecolors) else 0
             faces = quad_faces(unmasked(coordinates), transform, gc.get_snap(), stroke)
@@ -244,8 +247,9 @@ class RendererTrirast(RendererAgg):
         triangles = numbered(Triangles(points, np.broadcast_to(ma.filled(colors_array, np.nan), (count, 3, 4))))
         if not len(triangles.points):
             return
-        if self._is_opaque(gc):
-            self._all_samples().draw_triangles(triangles, box, self._clips.of(gc))
+        samples = self._all_samples()
+        if samples.can_draw and samples.is_opaque(lambda: box):
+            samples.draw_triangles(triangles, box, self._clips.of(gc))
             return
         figure: Pixels = np.asarray(self.buffer_rgba())
         draw_triangles(figure, triangles, box, self._clip_mask(gc), self.threads, self.samples)
@@ -267,7 +271,7 @@ class RendererTrirast(RendererAgg):
 
     def _is_smooth(self, antialiased: Any) -> Any:
         """Whether faces of collections and meshes are drawn smoothly."""
-        return antialiased | True if self.smooth else antialiased
+        return antialiased | True if flag("RendererTrirast.smooth", self.smooth) else antialiased
 
     def _draw(self, gc: Any, polygons: Polygons, colors: Any) -> None:
         box = self._clip_box(gc)
@@ -277,15 +281,13 @@ class RendererTrirast(RendererAgg):
 
     def _all_samples(self) -> Samples:
         if self._samples is None:
+            if self.samples not in SAMPLES:
+                raise ValueError(f"RendererTrirast.samples: 1, 2, 4, 8 or 16, and not {shown(self.samples)}")
             self._samples = Samples(np.asarray(self._agg), self.samples, self.threads)
         return self._samples
 
     def _clip_box(self, gc: Any) -> Box:
         return clip_box(gc, int(self.width), int(self.height))
-
-    def _is_opaque(self, gc: Any) -> bool:
-        """Whether samples can take the pixels inside of the clip rectangle."""
-        return self._all_samples().is_opaque(lambda: self._clip_box(gc))
 
     def _leaves_samples(self, gc: Any, opaque: bool) -> bool:
         """Whether nothing is lost if Agg draws whole pixels here, with all of their samples."""

@@ -24,6 +24,7 @@ class Waiting(NamedTuple):
     colors: Any
     box: Box
     clip: Optional[Clip]
+    has_alpha: bool
 
     @property
     def bounds(self) -> Box:
@@ -43,7 +44,8 @@ class Samples:
         self._picture = picture
         self._height, self._width = picture.shape[:2]
         self._samples, self._threads = samples, threads
-        self._windows: Dict[Tuple[int, int], Window] = {}
+        # By the place of their corner, and by whether their samples have alpha.
+        self._windows: Dict[Tuple[int, int, bool], Window] = {}
         self._waiting: List[Waiting] = []
         self._is_opaque = False
 
@@ -58,12 +60,15 @@ class Samples:
         """Something may have made pixels transparent."""
         self._is_opaque = False
 
+    @property
+    def can_draw(self) -> bool:
+        """Whether windows reach all of the picture."""
+        return bool(max(self._width, self._height) <= MAX_ORIGIN)
+
     def is_opaque(self, box_of: Callable[[], Box]) -> bool:
-        """Whether the pixels of a box are opaque, so that samples can take them. The box is asked for if some other pixel is not."""
+        """Whether the pixels of a box are opaque, so that samples need no alpha. The box is asked for if some other pixel is not."""
         if self._is_opaque:
             return True
-        if max(self._width, self._height) > MAX_ORIGIN:
-            return False
         self._is_opaque = is_all_opaque(self._picture)
         if self._is_opaque:
             return True
@@ -78,7 +83,15 @@ class Samples:
 
     def add(self, polygons: Polygons, colors: Any, box: Box, clip: Optional[Clip] = None) -> None:
         """Draws polygons in their order inside of a box, each in its colour of four bytes."""
-        self._waiting.append(Waiting(polygons, colors, box, clip))
+        has_alpha = self._needs_alpha(box)
+        if self._waiting and self._waiting[-1].has_alpha != has_alpha:
+            self.flush()
+        self._waiting.append(Waiting(polygons, colors, box, clip, has_alpha))
+
+    def _needs_alpha(self, box: Box) -> bool:
+        """Whether some pixel of a box is not opaque. It is not looked for again while polygons wait for the same box."""
+        last = self._waiting[-1] if self._waiting else None
+        return last is not None and last.has_alpha and last.box == box or not self.is_opaque(lambda: box)
 
     def flush(self) -> None:
         """Draws what waits into the picture."""
@@ -86,7 +99,7 @@ class Samples:
             return
         waiting, self._waiting = merged(self._waiting), []
         bounds = [each.bounds for each in waiting]
-        for window in self._met(around([each for each in bounds if not each.is_empty])):
+        for window in self._met(around([each for each in bounds if not each.is_empty]), waiting[0].has_alpha):
             box = common(window.box, around([each for each in bounds if meet(each, window.box)]))
             window.begin(box)
             for each, its_bounds in zip(waiting, bounds):
@@ -95,12 +108,12 @@ class Samples:
             window.end(box)
 
     def draw_triangles(self, triangles: Triangles, box: Box, clip: Optional[Clip]) -> None:
-        """Draws triangles in their order inside of a box."""
+        """Draws triangles in their order inside of a box of opaque pixels."""
         self.flush()
         least, greatest = bounds_of(triangles.points)
         limits = np.array(box[:2])[:, None], np.array(box[2:])[:, None]
         drawn = common(box_around(least.clip(*limits), greatest.clip(*limits)), box)
-        for window in self._met(drawn):
+        for window in self._met(drawn, False):
             part = common(window.box, drawn)
             window.begin(part)
             window.draw_triangles(triangles, box, clip)
@@ -111,16 +124,17 @@ class Samples:
         """The bytes of the windows' memory, of which pages that nothing was drawn upon are not taken."""
         return sum(window.memory for window in self._windows.values())
 
-    def _met(self, box: Box) -> List[Window]:
-        """The windows that a box meets, which are made if they are not there."""
+    def _met(self, box: Box, has_alpha: bool) -> List[Window]:
+        """The windows that a box meets, with alpha or without, which are made if they are not there."""
         found = []
         for top in range(box.top // MAX_SIDE * MAX_SIDE, box.bottom, MAX_SIDE):
             for left in range(box.left // MAX_SIDE * MAX_SIDE, box.right, MAX_SIDE):
-                if (left, top) not in self._windows:
+                key = left, top, has_alpha
+                if key not in self._windows:
                     whole = Box(left, top, min(left + MAX_SIDE, self._width), min(top + MAX_SIDE, self._height))
                     pixels = self._picture.view(np.uint32)[..., 0]
-                    self._windows[left, top] = Window(pixels, whole, self._samples, self._threads)
-                found.append(self._windows[left, top])
+                    self._windows[key] = Window(pixels, whole, self._samples, self._threads, has_alpha)
+                found.append(self._windows[key])
         return found
 
 

@@ -33,16 +33,22 @@ class Window:
     """Samples of a box of a picture. `shown` is what they resolve to. A pixel of which the picture has other bytes was
     drawn by someone else: then its samples are dropped, and are all what the picture shows.
 
+    With alpha samples are multiplied by it, and the picture is not: so a pixel may resolve to other bytes than it was loaded
+    from. Those bytes stay until something drawn changes what it resolves to.
+
     A clip path is a depth: its samples get a number as their depth, and what is clipped is drawn where depths are
     equal to it.
     """
 
-    def __init__(self, picture: Any, box: Box, samples: int, threads: int) -> None:
+    def __init__(self, picture: Any, box: Box, samples: int, threads: int, has_alpha: bool = False) -> None:
         self.box, self._threads = box, threads
         self._pixels = picture[box.top : box.bottom, box.left : box.right]
         memory = np.empty(Canvas.size(box.width, box.height, samples), np.uint8)
-        self._canvas = Canvas(box.width, box.height, samples, origin=(box.left, box.top), memory=memory)
+        self._canvas = Canvas(box.width, box.height, samples, alpha=has_alpha, origin=(box.left, box.top), memory=memory)
         self._shown = np.empty((box.height, box.width), np.uint32)
+        self._resolved = np.empty_like(self._shown) if has_alpha else None
+        # The bits that each pixel has here.
+        self._filled = np.uint32(0) if has_alpha else ALPHA
         self._is_new = True
         self._has_samples = np.zeros(-(-box.height // TILE_SIZE), bool)
         self._clip: Any = None
@@ -73,6 +79,8 @@ class Window:
         changed = now != was
         if changed.any():
             self._load(now, changed, rows.start, columns.start)
+        if self._resolved is not None:
+            self._resolve(box, self._resolved)
 
     def draw(self, polygons: Polygons, colors: Any, scissor: Box, clip: Optional[Clip]) -> None:
         """Draws polygons over the samples, each in its colour of four bytes."""
@@ -89,10 +97,19 @@ class Window:
     def end(self, box: Box) -> None:
         """Resolves a box into the picture."""
         rows, columns = self._place(box)
-        tile_rows = self._tile_rows(box)
-        self._has_samples[tile_rows] = True
-        TileRows(self._canvas, tile_rows.start, tile_rows.stop, self._threads).resolve(self._shown)
+        self._has_samples[self._tile_rows(box)] = True
+        if self._resolved is None:
+            self._resolve(box, self._shown)
+        else:
+            before = self._resolved[rows, columns].copy()
+            self._resolve(box, self._resolved)
+            now = self._resolved[rows, columns]
+            np.copyto(self._shown[rows, columns], now, where=now != before)
         self._pixels[rows, columns] = self._shown[rows, columns]
+
+    def _resolve(self, box: Box, out: Any) -> None:
+        tile_rows = self._tile_rows(box)
+        TileRows(self._canvas, tile_rows.start, tile_rows.stop, self._threads).resolve(out)
 
     def _draw(self, polygons: Polygons, colors: Any, blend: Any, scissor: Optional[Box], depth: int = 0, **more: Any) -> None:
         state: dict[str, Any] = {"blend": blend, "scissor": scissor, "threads": self._threads, **more}
@@ -142,9 +159,8 @@ class Window:
 
     def _clear(self) -> None:
         """Makes all samples one colour, the picture's in its middle, which takes no memory."""
-        color = self._pixels[self.box.height // 2, self.box.width // 2] | ALPHA
-        red, green, blue, _alpha = np.array([color], np.uint32).view(np.uint8).tolist()
-        self._canvas.clear((red, green, blue), 0, threads=self._threads)
+        color = self._pixels[self.box.height // 2, self.box.width // 2] | self._filled
+        self._canvas.clear(self._stored(np.array([color], np.uint32)).view(np.uint8).tolist(), 0, threads=self._threads)
         self._shown.fill(color)
         self._is_new, self._clip, self._clips = False, None, 0
 
@@ -160,13 +176,13 @@ class Window:
         if not few.any():
             return
         rows, columns, ends = rows[few], columns[few], ends[few]
-        colors = now[rows, columns] | ALPHA
+        colors = self._stored(now[rows, columns])
         y, x, right = rows + self.box.top + top, columns + self.box.left + left, ends + self.box.left + left
         corners = np.stack((x, y, right, y, right, y + 1, x, y + 1), 1).astype(np.int32).reshape(-1, 2) * UNIT
         each = np.arange(1, len(rows) + 1)
         self._draw(Polygons(corners, 4 * each, each), colors.view(np.uint8).reshape(-1, 4), "none", None)
         loaded = changed if few.all() else changed & ~many[(np.arange(len(changed)) + top) // TILE_SIZE, None]
-        np.copyto(self._shown[top : top + len(now), left : left + now.shape[1]], now | ALPHA, where=loaded)
+        np.copyto(self._shown[top : top + len(now), left : left + now.shape[1]], now | self._filled, where=loaded)
 
     def _load_row(self, row: int) -> None:
         """Loads all pixels of a tile row that have changed."""
@@ -179,9 +195,13 @@ class Window:
             colors = np.empty_like(self._shown)
             for sample in range(self._canvas.samples):
                 part.colors(sample, colors)
-                np.copyto(colors[part.pixels], now, where=changed)
+                np.copyto(colors[part.pixels], self._stored(now), where=changed)
                 part.store(sample, colors)
-        np.bitwise_or(now, ALPHA, out=shown)
+        np.bitwise_or(now, self._filled, out=shown)
+
+    def _stored(self, pixels: Any) -> Any:
+        """Pixels of the picture as samples have them."""
+        return pixels | ALPHA if self._resolved is None else multiplied(pixels)
 
     def _place(self, box: Box) -> tuple[slice, slice]:
         """The rows and columns of a box of the picture in this window."""
@@ -191,6 +211,14 @@ class Window:
     def _tile_rows(self, box: Box) -> slice:
         top = self.box.top
         return slice((box.top - top) // TILE_SIZE, -(-(box.bottom - top) // TILE_SIZE))
+
+
+def multiplied(pixels: Any) -> Any:
+    """Pixels with their colours multiplied by their alpha, rounded to the nearest."""
+    channels = np.ascontiguousarray(pixels).view(np.uint8).reshape(*pixels.shape, 4)
+    found = channels.astype(np.uint16)
+    found[..., :3] = (found[..., :3] * found[..., 3:] + OPAQUE // 2) // OPAQUE
+    return found.astype(np.uint8).view(np.uint32)[..., 0]
 
 
 def runs_of(changed: Any, pixels: Any) -> tuple[Any, Any, Any]:
