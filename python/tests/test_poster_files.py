@@ -335,7 +335,7 @@ class Journals(Runs):
             self.must_refuse("OutputError", "-o", self.path("a.ppm"), "--resume")
             self.write("a.ppm.resume", _journal.MARK + data)
             status, line = self.run_command(self.list, "-o", self.path("a.ppm"), "--resume")
-            self.assertEqual(line.count("\n"), status, line)
+            self.assertEqual((line.count("\n"), status in (0, 1)), (1, True), line)
             self.assertTrue(status == 0 or line.startswith("poster: ResumeError: "), line)
             if status:
                 os.remove(self.path("a.ppm.resume"))
