@@ -27,6 +27,7 @@ ELSEWHERE = {
     ("docs/library.md", "c"): "tools/checks/library/install.py, whose programs are these; here each is compiled",
     ("docs/library.md", "rust"): "bindings/rust/trirast, whose documentation has them",
     ("docs/library.md", "cmake"): "tools/packaging",
+    ("docs/matplotlib.md", "ipython"): "python/tests/test_matplotlib_notebooks.py, where there is IPython",
     ("docs/shading.md", "cpp"): "tools/checks/shade, which compares its picture",
     ("docs/shading.md", "c"): "a part of examples/c/cube.c, as tools/checks/shade sees",
     ("README.md", "json"): "run as a list", ("docs/draw-list.md", "json"): "run as a list",
