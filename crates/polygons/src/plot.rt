@@ -23,7 +23,7 @@ use crate::rings::Rings;
 use crate::rule::Rule;
 use crate::runs::Runs;
 use crate::strip::{Strip, point_at};
-use crate::walk::EdgeWalk;
+use crate::walk::{EdgeWalk, first_column};
 use grid::Point;
 
 /// The first of 64 rows that is not above the height `y`, or 64. The first row lies at the height `start`.
@@ -70,6 +70,38 @@ fn plot_sample(
     }
 }
 
+/// Marks where the edge is crossed by samples of index `s`, in one row that it runs through.
+fn plot_row(
+    flags: &mut [Flags],
+    counters: &mut [Counters],
+    rule: Rule,
+    edge: &Edge,
+    forward: bool,
+    s: usize,
+    start: Point,
+    row: usize,
+)
+    requires row { row < 64 }
+    requires in_band { IsInBand (start.y +ℤ pos (256 * row)) }
+    requires through { HasHeight edge.now (down start row).y }
+    requires sample { s < 4 }
+    requires counters { HasCounters rule flags.old counters.old }
+    ensures flags { length flags.new ≡ length flags.old }
+    ensures counters { length counters.new ≡ length counters.old }
+    ensures here { (k : ℕ) → k < 8 * length flags.old →
+        IsAlike (modulus rule) (running_sum rule flags.new counters.new s row k)
+        (running_sum rule flags.old counters.old s row k +ℤ signed forward
+        (direction edge.now (along (down start row) (pos k)))) }
+    ensures others { (r j k : ℕ) → r < 4 → j < 64 → (r ≡ s → j ≡ row → ⊥) →
+        running_sum rule flags.new counters.new r j k ≡ running_sum rule flags.old counters.old r j k }
+    ensures marked { AreMarked rule flags.old counters.old → AreMarked rule flags.new counters.new }
+    ensures kept { rule ≡ EvenOdd → counters.new ≡ counters.old }
+{
+    let place = point_at(start.x(), start.y() + 256 * row as i32);
+    let column = first_column(edge, place);
+    cross(flags, counters, rule, s, row, column, forward);
+}
+
 /// Marks where the edge is crossed by samples of index `s`, in the rows `first` to before `end`: those that it runs through.
 fn plot_rows(
     flags: &mut [Flags],
@@ -99,6 +131,10 @@ fn plot_rows(
     ensures marked { AreMarked rule flags.old counters.old → AreMarked rule flags.new counters.new }
     ensures kept { rule ≡ EvenOdd → counters.new ≡ counters.old }
 {
+    if first + 1 == end {
+        plot_row(flags, counters, rule, edge, forward, s, start, first);
+        return;
+    }
     let mut walk = EdgeWalk::new(*edge, point_at(start.x(), start.y() + 256 * first as i32));
     for row in first..end {
         cross(flags, counters, rule, s, row, walk.column(), forward);

@@ -1,10 +1,37 @@
 //! The first crossed sample of an edge in each row that it runs through.
-ghost use Rattle.std.specs.Prelude.{◌≡◌, pos, ◌+ℤ◌, ◌<ℤ◌};
+ghost use Rattle.std.specs.Prelude.{◌≡◌, ◌^◌, pos, ◌+ℤ◌, ◌<ℤ◌};
+ghost use Rattle.grid.specs.Bounds.{IsWithin};
+ghost use Rattle.grid.specs.Position.{IsInBand};
+ghost use Rattle.polygons.specs.Columns.{HasHeight, IsFirstColumn};
 
-use crate::divide::divide;
+use crate::divide::{divide, divide_near};
 use crate::edge::Edge;
 use grid::{Point, side};
 use std::marker::Model;
+
+/// The first column whose sample is at `x` or right of it. The sample of column 0 is at `start`.
+#[inline(always)]
+fn column_at(x: i32, start: i32) -> i64
+    requires x { IsInBand x }
+    requires start { IsInBand start }
+    ensures { IsWithin (2 ^ 25) result }
+{
+    let (column, _) = divide(i64::from(x - start) + 255, 256);
+    column
+}
+
+/// The first column whose sample is crossed in the row of `start`, which lies in column 0. The edge runs downwards
+/// through this row. A short edge is crossed from the column of its left end on, or from the next one, which is tried
+/// first.
+pub(crate) fn first_column(edge: &Edge, start: Point) -> i64
+    requires { HasHeight edge.now start.y }
+    ensures { IsFirstColumn edge.now start result }
+{
+    let height = i64::from(edge.b.y() - edge.a.y());
+    let near = column_at(edge.a.x().min(edge.b.x()), start.x());
+    let (left, _) = divide_near(-side(edge.a, edge.b, start), 256 * height, -near);
+    -left
+}
 
 /// An edge that runs downwards, at one row of samples. It goes from row to row by a quotient and a remainder, with no
 /// division.
@@ -31,7 +58,7 @@ impl Model for EdgeWalk {
 }
 
 impl EdgeWalk {
-    ghost use Rattle.polygons.specs.Columns.{HasHeight, IsFirstColumn, below};
+    ghost use Rattle.polygons.specs.Columns.{below};
 
     /// The edge at the row of `start`, which lies in column 0. The edge runs downwards through this row.
     pub(crate) fn new(edge: Edge, start: Point) -> EdgeWalk

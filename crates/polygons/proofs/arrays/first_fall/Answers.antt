@@ -1,4 +1,4 @@
-use Rattle.std.proofs.Common.{◌≡◌, ◌∙◌, sym, arith, ◌+◌, ◌≤◌, slice_index}
+use Rattle.std.proofs.Common.{sym, arith, ◌≤◌, slice_index}
 use Rattle.polygons.specs.Arrays.{begin_of}
 use Rattle.polygons.proofs.ArrayParts.{next_begin, ends_more}
 use Rattle.polygons.proofs.arrays.first_fall.Goals as goal

@@ -1,4 +1,4 @@
-use Rattle.std.proofs.Common.{arith, rules, pos, take, length}
+use Rattle.std.proofs.Common.{arith, rules, pos}
 use Rattle.std.proofs.lemmas.List.{take_all}
 use Rattle.std.proofs.lemmas.List.Elements.{All-more}
 use Rattle.grid.specs.Position.{IsInGuardBand}

@@ -1,7 +1,7 @@
 use Rattle.std.proofs.Common.{◌≡◌, refl, sym, ap, ◌∙◌, arith, ℕ, ◌+◌, ◌*◌, ◌/◌, ◌%◌, ◌<◌, ◌≤◌, slice_index}
 use Rattle.std.proofs.lemmas.Nat.Bits.{bit_at-zero}
 use Rattle.std.specs.Int.{bit_at}
-use Rattle.polygons.specs.Summing.{run, nonzero_bit}
+use Rattle.polygons.specs.Summing.{nonzero_bit}
 use Rattle.polygons.proofs.RunningSums.{run-none}
 use Rattle.polygons.proofs.sum.sum_or_level.Goals as goal
 

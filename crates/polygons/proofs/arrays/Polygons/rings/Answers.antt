@@ -1,5 +1,4 @@
 use Rattle.std.proofs.Common.{ℕ, ◌≤◌, length, slice_index}
-use Rattle.polygons.specs.Arrays.{begin_of}
 use Rattle.polygons.proofs.ArrayParts.{part_of_ends}
 use Rattle.polygons.proofs.arrays.Polygons.rings.Goals as goal
 
