@@ -220,6 +220,11 @@ def kill_workers(child: subprocess.Popen[bytes], seconds: float, most: int = 1 <
     return killed
 
 
+def must_be_quiet(status: int, errors: bytes) -> None:
+    """A run passed, and wrote nothing but the line that each run ends with."""
+    must(status == 0 and errors.count(b"\n") == 1 and errors.endswith(b" pixels\n"), f"status {status}: {errors[-500:]!r}")
+
+
 def check_killed_as_they_start(runs: Runs) -> str:
     """All workers are killed as they start, and those that are started in their place: the same bytes."""
     dask()
@@ -230,7 +235,7 @@ def check_killed_as_they_start(runs: Runs) -> str:
     with subprocess.Popen([*command, out, "--scheduler", "local"], stdout=subprocess.DEVNULL, stderr=subprocess.PIPE) as child:
         killed = kill_workers(child, SECONDS, KILLED)
         _, errors = child.communicate(timeout=SECONDS)
-    must(child.returncode == 0 and errors == b"", f"status {child.returncode}: {errors[-500:]!r}")
+    must_be_quiet(child.returncode, errors)
     must(killed >= KILLED, f"the run ended, and {killed} were killed")
     must(content(out) == content(wanted), "other bytes")
     return f"{killed} killed, {time.monotonic() - begun:.0f} s"
@@ -245,8 +250,7 @@ def check_left_behind(runs: Runs) -> None:
                "left_behind.set_exception(TimeoutError('Timeout'))\n"
                f"sys.exit(command.main([{runs.small_scene!r}, '-o', {out!r}, '--scheduler', 'local', '--workers', '1']))")
     done = subprocess.run([sys.executable, "-c", program], capture_output=True, timeout=SECONDS)
-    # The line that each run ends with.
-    must(done.returncode == 0 and done.stderr.count(b"\n") == 1 and b" pixels" in done.stderr, f"status {done.returncode}: {done.stderr[-500:]!r}")
+    must_be_quiet(done.returncode, done.stderr)
     must(os.path.exists(out), "no file")
 
 
