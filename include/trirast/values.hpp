@@ -59,7 +59,7 @@ struct ImageValues {
     }
 };
 
-/* Those of a call that writes entries, of so many bytes each. */
+/* Those of a call that writes entries, each of this size in bytes. */
 struct EntryValues {
     const trirast_canvas &rows;
     std::uint32_t height, sample;

@@ -477,29 +477,29 @@ fn says_what_was_passed_and_what_may_be() {
         format!("vertex 2 is out of range: x 8388608 and y {y} in 1/256 pixel (32768 and {} pixels)", f64::from(y) / 256.0);
     let draws = [Draw::new(&good, Indices::InOrder), Draw::new(&far, &[2u32, 2, 2])];
     let mut window = Canvas::builder(1, 1).origin(-5, 0).build().unwrap();
-    let told = |result: Result<(), Error>| result.unwrap_err().to_string();
+    let message = |result: Result<(), Error>| result.unwrap_err().to_string();
     let cases = [
         (
-            told(canvas.resolve(Format::Rgb8, &mut bytes, 0)),
+            message(canvas.resolve(Format::Rgb8, &mut bytes, 0)),
             "buffer too small: 6000 bytes for 200 rows at a stride of 30, and not 5999".into(),
         ),
         (
-            told(canvas.load(Format::Rgb8, &bytes, 29)),
+            message(canvas.load(Format::Rgb8, &bytes, 29)),
             "buffer too small: a stride of at least 30 bytes, or 0, and not 29".into(),
         ),
-        (told(canvas.depths_into(0, &mut depths, 21)), "wrong stride: a multiple of 2 bytes, and not 21".into()),
-        (told(canvas.store(9, Format::Rgb8, &bytes, 0)), "no such sample: 0 to 3, and not 9".into()),
-        (told(canvas.rows(2, 5).map(drop)), "no such tile rows: 0 to 4, and not 2 to 5".into()),
+        (message(canvas.depths_into(0, &mut depths, 21)), "wrong stride: a multiple of 2 bytes, and not 21".into()),
+        (message(canvas.store(9, Format::Rgb8, &bytes, 0)), "no such sample: 0 to 3, and not 9".into()),
+        (message(canvas.rows(2, 5).map(drop)), "no such tile rows: 0 to 4, and not 2 to 5".into()),
         (
-            told(canvas.draw(&good, &[0u16, 1, 3], State::new())),
+            message(canvas.draw(&good, &[0u16, 1, 3], State::new())),
             "draw 0: index 2 is 3, which is not less than the number of vertices: 3".into(),
         ),
         (
-            told(canvas.draw_batch(&draws)),
+            message(canvas.draw_batch(&draws)),
             format!("draw 1: {beyond}; x: -8388608 to 8388607 (-32768 to 32767.99609375 pixels)"),
         ),
         (
-            told(window.draw_ids(&draws[1..], 0)),
+            message(window.draw_ids(&draws[1..], 0)),
             format!("draw 0: {beyond}; x with the origin -5: -8388608 to 8387327 (-32768 to 32762.99609375 pixels)"),
         ),
     ];
