@@ -1,13 +1,14 @@
 """Times the program and llvmpipe, Mesa's software driver: single frames, and whole processes.
 
-    python3 -m bench.llvmpipe [--runs 5] [--workers 1 4] [--scenes smooth mesh ..] [--lists some.json ..] [--model PROGRAM]
+    python3 -m bench.llvmpipe [--runs 5] [--workers 1 4] [--scenes smooth mesh ..] [--lists some.json ..] [--model PROGRAM] [--before PROGRAM]
 
 A frame of llvmpipe goes from its clear to the pixels read back, warm, with values at each sample as by the program; a
 frame of the program goes from a list that was read to its picture's last byte, thrown away (`crates/frames`). The two
 take turns, and the median of each one's turns counts, with the processor time of the whole process in brackets; the spread is from the
 fastest turn of ours to its slowest one, by the median. `--model` names a third program that takes `--frames N --workers N`, reads a list and prints `least_ms N` on standard error. A whole process
 of ours starts, reads the list, draws it once and ends; llvmpipe has no such number, since it reads no list. If there is a
-build of crates/frames for x86-64-v3 (`make frames CPU=x86-64-v3`) and the processor runs it, it takes turns with them.
+build of crates/frames for x86-64-v3 (`make frames CPU=x86-64-v3`) and the processor runs it, it takes turns with them, and
+so does crates/frames of another build with --before.
 
 llvmpipe's numbers are floating point, so its pictures are near the program's and not equal: the last column is the share
 of pixels of which a channel is more than 4 away. Mesa's EGL and OpenGL are called by ctypes, so nothing is compiled.
@@ -26,7 +27,7 @@ import sys
 from statistics import median
 
 from bench import report, scenes
-from bench.options import add_frames_program, add_runs, add_scenes
+from bench.options import add_before, add_frames_program, add_runs, add_scenes
 from bench.run import Run
 from tools import picture_file
 from tools.answers import drawn
@@ -40,6 +41,7 @@ WORKERS = (1, 4)
 FRAMES_A_TURN = 3
 NEAR = 4
 COLUMNS = ("list", "workers", "llvmpipe frame (processor), ms", "frame, ms", "spread", "frame / llvmpipe")
+BEFORE_COLUMNS = ("frame before, ms", "frame / before")
 LEVEL_COLUMNS = (f"frame of {LEVEL}, ms", f"{LEVEL} / frame")
 MODEL_COLUMNS = ("model's frame, ms", "frame / model")
 LAST_COLUMNS = ("whole process (processor), ms", f"pixels differing by more than {NEAR}")
@@ -152,7 +154,7 @@ class Table:
 
     def __init__(self, options: argparse.Namespace, model: str | None, of_level: str | None) -> None:
         self.program, self.frames, self.model, self.of_level = options.program, options.frames, model, of_level
-        self.runs, self.workers = options.runs, options.workers
+        self.before, self.runs, self.workers = options.before, options.runs, options.workers
         self.renderer = ""
 
     def cells(self, source: str, workers: int) -> list[str]:
@@ -161,10 +163,11 @@ class Table:
         self.renderer = driver.name
         theirs: list[tuple[float, float]] = []
         whole: list[tuple[float, float]] = []
-        frames, levels, models = list[float](), list[float](), list[float]()
+        frames, earlier, levels, models = list[float](), list[float](), list[float](), list[float]()
         for _ in range(self.runs):
             theirs.append(driver.turn())
             frames.append(frame_seconds(self.frames, source, workers))
+            earlier += [frame_seconds(self.before, source, workers)] if self.before else []
             levels += [frame_seconds(self.of_level, source, workers)] if self.of_level else []
             models += [model_seconds(self.model, source, workers)] if self.model else []
             whole.append(whole_process(self.program, source, workers))
@@ -172,7 +175,7 @@ class Table:
         (wall, processor), (process, spent) = medians(theirs), medians(whole)
         frame, spread = median(frames), (max(frames) - min(frames)) / median(frames)
         cells = [f"{1000 * wall:.2f} ({1000 * processor:.1f})", f"{1000 * frame:.2f}", f"{100 * spread:.0f} %", f"{frame / wall:.2f}"]
-        for others, by_frame in ((levels, True), (models, False)):
+        for others, by_frame in ((earlier, False), (levels, True), (models, False)):
             if others:
                 ratio = median(others) / frame if by_frame else frame / median(others)
                 cells += [f"{1000 * median(others):.2f}", f"{ratio:.2f}"]
@@ -186,8 +189,8 @@ class Table:
         print(report.row([label, str(workers), *cells, far]), flush=True)
 
     def print(self, lists: list[str]) -> None:
-        columns = (*COLUMNS, *(LEVEL_COLUMNS if self.of_level else ()), *(MODEL_COLUMNS if self.model else ()), *LAST_COLUMNS)
-        report.print_head(columns)
+        others = ((BEFORE_COLUMNS, self.before), (LEVEL_COLUMNS, self.of_level), (MODEL_COLUMNS, self.model))
+        report.print_head([*COLUMNS, *(column for columns, program in others if program for column in columns), *LAST_COLUMNS])
         for source in lists:
             if self.model:
                 check_model(self.model, self.program, source)
@@ -202,6 +205,7 @@ def parsed() -> argparse.Namespace:
     add_frames_program(parser, "--frames")
     parser.add_argument("--of-level", help=f"the same for {LEVEL} (default: where make frames CPU={LEVEL} leaves it, if it is there)")
     parser.add_argument("--model", help="the program of bench/model (default: where make model builds it, if it is there)")
+    add_before(parser, "crates/frames")
     add_runs(parser, 5, "turns of each program, of which the median counts")
     parser.add_argument("--workers", type=int, nargs="+", default=WORKERS, help="default 1 4")
     add_scenes(parser, SCENES)

@@ -22,6 +22,16 @@ def add_frames_program(parser: ArgumentParser, flag: str) -> None:
     parser.add_argument(flag, type=frames_program, default=FRAMES_PROGRAM, metavar="PROGRAM", help=where)
 
 
+def add_before(parser: ArgumentParser, what: str) -> None:
+    """A program of another build, which takes turns with today's."""
+    parser.add_argument("--before", default="", metavar="PROGRAM", help=f"{what} of another build, in turn")
+
+
+def builds(program: str, before: str) -> dict[str, str]:
+    """The programs that take turns, by what the names of their rows end in."""
+    return {"": program, **({", before": before} if before else {})}
+
+
 def add_runs(parser: ArgumentParser, default: int, meaning: str) -> None:
     parser.add_argument("--runs", type=int, default=default, help=f"{meaning} (default {default})")
 

@@ -20,7 +20,7 @@ import subprocess
 import sys
 
 from bench import report, scenes
-from bench.options import add_any_scenes, add_runs
+from bench.options import add_any_scenes, add_before, add_runs
 from tools.places import BENCH_OUT, READER_PROGRAM, TOP, is_built
 
 SCENES = ("long_list", "mesh", "small")
@@ -113,7 +113,7 @@ def main() -> int:
     add_runs(parser, 5, "turns of seven rounds, of which the least counts")
     add_any_scenes(parser, SCENES)
     parser.add_argument("--layouts", nargs="+", choices=LAYOUTS, default=LAYOUTS[:1], metavar="NAME", help="of " + ", ".join(LAYOUTS))
-    parser.add_argument("--before", default="", metavar="PROGRAM", help="crates/list_bench of another build")
+    add_before(parser, "crates/list_bench")
     options = parser.parse_args()
     if not is_built(READER_PROGRAM, made_by="make bin/list_bench"):
         return 2

@@ -1,11 +1,12 @@
 """Times the program on the scenes of bench/scenes.py and prints one table.
 
-    python3 -m bench.run [--program bin/trirast] [--runs 3] [--scenes tiny mesh ..] [--tiles 32 ..]
+    python3 -m bench.run [--program bin/trirast] [--runs 3] [--scenes tiny mesh ..] [--tiles 32 ..] [--before PROGRAM]
 
 For each scene and tile side it gives the wall time with 1, 2 and 4 workers, the ratio to the time with one worker, the
 processor time, and the peak memory, all from this one call; times are the best of a few runs with the output thrown
 away. If g++ is there, bench/plain.cpp is built and its time stands next to it, and each picture of the program is
-compared with its picture, byte for byte. Exit status 1 if a run fails or a picture differs.
+compared with its picture, byte for byte. With --before each row is followed by that of another build's program. Exit status 1 if a
+run fails or a picture differs.
 
 Linux alone.
 """
@@ -22,7 +23,7 @@ import time
 from typing import Sequence
 
 from bench import report, scenes
-from bench.options import add_runs, add_scenes
+from bench.options import add_before, add_runs, add_scenes, builds
 from tools.places import BENCH_OUT, PROGRAM, TOP, is_built
 
 SCENES = (
@@ -102,8 +103,10 @@ def megabytes(number: int) -> str:
 class Table:
     """The rows of one scene, and what went wrong in any."""
 
-    def __init__(self, program: str, plain: str | None, runs: int, tiles: Sequence[int]) -> None:
-        self.program, self.plain, self.runs, self.tiles = program, plain, runs, tiles
+    def __init__(self, programs: dict[str, str], plain: str | None, runs: int, tiles: Sequence[int]) -> None:
+        # By what a row's label has behind the scene's name.
+        self.programs = {label: os.path.abspath(program) for label, program in programs.items()}
+        self.plain, self.runs, self.tiles = plain, runs, tiles
         self.wrong: list[str] = []
 
     def head(self) -> None:
@@ -120,17 +123,18 @@ class Table:
             found = best([self.plain], source, self.runs)
             plain_time = milliseconds(found.wall)
         for tile in self.tiles:
-            self.row(name, tile, source, wanted, plain_time)
+            for label, program in self.programs.items():
+                self.row(program, name + label, tile, source, wanted, plain_time)
         for path in (wanted, os.path.join(BENCH_OUT, "picture.ppm")):
             if path and os.path.exists(path):
                 os.remove(path)
 
-    def row(self, name: str, tile: int, source: str, wanted: str | None, plain_time: str) -> None:
+    def row(self, program: str, name: str, tile: int, source: str, wanted: str | None, plain_time: str) -> None:
         picture = os.path.join(BENCH_OUT, "picture.ppm")
         found: list[Run] = []
         peaks = []
         for workers in WORKERS:
-            command = [self.program, "--tile", str(tile), "--workers", str(workers)]
+            command = [program, "--tile", str(tile), "--workers", str(workers)]
             title = f"{name}, tile {tile}, {workers} workers"
             first = peak_memory(command, source, picture)
             self.must_end(first, title)
@@ -171,6 +175,7 @@ def print_beginning(runs: int, plain: str | None) -> None:
 def main() -> int:
     parser = argparse.ArgumentParser(description="Times the program on generated scenes.")
     parser.add_argument("--program", default=PROGRAM, help="default bin/trirast")
+    add_before(parser, "the program")
     add_runs(parser, 3, "runs of which the best counts")
     add_scenes(parser, SCENES)
     parser.add_argument("--tiles", nargs="+", type=int, choices=TILES, default=TILES, help="tile sizes (default all)")
@@ -180,7 +185,8 @@ def main() -> int:
     scenes.write_all(options.scenes)
     plain = build_plain()
     print_beginning(options.runs, plain)
-    table = Table(os.path.abspath(options.program), plain, options.runs, options.tiles)
+    programs = builds(options.program, options.before)
+    table = Table(programs, plain, options.runs, options.tiles)
     table.head()
     for name in options.scenes:
         table.scene(name)

@@ -1,6 +1,6 @@
 """Measures what keeps several workers from being as many times as fast, and prints one table.
 
-    python3 -m bench.threads [--runs 3] [--frames 24] [--scenes smooth large_mesh ..]
+    python3 -m bench.threads [--runs 3] [--frames 24] [--scenes smooth large_mesh ..] [--before PROGRAM]
 
 Needs `make frames`. All figures of a row are of the same call, in turns: frames with 1, 2 and 4 workers, and four programs of one worker
 each side by side, which share nothing. The times are medians of a turn's frames, of which the least turn counts.
@@ -11,6 +11,8 @@ each side by side, which share nothing. The times are medians of a turn's frames
 - four programs: how many times the work of one program alone four do side by side. It is what the machine allows four threads that
   never wait; processors may be threads of one core, and share memory and heat.
 - of it: how many times as fast 4 workers are, by what four programs do.
+
+With --before each scene has a second row, of another build's program, whose turns are between those of the first.
 
 Linux alone.
 """
@@ -26,7 +28,7 @@ import sys
 from typing import NamedTuple
 
 from bench import report, scenes
-from bench.options import add_any_scenes, add_frames_program, add_runs
+from bench.options import add_any_scenes, add_before, add_frames_program, add_runs, builds
 
 SCENES = ("smooth", "mesh", "large_mesh", "flat", "blended", "small")
 WORKERS = (1, 2, 4)
@@ -103,17 +105,21 @@ class Scene:
 def main() -> int:
     parser = argparse.ArgumentParser(description="Measures what keeps several workers from being as many times as fast.")
     add_frames_program(parser, "--program")
+    add_before(parser, "the program")
     add_runs(parser, 3, "turns of each")
     parser.add_argument("--frames", type=int, default=24, help="frames of a turn (default 24)")
     add_any_scenes(parser, SCENES)
     options = parser.parse_args()
     print(f"{report.machine()}\n")
     report.print_head(COLUMNS)
+    programs = builds(options.program, options.before)
     for name, source in zip(options.scenes, scenes.write_all(options.scenes)):
-        scene = Scene(os.path.abspath(options.program), source, options.frames)
+        of_each = {label: Scene(os.path.abspath(program), source, options.frames) for label, program in programs.items()}
         for _ in range(options.runs):
-            scene.turn()
-        print(scene.row(name), flush=True)
+            for scene in of_each.values():
+                scene.turn()
+        for label, scene in of_each.items():
+            print(scene.row(name + label), flush=True)
     report.print_end()
     return 0
 
