@@ -19,7 +19,7 @@ from tools.ci.edit import applied, pairs_in
 from tools.ci.edit_trial import SECONDS, is_judged, try_edit
 from tools.ci.rooms import KEPT, Rooms
 from tools.ci.schedule import Outcome
-from tools.ci.sources import changed_bodies
+from tools.ci.sources import changed_bodies, owner_of
 from tools.ci.toolchain import Ran, Toolchain
 from tools.places import text_of
 
@@ -37,13 +37,16 @@ class Edit:
     text: str
     path: str
     function: str
+    # The type whose method it is, or nothing.
+    owner: str
 
     def verdict(self, crate: str, said: str) -> str:
-        """What a check said of the function; nothing if it did not name it, or several of that name."""
+        """What a check said of the function; nothing if it did not name it, or several of that name. A method has the name of its
+        type, which may stand in another module."""
         modules = self.path[len("src/") : -len(".rt")].split("/")
         inside = [] if modules in (["lib"], ["main"]) else modules
-        place = "::".join([crate, *inside])
-        found: list[str] = re.findall(rf"^fn {place}(?:::\w+)?::{self.function}: (.*)", said, re.MULTILINE)
+        place = rf"{crate}(?:::\w+)*::{self.owner}" if self.owner else "::".join([crate, *inside])
+        found: list[str] = re.findall(rf"^fn {place}::{self.function}: (.*)", said, re.MULTILINE)
         return found[0] if len(found) == 1 else ""
 
 
@@ -53,8 +56,9 @@ def edit_of(folder: str, name: str, text: str) -> Edit | None:
     if fault or len(texts) != 1:
         return None
     [(path, new)] = texts.items()
-    changed = changed_bodies(text_of(os.path.join(folder, path)), new)
-    return Edit(name, text, path, changed[0]) if changed is not None and len(changed) == 1 else None
+    old = text_of(os.path.join(folder, path))
+    changed = changed_bodies(old, new)
+    return Edit(name, text, path, changed[0], owner_of(old, changed[0])) if changed is not None and len(changed) == 1 else None
 
 
 def first_of_each(edits: Iterable[Edit]) -> list[Edit]:

@@ -18,6 +18,9 @@ TEST_MODULE = re.compile(r"#\[cfg\(test\)\]\s*mod (\w+);")
 SPEC_COMMENT = re.compile(r"(^|(?<=\s))--(?=\s|$).*$", re.MULTILINE)
 CLAUSES = ("requires", "ensures", "requires*", "ensures*")
 NAME = re.compile(r"[A-Za-z_]\w*")
+# A block of a type's methods, with its head, and the name at the end of a part of the head.
+IMPL = re.compile(r"^impl\b([^{]*)\{(.*?)^\}", re.DOTALL | re.MULTILINE)
+LAST_NAME = re.compile(r"(\w+)\s*(?:<.*>)?\s*$", re.DOTALL)
 
 
 def words_of(text: str) -> list[str]:
@@ -97,6 +100,21 @@ def changed_bodies(old: str, new: str) -> list[str] | None:
     names = [name for name, _body in bodies(before)]
     changed = [name for (name, body), (_name, other) in zip(bodies(before), bodies(after)) if body != other]
     return changed if all(names.count(name) == 1 for name in changed) else None
+
+
+def last_name(words: str) -> str:
+    """The last name of a part of a head, without its parameters."""
+    found = LAST_NAME.search(words)
+    return found[1] if found else ""
+
+
+def owner_of(text: str, function: str) -> str:
+    """What a check names in front of the function if it is a method, in a source that is laid out: its type, and behind that its trait."""
+    for head, body in IMPL.findall(text):
+        if re.search(rf"\bfn {function}\b", body):
+            of_trait, _for, of_type = re.split(r"\swhere\b", head)[0].rpartition(" for ")
+            return last_name(of_type) + last_name(of_trait)
+    return ""
 
 
 def normal(path: str, is_below: bool) -> str:

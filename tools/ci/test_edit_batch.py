@@ -6,10 +6,10 @@ from typing import IO
 
 import pytest
 
-from tools.ci.edit_batch import Batch, batches, edit_of
+from tools.ci.edit_batch import Batch, Edit, batches, edit_of
 from tools.ci.rooms import Rooms
 from tools.ci.small_tree import EDIT, FUNCTIONS, SmallTree
-from tools.ci.sources import changed_bodies
+from tools.ci.sources import changed_bodies, owner_of
 from tools.ci.toolchain import Ran, Toolchain
 from tools.sources.crates import Tree
 
@@ -49,6 +49,38 @@ impl There {
 def test_which_bodies_change(old: str, new: str, changed: list[str] | None) -> None:
     assert SOURCE.count(old) == 1
     assert changed_bodies(SOURCE, SOURCE.replace(old, new)) == changed
+
+
+METHODS = """\
+impl<'a, const N: usize> Bounds<N> {
+    fn set(&mut self) {}
+}
+
+impl<T: Row> Triangles for Ids<'_, T>
+where
+    T: Copy,
+{
+    fn triangle(&self) {}
+}
+
+fn free() {}
+"""
+
+
+@pytest.mark.parametrize(("function", "owner"), [("set", "Bounds"), ("triangle", "IdsTriangles"), ("free", ""), ("none", "")])
+def test_what_a_check_names_in_front_of_a_method(function: str, owner: str) -> None:
+    assert owner_of(METHODS, function) == owner
+
+
+@pytest.mark.parametrize(("said", "verdict"), [
+    ("fn canvas::canvas::Canvas::resolve: not proved\n", "not proved"),
+    ("fn canvas::colours::Canvas::resolve: proved\n", "proved"),
+    ("fn canvas::canvas::View::resolve: not proved\n", ""),
+    ("fn canvas::colours::resolve: not proved\n", ""),
+    ("fn canvas::canvas::Canvas::resolve: not proved\nfn canvas::view::Canvas::resolve: proved\n", ""),
+])
+def test_what_a_check_says_of_a_method_whose_type_is_elsewhere(said: str, verdict: str) -> None:
+    assert Edit("colours.resolve.is_wrong.edit", "", "src/colours.rt", "resolve", "Canvas").verdict("canvas", said) == verdict
 
 
 class Counting(Toolchain):
