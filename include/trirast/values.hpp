@@ -19,7 +19,7 @@ inline std::string refused(const std::string &wanted, const std::string &given) 
 inline std::string refused(const std::string &wanted, std::size_t given) { return refused(wanted, std::to_string(given)); }
 
 inline std::string canvas_values(const trirast_canvas &canvas) {
-    return refused("1 to 4096 pixels a side and 1, 2, 4, 8 or 16 samples a pixel",
+    return refused("1 to 4096 pixels a side and " TRIRAST_SAMPLE_COUNTS " samples a pixel",
                    std::to_string(canvas.width) + " by " + std::to_string(canvas.height) + " and " + std::to_string(canvas.samples));
 }
 
