@@ -52,7 +52,7 @@ struct ImageValues {
 
     std::string operator()(trirast_status status) const {
         if (status == TRIRAST_STATUS_BAD_FORMAT)
-            return refused("0 to " + std::to_string(TRIRAST_FORMAT_BGRA8_STRAIGHT), std::to_string(format));
+            return refused("0 to " + std::to_string(TRIRAST_MAX_FORMAT), std::to_string(format));
         if (status == TRIRAST_STATUS_BAD_SAMPLE) return sample_values(rows, sample);
         if (status != TRIRAST_STATUS_BUFFER_TOO_SMALL) return {};
         return buffer_values(rows.width * pixel_bytes(format), height, size, stride);
