@@ -1,7 +1,8 @@
 """Blend equations, by the words of the rule: integers of 0 to 255, each equation rounded once, to the nearest.
 
-A factor is a numerator over 255. The numbers of factors and operations are Direct3D 11's. Whatever an equation reads of a stored pixel
-is what was stored before the draw. Rounding is a choice of this rule: Direct3D and Vulkan leave it open.
+A factor is a numerator over 255, and the second renderer says which. The numbers of factors and operations are Direct3D 11's. Whatever
+an equation reads of a stored pixel is what was stored before the draw. Rounding is a choice of this rule: Direct3D and Vulkan leave it
+open.
 """
 
 from __future__ import annotations
@@ -10,6 +11,7 @@ from functools import lru_cache
 from typing import NamedTuple, Sequence
 
 from tools.draw_list import Draw, DrawList, Vertex, triangles_of
+from tools.reference import blending
 
 PIXEL = 256
 # Red, green, blue and alpha.
@@ -31,11 +33,10 @@ class Equation(NamedTuple):
     alpha: int = 0
 
 
-FACTORS = {
-    "zero": 1, "one": 2, "source_color": 3, "inverse_source_color": 4, "source_alpha": 5, "inverse_source_alpha": 6, "stored_alpha": 7,
-    "inverse_stored_alpha": 8, "stored_color": 9, "inverse_stored_color": 10, "source_alpha_saturated": 11, "constant": 14,
-    "inverse_constant": 15,
-}
+FACTORS = blending.FACTOR_NUMBERS
+# What each factor is of colours, and of alpha.
+OF_COLORS = {FACTORS[name]: rule for name, rule in blending.FACTORS.items()}
+OF_ALPHA = {**OF_COLORS, **{FACTORS[name]: rule for name, rule in blending.ALPHA_FACTORS.items()}}
 OPERATIONS = {"add": 1, "subtract": 2, "reverse_subtract": 3, "min": 4, "max": 5}
 ADD, SUBTRACT, REVERSE_SUBTRACT, MIN, MAX = OPERATIONS.values()
 NONE = Equation(2, 1, ADD, 2, 1, ADD)
@@ -54,11 +55,8 @@ def equation_of(draw: Draw) -> Equation:
 
 def factor(number: int, channel: int, source: Pixel, stored: Pixel, constant: Sequence[int]) -> int:
     """A factor of this channel, 3 for alpha, as a numerator over 255."""
-    alpha, old = source[3], stored[3]
-    plain = {1: 0, 2: 255, 3: source[channel], 5: alpha, 7: old, 9: stored[channel], 14: constant[channel]}
-    if number == 11:
-        return 255 if channel == 3 else min(alpha, 255 - old)
-    return plain[number] if number in plain else 255 - plain[number - 1]
+    rules = OF_ALPHA if channel == blending.ALPHA else OF_COLORS
+    return rules[number](source[channel], source[blending.ALPHA], stored[channel], stored[blending.ALPHA], constant[channel])
 
 
 def channel_of(new: int, old: int, by: int, other: int, operation: int) -> int:

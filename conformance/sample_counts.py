@@ -1,4 +1,4 @@
-"""Lists with 2, 8 or 16 samples by lists with one: what draw lists themselves have is 1 and 4."""
+"""Lists with any number of samples by lists with one: what draw lists themselves have is 1 and 4."""
 
 from __future__ import annotations
 

@@ -88,10 +88,9 @@ typedef enum trirast_status {
     TRIRAST_STATUS_BAD_TILE_SIZE = 5,    /* the tile size is none of 8, 16, 32 and 64 */
     TRIRAST_STATUS_BAD_TILE_ROWS = 6,    /* the picture or the canvas has no such tile rows: the call says which it takes */
     TRIRAST_STATUS_BAD_STRUCT_SIZE = 7,  /* a size member is neither 0 nor the library's own */
-    TRIRAST_STATUS_BAD_CANVAS = 8,       /* no such canvas: it has 1 to 4096 pixels a side, 1, 2, 4, 8 or 16 samples a pixel, and 3 or
-                                          * 4 channels */
+    TRIRAST_STATUS_BAD_CANVAS = 8,       /* no such canvas: the members of trirast_canvas say which sides, samples and channels it has */
     TRIRAST_STATUS_BAD_MEMORY = 9,       /* the memory of the samples is not of the size that the tile rows need, NULL or misaligned */
-    TRIRAST_STATUS_BAD_FORMAT = 10,      /* the number is none of trirast_format: 0 to 4 */
+    TRIRAST_STATUS_BAD_FORMAT = 10,      /* the number is no trirast_format */
     TRIRAST_STATUS_BAD_SAMPLE = 11,      /* a pixel has no sample of this index: 0 to its samples less 1 */
     TRIRAST_STATUS_BAD_POSITION = 12,    /* a position is outside of -8388608 to 8388607 in 1/256 pixel, which is -32768 to before 32768
                                           * pixels, or an origin outside of -32768 to 28672 pixels */
@@ -422,6 +421,9 @@ typedef struct trirast_canvas {
     size_t plane_count;   /* the size of the memory in units of TRIRAST_PLANE_BYTES */
 } trirast_canvas;
 
+/* The numbers of samples that a pixel of a canvas may have, for messages. */
+#define TRIRAST_SAMPLE_COUNTS "1, 2, 4, 8 or 16"
+
 /* The width and height of a tile of a canvas, in pixels. */
 #define TRIRAST_TILE_SIZE 64
 
@@ -531,6 +533,9 @@ typedef enum trirast_format {
     TRIRAST_FORMAT_RGBA8_STRAIGHT = 3,
     TRIRAST_FORMAT_BGRA8_STRAIGHT = 4
 } trirast_format;
+
+/* The greatest trirast_format. */
+#define TRIRAST_MAX_FORMAT TRIRAST_FORMAT_BGRA8_STRAIGHT
 
 /* Makes a picture the colour of all samples of its pixels, whose alpha is 255 on a canvas without alpha. Depths are
  * unchanged.

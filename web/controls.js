@@ -1,10 +1,10 @@
 // The switches, number fields and buttons of the explorer.
 
 import { find, make } from './elements.js';
-import { COLUMNS, NAMES, ROWS, SHOWN, figureOf, snapped } from './figure.js';
+import { COLUMNS, COUNTS, NAMES, ROWS, SHOWN, figureOf, snapped } from './figure.js';
 
 const SWITCHES = [
-  ['samples', 'Samples', { 1: '1', 2: '2', 4: '4', 8: '8', 16: '16' }],
+  ['samples', 'Samples', Object.fromEntries(COUNTS.map((count) => [count, count]))],
   ['cull', 'Cull', { none: 'none', front: 'front', back: 'back' }],
   ['turned', 'Orientation', { no: 'as it is', yes: 'reversed' }],
   ['diagonal', 'Shared edge', { BC: 'BC', AD: 'AD' }],

@@ -19,9 +19,15 @@ export const PATTERNS = {
   ],
 };
 
+/** The radius of a sample in pixels, by their number. */
+export const RADII = { 1: 0.12, 2: 0.1, 4: 0.09, 8: 0.065, 16: 0.05 };
+
+/** The numbers of samples that a pixel may have, as texts. */
+export const COUNTS = Object.keys(PATTERNS);
+
 /** What each choice may be. The first is what a link leaves out. */
 export const CHOICES = {
-  samples: ['4', '1', '2', '8', '16'],
+  samples: ['4', ...COUNTS.filter((count) => count !== '4')],
   cull: ['none', 'front', 'back'],
   turned: ['no', 'yes'],
   diagonal: ['BC', 'AD'],

@@ -2,13 +2,11 @@
 
 import { draw, update } from './elements.js';
 import { drawEdges, drawShared } from './edges.js';
-import { COLUMNS, NAMES, PATTERNS, ROWS, UNIT, positionName, snapped } from './figure.js';
+import { COLUMNS, NAMES, PATTERNS, RADII, ROWS, UNIT, positionName, snapped } from './figure.js';
 import { Handle, positionIn } from './handle.js';
 import { css } from './tints.js';
 
 const CORNERS = ['upper left', 'lower right'];
-/** The radius of a sample, by their number. */
-const RADII = { 1: 0.12, 2: 0.1, 4: 0.09, 8: 0.065, 16: 0.05 };
 
 /** The index of a sample among all of a picture. */
 function places(samples) {

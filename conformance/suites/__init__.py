@@ -9,6 +9,7 @@ from typing import Callable
 from conformance.suites.setting import PLAIN, Setting
 from conformance.suites import blends, coverage, depth_ends, planes, primitives, states, values
 from conformance.suites.shapes import Lists, coarser, colours_of_steps
+from tools.reference.renderer import CANVAS, LIST
 
 # A viewport that holds every vertex of most lists, so that nothing is clipped.
 WIDE = Setting(viewport=2048)
@@ -52,7 +53,8 @@ class Suite:
         return -(-sum(1 for _ in self.lists(samples)) // 10)
 
 
-PATTERNS = (2, 8, 16)
+# The numbers of samples that a canvas may have, and no draw list.
+PATTERNS = tuple(count for count in CANVAS.counts if count not in LIST.counts)
 
 BASIC = (
     Suite("top-left", "Top-left rule", coverage.top_left),

@@ -19,7 +19,7 @@ inline std::string refused(const std::string &wanted, const std::string &given) 
 inline std::string refused(const std::string &wanted, std::size_t given) { return refused(wanted, std::to_string(given)); }
 
 inline std::string canvas_values(const trirast_canvas &canvas) {
-    return refused("1 to 4096 pixels a side and 1, 2, 4, 8 or 16 samples a pixel",
+    return refused("1 to 4096 pixels a side and " TRIRAST_SAMPLE_COUNTS " samples a pixel",
                    std::to_string(canvas.width) + " by " + std::to_string(canvas.height) + " and " + std::to_string(canvas.samples));
 }
 
@@ -52,7 +52,7 @@ struct ImageValues {
 
     std::string operator()(trirast_status status) const {
         if (status == TRIRAST_STATUS_BAD_FORMAT)
-            return refused("0 to " + std::to_string(TRIRAST_FORMAT_BGRA8_STRAIGHT), std::to_string(format));
+            return refused("0 to " + std::to_string(TRIRAST_MAX_FORMAT), std::to_string(format));
         if (status == TRIRAST_STATUS_BAD_SAMPLE) return sample_values(rows, sample);
         if (status != TRIRAST_STATUS_BUFFER_TOO_SMALL) return {};
         return buffer_values(rows.width * pixel_bytes(format), height, size, stride);

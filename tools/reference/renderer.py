@@ -111,7 +111,7 @@ class Limits:
 
 # Those of a draw list, and those of a canvas, which a list's value describes as well. A canvas may begin left of the screen or above it.
 LIST = Limits((1, 4), 15, (0, 4096), 3, TOP_KEYS, False)
-CANVAS = Limits((1, 2, 4, 8, 16), 65535, (-(2**31), 2**31 - 1), 4, CANVAS_KEYS, True)
+CANVAS = Limits(tuple(PATTERNS), 65535, (-(2**31), 2**31 - 1), 4, CANVAS_KEYS, True)
 
 
 @dataclass(frozen=True)

@@ -30,6 +30,8 @@
 -- Pixels.antt
 --   pixel_bytes: How many bytes a pixel has in a format.
 --   pixel_of: The bytes of a pixel of this red, green, blue and alpha.
+--   colour_in: Red, green and blue of these bytes of a pixel, as they are stored.
+--   alpha_in: Alpha of these bytes.
 --   HasAlpha: A pixel has alpha in the format.
 --   IsAsStored: The channels of a pixel are those that are stored.
 --   shown_rows: How many rows of pixels of the picture stand in the tile rows from `first` to before `end`.
@@ -74,8 +76,6 @@
 --   CanBegin: The tile can begin with triangle k: it hides the colours that are stored there, and those before it no depth and no alpha.
 --
 -- Loaded.antt
---   colour_in: Red, green and blue of these bytes of a pixel, as they are stored.
---   alpha_in: Alpha of these bytes.
 --   coloured: The sample in the colour of these bytes of a pixel, with their alpha if alpha is stored too, and else opaque.
 --   IsIndexIn: The sample index s is one of those from `first` to before `end`.
 --   AreChanged: The samples of some pixels in these tile rows end as `end_of` makes them, and all other samples are unchanged.

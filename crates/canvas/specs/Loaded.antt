@@ -4,26 +4,8 @@ use Rattle.shade.specs.declared.sample.CanvasSample.{CanvasSample}
 use Rattle.lanes.specs.declared.block_samples.BlockSamples.{BlockSamples}
 use Rattle.canvas.specs.declared.canvas.Canvas.{Canvas}
 use Rattle.canvas.specs.declared.format.Format.{Format}
-use Rattle.canvas.specs.declared.format.Format.TheVariants.{Rgb8, Rgba8, Bgra8, Rgba8Straight, Bgra8Straight}
-use Rattle.canvas.specs.Straight.{multiplied_by}
 use Rattle.canvas.specs.Layout.{IsStoredIn, HasPixel, stored}
-use Rattle.canvas.specs.Pixels.{pixel_bytes, entry_of}
-
--- Red, green and blue of these bytes of a pixel, as they are stored.
-abbrev pub colour_in : Format → (ℕ → ℕ) → ℕ × ℕ × ℕ
-colour_in Rgb8 bytes = (bytes 0, bytes 1, bytes 2)
-colour_in Rgba8 bytes = (bytes 0, bytes 1, bytes 2)
-colour_in Bgra8 bytes = (bytes 2, bytes 1, bytes 0)
-colour_in Rgba8Straight bytes = (multiplied_by (bytes 0) (bytes 3), multiplied_by (bytes 1) (bytes 3), multiplied_by (bytes 2) (bytes 3))
-colour_in Bgra8Straight bytes = (multiplied_by (bytes 2) (bytes 3), multiplied_by (bytes 1) (bytes 3), multiplied_by (bytes 0) (bytes 3))
-
--- Alpha of these bytes. A pixel of a format without alpha is opaque.
-abbrev pub alpha_in : Format → (ℕ → ℕ) → ℕ
-alpha_in Rgb8 bytes = 255
-alpha_in Rgba8 bytes = bytes 3
-alpha_in Bgra8 bytes = bytes 3
-alpha_in Rgba8Straight bytes = bytes 3
-alpha_in Bgra8Straight bytes = bytes 3
+use Rattle.canvas.specs.Pixels.{pixel_bytes, colour_in, alpha_in, entry_of}
 
 -- The sample in the colour of these bytes of a pixel, with their alpha if alpha is stored too, and else opaque. The
 -- depth is unchanged.

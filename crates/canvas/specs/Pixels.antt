@@ -4,7 +4,7 @@ use Rattle.canvas.specs.declared.canvas.Canvas.{Canvas}
 use Rattle.canvas.specs.declared.format.Format.{Format}
 use Rattle.canvas.specs.declared.format.Format.TheVariants.{Rgb8, Rgba8, Bgra8, Rgba8Straight, Bgra8Straight}
 use Rattle.canvas.specs.declared.pixel_rows.PixelRow.{PixelRow}
-use Rattle.canvas.specs.Straight.{straight_of}
+use Rattle.canvas.specs.Straight.{straight_of, multiplied_by}
 use Rattle.canvas.specs.Layout.{HasPixel, planes_of_row, planes_of_rows}
 
 -- How many bytes a pixel has in a format.
@@ -22,6 +22,22 @@ pixel_of Rgba8 r g b a = r ∷ g ∷ b ∷ a ∷ []
 pixel_of Bgra8 r g b a = b ∷ g ∷ r ∷ a ∷ []
 pixel_of Rgba8Straight r g b a = straight_of r a ∷ straight_of g a ∷ straight_of b a ∷ a ∷ []
 pixel_of Bgra8Straight r g b a = straight_of b a ∷ straight_of g a ∷ straight_of r a ∷ a ∷ []
+
+-- Red, green and blue of these bytes of a pixel, as they are stored.
+abbrev pub colour_in : Format → (ℕ → ℕ) → ℕ × ℕ × ℕ
+colour_in Rgb8 bytes = (bytes 0, bytes 1, bytes 2)
+colour_in Rgba8 bytes = (bytes 0, bytes 1, bytes 2)
+colour_in Bgra8 bytes = (bytes 2, bytes 1, bytes 0)
+colour_in Rgba8Straight bytes = (multiplied_by (bytes 0) (bytes 3), multiplied_by (bytes 1) (bytes 3), multiplied_by (bytes 2) (bytes 3))
+colour_in Bgra8Straight bytes = (multiplied_by (bytes 2) (bytes 3), multiplied_by (bytes 1) (bytes 3), multiplied_by (bytes 0) (bytes 3))
+
+-- Alpha of these bytes. A pixel of a format without alpha is opaque.
+abbrev pub alpha_in : Format → (ℕ → ℕ) → ℕ
+alpha_in Rgb8 bytes = 255
+alpha_in Rgba8 bytes = bytes 3
+alpha_in Bgra8 bytes = bytes 3
+alpha_in Rgba8Straight bytes = bytes 3
+alpha_in Bgra8Straight bytes = bytes 3
 
 -- A pixel has alpha in the format.
 abbrev pub HasAlpha : Format → Type 0

@@ -178,9 +178,7 @@ impl Canvas {
             SampleCount::One | SampleCount::Four => {
                 self.resolve_row_by::<false>(j, samples, format, bytes);
             }
-            SampleCount::Two | SampleCount::Eight | SampleCount::Sixteen => {
-                self.resolve_row_by::<true>(j, samples, format, bytes);
-            }
+            _ => self.resolve_row_by::<true>(j, samples, format, bytes),
         }
     }
 }

@@ -1,9 +1,10 @@
 //! How the colours of pixels lie in bytes.
-ghost use Rattle.std.specs.Prelude.{◌≡◌, length};
+ghost use Rattle.std.specs.Prelude.{◌≡◌, length, slice_index};
 ghost use Rattle.canvas.specs.Colours.{AreArranged};
+ghost use Rattle.canvas.specs.Pixels.{pixel_bytes, colour_in, alpha_in};
 ghost use Rattle.canvas.specs.declared.format.Format.TheVariants.{Rgba8, Bgra8};
 
-use crate::straight::straight_run;
+use crate::straight::{multiplied_colour, straight_run};
 use std::simd::prelude::*;
 
 /// How the colour of a pixel lies in bytes, in the order of their places in memory. A channel is a byte.
@@ -24,8 +25,6 @@ pub enum Format {
 }
 
 impl Format {
-    ghost use Rattle.canvas.specs.Pixels.{pixel_bytes};
-
     /// How many bytes a pixel has.
     #[inline]
     pub fn pixel_bytes(self) -> usize
@@ -88,5 +87,31 @@ pub(crate) fn arranged(format: Format, rgb: u8x32, alphas: u8x32) -> u8x32
         Format::Bgra8 => bgra_run(rgb, alphas),
         Format::Rgba8Straight => rgba_run(straight_run(rgb, alphas), alphas),
         Format::Bgra8Straight => bgra_run(straight_run(rgb, alphas), alphas),
+    }
+}
+
+/// Red, green and blue of these bytes, as they are stored.
+#[inline]
+pub(crate) fn colour_of(format: Format, pixel: &[u8]) -> (u8, u8, u8)
+    requires { length pixel.now ≡ pixel_bytes format }
+    ensures { result ≡ colour_in format (λ n. slice_index pixel.now n) }
+{
+    match format {
+        Format::Rgb8 | Format::Rgba8 => (pixel[0], pixel[1], pixel[2]),
+        Format::Bgra8 => (pixel[2], pixel[1], pixel[0]),
+        Format::Rgba8Straight => multiplied_colour(pixel[0], pixel[1], pixel[2], pixel[3]),
+        Format::Bgra8Straight => multiplied_colour(pixel[2], pixel[1], pixel[0], pixel[3]),
+    }
+}
+
+/// Alpha of these bytes.
+#[inline]
+pub(crate) fn alpha_of(format: Format, pixel: &[u8]) -> u8
+    requires { length pixel.now ≡ pixel_bytes format }
+    ensures { result ≡ alpha_in format (λ n. slice_index pixel.now n) }
+{
+    match format {
+        Format::Rgb8 => 255,
+        Format::Rgba8 | Format::Bgra8 | Format::Rgba8Straight | Format::Bgra8Straight => pixel[3],
     }
 }

@@ -17,13 +17,8 @@ use shade::{DepthTest, Equation, Merge, Placed, State};
 fn has_all_samples(mask: u16, count: SampleCount) -> bool
     ensures { IsTrue result → mask % 2 ^ count_of count ≡ 2 ^ count_of count - 1 }
 {
-    match count {
-        SampleCount::One => mask % 2 == 1,
-        SampleCount::Two => mask % 4 == 3,
-        SampleCount::Four => mask % 16 == 15,
-        SampleCount::Eight => mask % 256 == 255,
-        SampleCount::Sixteen => mask == 65535,
-    }
+    let full = u32::from(count.full_mask());
+    u32::from(mask) % (full + 1) == full
 }
 
 /// Whether a triangle in this state gives its colour to each sample of a pixel that it covers in its scissor, whatever

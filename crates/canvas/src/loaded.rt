@@ -6,15 +6,14 @@ ghost use Rattle.grid.specs.Samples.{count_of};
 ghost use Rattle.canvas.specs.Layout.{HasPixel, planes_of_tile, planes_of_row, planes_of_rows, stored_in_tile};
 ghost use Rattle.canvas.specs.Pixels.{pixel_bytes, entry_of, IsLargeEnough};
 ghost use Rattle.canvas.specs.Entries.{FitEntries, IsEntriesMisfit};
-ghost use Rattle.canvas.specs.Loaded.{coloured, colour_in, alpha_in, IsIndexIn, AreChanged, AreLoaded, AreStored};
+ghost use Rattle.canvas.specs.Loaded.{coloured, IsIndexIn, AreChanged, AreLoaded, AreStored};
 
 use crate::canvas::Canvas;
-use crate::format::Format;
+use crate::format::{Format, alpha_of, colour_of};
 use crate::misfit::Misfit;
 use crate::piece::Piece;
 use crate::pixel_rows::PixelRows;
 use crate::place::place_in_tile;
-use crate::straight::multiplied_colour;
 use crate::tile_planes::fill_tile;
 use crate::tile_rows::TileRows;
 use grid::SampleCount;
@@ -42,32 +41,6 @@ pub(crate) fn set_colour(plane: &mut BlockSamples, k: usize, r: u8, g: u8, b: u8
     plane.r[k] = r;
     plane.g[k] = g;
     plane.b[k] = b;
-}
-
-/// Red, green and blue of these bytes, as they are stored.
-#[inline]
-fn colour_of(format: Format, pixel: &[u8]) -> (u8, u8, u8)
-    requires { length pixel.now ≡ pixel_bytes format }
-    ensures { result ≡ colour_in format (λ n. slice_index pixel.now n) }
-{
-    match format {
-        Format::Rgb8 | Format::Rgba8 => (pixel[0], pixel[1], pixel[2]),
-        Format::Bgra8 => (pixel[2], pixel[1], pixel[0]),
-        Format::Rgba8Straight => multiplied_colour(pixel[0], pixel[1], pixel[2], pixel[3]),
-        Format::Bgra8Straight => multiplied_colour(pixel[2], pixel[1], pixel[0], pixel[3]),
-    }
-}
-
-/// Alpha of these bytes.
-#[inline]
-fn alpha_of(format: Format, pixel: &[u8]) -> u8
-    requires { length pixel.now ≡ pixel_bytes format }
-    ensures { result ≡ alpha_in format (λ n. slice_index pixel.now n) }
-{
-    match format {
-        Format::Rgb8 => 255,
-        Format::Rgba8 | Format::Bgra8 | Format::Rgba8Straight | Format::Bgra8Straight => pixel[3],
-    }
 }
 
 /// Stores the colour of these bytes in place of that of pixel `k` of a block, with their alpha or opaque.

@@ -5,7 +5,7 @@ use Rattle.std.proofs.lemmas.Bool.{cases_lt}
 use Rattle.grid.specs.Position.{Position}
 use Rattle.grid.specs.Edge.{side, PassesEdge}
 use Rattle.grid.specs.Quad.{Corners, TurnsRight, TurnsLeft, IsStrictlyConvex, QuadCovers}
-use Rattle.grid.specs.Samples.{count_of, part_size, sample_position}
+use Rattle.grid.specs.Samples.{count_of, part_size, box_start, sample_position}
 use Rattle.grid.specs.Triangle.{Covers}
 use Rattle.grid.specs.declared.sample_count.SampleCount.{SampleCount}
 use Rattle.grid.specs.declared.triangle.Tri.{Tri}
@@ -19,7 +19,6 @@ use Rattle.cover.specs.Edge.{value_at, grown, IsTestOf}
 use Rattle.cover.specs.Masks.{AreMasksWhere, to_column, to_row}
 use Rattle.cover.specs.Quad.{AreMasksOfQuad, IsJoinedFrom}
 use Rattle.cover.specs.Sides.{AreSidesOf, IsInsideAt}
-use Rattle.cover.specs.Square.{box_start}
 use Rattle.cover.proofs.Corners.{small_value, there}
 use Rattle.cover.proofs.Joined.{bits64, kept, place_x, place_y, begins_with_part, of_first_part, plane_of_first}
 use Rattle.cover.proofs.Words.{empty_word}

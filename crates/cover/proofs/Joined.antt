@@ -2,7 +2,7 @@
 use Rattle.std.proofs.Common.{◌≡◌, ◌↔◌, refl, sym, ap, ap₂, ◌∙◌, subst, [], ◌∷◌, arith, ℕ, zero, suc, ◌+◌, ◌-◌, ◌*◌, ◌^◌, ◌<◌, ◌≤◌, bit_and, IsBitSet, ℤ, pos, ◌+ℤ◌, ◌*ℤ◌, ◌<ℤ◌, ◌≤ℤ◌, w64, to_z, of_z, slice_index}
 use Rattle.std.proofs.lemmas.Int.{ints, to_z-of_z}
 use Rattle.grid.specs.Bounds.{IsWithin}
-use Rattle.grid.specs.Samples.{count_of, part_size, IsPart, offsets_x, offsets_y}
+use Rattle.grid.specs.Samples.{count_of, part_size, IsPart, offsets_x, offsets_y, box_start}
 use Rattle.grid.specs.declared.pixels.TileSide.{TileSide}
 use Rattle.grid.specs.declared.pixels.TileSide.TheVariants.{T8}
 use Rattle.grid.specs.declared.sample_count.SampleCount.{SampleCount}
@@ -19,16 +19,16 @@ use Rattle.cover.specs.Block.{IsScreenBounded}
 use Rattle.cover.specs.Edges.{AreScreenBounded, IsInsideAfter}
 use Rattle.cover.specs.Inside.{IsSquareOf}
 use Rattle.cover.specs.Masks.{AreMasksWhere, AreWordsWhere, AreMasksOf, AreMasksOfPart, IsPlaneOf, to_column, to_row}
-use Rattle.cover.specs.Square.{box_start, box_reach}
-use Rattle.cover.proofs.Corners.{sample_test, room_x, room_y, reach_is, ends_lt}
+use Rattle.cover.specs.Square.{box_reach}
+use Rattle.cover.proofs.Corners.{sample_test, room_x, room_y, ends_lt}
 use Rattle.cover.proofs.Words.{set_in_both, full, empty_word, no_bits}
 
 -- ---- where a sample lies in the box
 pub column_in_reach : (count : SampleCount) (s column : ℕ) → s < count_of count → column < 8 → to_column count s column ≤ box_reach T8 count
-column_in_reach count s column lt within = let room = room_x count s lt in omega (arith, room.low, room.high, reach_is T8 count)
+column_in_reach count s column lt within = let room = room_x count s lt in omega (arith, room.low, room.high)
 
 pub row_in_reach : (count : SampleCount) (s row : ℕ) → s < count_of count → row < 8 → to_row count s row ≤ box_reach T8 count
-row_in_reach count s row lt within = let room = room_y count s lt in omega (arith, room.low, room.high, reach_is T8 count)
+row_in_reach count s row lt within = let room = room_y count s lt in omega (arith, room.low, room.high)
 
 pub place_x : (count : SampleCount) (s n column : ℕ) → s < count_of count → 2048 * n + box_start count + to_column count s column ≡ 256 * (8 * n + column) + slice_index (offsets_x count) s
 place_x count s n column lt = let room = room_x count s lt in place (box_start count) (slice_index (offsets_x count) s) n column room.low
@@ -43,7 +43,7 @@ place_y count s n row lt = let room = room_y count s lt in place (box_start coun
     place start offset n row low = omega arith
 
 pub reach_of_block : (count : SampleCount) → box_reach T8 count < 2 ^ 11
-reach_of_block count = omega (arith, reach_is T8 count, ends_lt count)
+reach_of_block count = omega (arith, ends_lt count)
 
 -- ---- an edge that meets the box is not far
 pub is_near : (e : Edge) (at : ℤ) (m n m' n' : ℕ) → grown e at m n <ℤ pos 0 → pos 0 ≤ℤ grown e at m' n' → m < 2 ^ 11 → n < 2 ^ 11 → m' < 2 ^ 11 → n' < 2 ^ 11 → IsWithin (2 ^ 37) at

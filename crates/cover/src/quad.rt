@@ -6,7 +6,6 @@ ghost use Rattle.cover.specs.Quad.{AreMasksOfQuad, IsJoinedFrom};
 
 use crate::edge::Edge;
 use crate::masks::Masks;
-use crate::samples::start;
 use grid::{Quad, SampleCount};
 
 /// The edges of a quad, each turned so that the quad lies where its edge function is positive.
@@ -70,7 +69,7 @@ pub fn quad_masks(quad: &Quad, bx: u32, by: u32, count: SampleCount) -> Masks
     ensures second_diagonal { IsJoinedFrom (record { a = quad.now.b; b = quad.now.c; c = quad.now.d })
         (record { a = quad.now.d; b = quad.now.a; c = quad.now.b }) bx by count result }
 {
-    let x = 2048 * bx + start(count);
-    let y = 2048 * by + start(count);
+    let x = 2048 * bx + count.box_start();
+    let y = 2048 * by + count.box_start();
     Sides::of(quad).masks(x, y, count)
 }

@@ -1,37 +1,16 @@
 //! The box round the samples of a square of pixels.
 ghost use Rattle.std.specs.Prelude.{◌≡◌, ◌-◌, ◌<◌, ◌^◌, slice_index};
-ghost use Rattle.grid.specs.Samples.{count_of, offsets_x, offsets_y};
-ghost use Rattle.cover.specs.Square.{box_start, box_reach};
+ghost use Rattle.grid.specs.Samples.{count_of, offsets_x, offsets_y, box_start};
+ghost use Rattle.cover.specs.Square.{box_reach};
 
 use grid::{SampleCount, TileSide, sample_at};
-
-/// How far a square's first sample position lies from its corner, in 1/256 pixel.
-#[inline(always)]
-pub(crate) fn start(count: SampleCount) -> u32
-    ensures { result ≡ box_start count }
-{
-    match count {
-        SampleCount::One => 128,
-        SampleCount::Two => 64,
-        SampleCount::Four => 32,
-        SampleCount::Eight => 16,
-        SampleCount::Sixteen => 0,
-    }
-}
 
 /// How far a square's sample positions reach from the first, in 1/256 pixel.
 #[inline(always)]
 pub(crate) fn reach(side: TileSide, count: SampleCount) -> u32
     ensures { result ≡ box_reach side count }
 {
-    let to_last_pixel = 256 * (side.pixels() - 1);
-    match count {
-        SampleCount::One => to_last_pixel,
-        SampleCount::Two => to_last_pixel + 128,
-        SampleCount::Four => to_last_pixel + 192,
-        SampleCount::Eight => to_last_pixel + 224,
-        SampleCount::Sixteen => to_last_pixel + 240,
-    }
+    256 * (side.pixels() - 1) + count.box_width()
 }
 
 /// How far sample `s` of a pixel lies to the right of the first position of the box round a block's samples.
@@ -41,7 +20,7 @@ pub(crate) fn offset_x(s: u32, count: SampleCount) -> u32
     ensures value { result ≡ slice_index (offsets_x count) s - box_start count }
     ensures small { result < 2 ^ 8 }
 {
-    sample_at(0, 0, s, count).x() as u32 - start(count)
+    sample_at(0, 0, s, count).x() as u32 - count.box_start()
 }
 
 /// How far it lies below that position.
@@ -51,5 +30,5 @@ pub(crate) fn offset_y(s: u32, count: SampleCount) -> u32
     ensures value { result ≡ slice_index (offsets_y count) s - box_start count }
     ensures small { result < 2 ^ 8 }
 {
-    sample_at(0, 0, s, count).y() as u32 - start(count)
+    sample_at(0, 0, s, count).y() as u32 - count.box_start()
 }

@@ -56,13 +56,7 @@ fn logarithm_and_half(count: SampleCount) -> (u16, u16)
     ensures logarithm { 2 ^ result.0 ≡ count_of count }
     ensures half { result.1 ≡ count_of count / 2 }
 {
-    match count {
-        SampleCount::One => (0, 0),
-        SampleCount::Two => (1, 1),
-        SampleCount::Four => (2, 2),
-        SampleCount::Eight => (3, 4),
-        SampleCount::Sixteen => (4, 8),
-    }
+    (count.logarithm() as u16, (count.count() / 2) as u16)
 }
 
 /// What `colours` returns, by the sums of any number of samples.
@@ -144,9 +138,7 @@ pub fn colours(tile: &Tile, samples: &[BlockSamples], row: u32, column: u32) -> 
     match tile.count {
         SampleCount::One => colours_of_few(tile, samples, row, column),
         SampleCount::Four => colours_of_few(tile, samples, row, column),
-        SampleCount::Two | SampleCount::Eight | SampleCount::Sixteen => {
-            colours_of_more(tile, samples, row, column)
-        }
+        _ => colours_of_more(tile, samples, row, column),
     }
 }
 

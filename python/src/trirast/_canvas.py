@@ -14,6 +14,7 @@ from ._draw import EVERY_SAMPLE, Cull, DepthTest, Draw, state_in_c
 from ._errors import BatchError, CanvasError, PositionError, SampleError, TileError, adding
 from ._ffi import CCanvas, CClear, CCorners, CError, library
 from ._fragments import Fragments, Rate, fragments_of
+from ._patterns import COUNTS
 from ._picture import Path, Picture, save_png
 from ._png import png_chunks
 from ._polygons import RULES, Rule, polygons_of, scratch_of
@@ -38,7 +39,8 @@ Format = Literal["rgb", "rgba", "bgra", "rgba_straight", "bgra_straight"]
 
 
 class Canvas:
-    """The samples of `width` by `height` pixels, 1 to 4096 each, with 1, 2, 4, 8 or 16 `samples` a pixel.
+    """The samples of `width` by `height` pixels, 1 to 4096 each, with `samples` a pixel, a number that has a pattern in
+    docs/rules.md, as 4 or 16.
 
     `origin` is the pixel of the screen at which the upper left pixel of the canvas lies; positions and scissors are
     those of the screen. `memory` is a buffer of at least Canvas.size(..) bytes that can be written, in which the samples
@@ -114,7 +116,7 @@ class Canvas:
         # 0 is the default of C.
         size: int = library().trirast_canvas_size(CCanvas(0, *numbers)) if numbers[2] else 0
         if not size:
-            wanted = "a canvas has 1 to 4096 pixels a side and 1, 2, 4, 8 or 16 samples a pixel"
+            wanted = f"a canvas has 1 to 4096 pixels a side and {COUNTS} samples a pixel"
             raise CanvasError.of_line(f"{wanted}, and not {width} by {height} and {samples}; larger: trirast.poster")
         return size
 

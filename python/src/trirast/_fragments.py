@@ -5,22 +5,12 @@ from typing import Any, Literal, NamedTuple, Optional, Sequence, Tuple
 
 from ._arguments import named
 from ._clip import check_indices
+from ._patterns import SAMPLES
 
 # One of numpy, which the package does without until a call needs it.
 Array = Any
 Rate = Literal["pixel", "centre", "sample"]
 RATES: Tuple[Rate, ...] = ("pixel", "centre", "sample")
-# Where samples lie in a pixel, in 1/16 pixel from its centre: docs/rules.md.
-PATTERNS = {
-    1: ((0, 0),),
-    2: ((4, 4), (-4, -4)),
-    4: ((-2, -6), (6, -2), (-6, 2), (2, 6)),
-    8: ((1, -3), (-1, 3), (5, 1), (-3, -5), (-5, 5), (-7, -1), (3, 7), (7, -7)),
-    16: (
-        (1, 1), (-1, -3), (-3, 2), (4, -1), (-5, -2), (2, 5), (5, 3), (3, -5), (-2, 6), (0, -7), (-4, -6), (-6, 4),
-        (-8, 0), (7, -4), (6, 7), (-7, -8),
-    ),
-}
 CENTRE, UNIT = 128, 256
 
 
@@ -90,7 +80,7 @@ def places_of(samples: int) -> Array:
     """Where samples lie in a pixel, in 1/256 pixel."""
     import numpy as np
 
-    return CENTRE + 16 * np.array(PATTERNS[samples], np.int64)
+    return np.array(SAMPLES[samples], np.int64)
 
 
 def shown_by(ids: Array, count: int, rate: str) -> Tuple[Array, Array, Tuple[Array, Array]]:

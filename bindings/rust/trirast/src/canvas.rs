@@ -12,6 +12,9 @@ use crate::parts::{by_threads, pixel_row, Rows};
 use crate::values::Values;
 use crate::{Draw, Error, Indices, State, Vertices};
 
+/// The numbers of samples that a pixel may have, in messages.
+pub(crate) const SAMPLE_COUNTS: &str = "1, 2, 4, 8 or 16";
+
 /// How the colour of a pixel lies in bytes, in the order of the name.
 #[derive(Clone, Copy, Debug, PartialEq, Eq, Hash)]
 #[non_exhaustive]
@@ -126,7 +129,7 @@ impl CanvasBuilder {
     ///
     /// # Errors
     ///
-    /// `BadCanvas` if a side is not 1 to 4096 pixels or the number of samples is none of the five, or `OutOfMemory`.
+    /// `BadCanvas` if a side is not 1 to 4096 pixels or no pixel has as many samples, or `OutOfMemory`.
     pub fn build(self) -> Result<Canvas, Error> {
         let mut raw = sys::trirast_canvas {
             struct_size: size_of::<sys::trirast_canvas>() as u32,

@@ -2,6 +2,7 @@
 
 use std::fmt;
 
+use crate::canvas::SAMPLE_COUNTS;
 use crate::{Origin, Position};
 
 /// Values in 1/256 pixel, which positions may have.
@@ -45,7 +46,7 @@ impl fmt::Display for Values {
             Values::None => Ok(()),
             Values::Canvas([width, height, samples]) => write!(
                 formatter,
-                "1 to 4096 pixels a side and 1, 2, 4, 8 or 16 samples a pixel, and not {width} by {height} and {samples}"
+                "1 to 4096 pixels a side and {SAMPLE_COUNTS} samples a pixel, and not {width} by {height} and {samples}"
             ),
             Values::Index { given, count } => write!(formatter, "0 to {}, and not {given}", count.saturating_sub(1)),
             Values::TileRows { given: [first, end], own: [own_first, own_end] } => {

@@ -9,6 +9,7 @@ from matplotlib.backends.backend_agg import RendererAgg
 from matplotlib.path import Path
 
 from .._arguments import flag, shown
+from .._patterns import COUNTS, PATTERNS
 from ._clips import Clips, clip_box
 from ._collection import Collection, rounds_in_order
 from ._colors import byte_of, color_bytes, edge_alpha, edges_of, face_bytes
@@ -25,13 +26,11 @@ from ._window import OPAQUE
 
 # Its functions have no types.
 ma: Any = np.ma
-# The samples of a pixel, of which there is a choice.
-SAMPLES = (1, 2, 4, 8, 16)
 
 
 class RendererTrirast(RendererAgg):
-    """Agg's renderer, which draws faces and Gouraud triangles with 1, 2, 4, 8 or 16 `samples` a pixel. `threads` share the
-    drawing, and change no pixel. With `smooth` the faces of collections and meshes are drawn so too if their
+    """Agg's renderer, which draws faces and Gouraud triangles with as many `samples` a pixel as a canvas may have. `threads`
+    share the drawing, and change no pixel. With `smooth` the faces of collections and meshes are drawn so too if their
     antialiasing is off, as it is in `contourf`, `pcolormesh`, `pcolor` and `tripcolor` by default; without it these are
     Agg's, byte for byte."""
 
@@ -281,8 +280,8 @@ class RendererTrirast(RendererAgg):
 
     def _all_samples(self) -> Samples:
         if self._samples is None:
-            if self.samples not in SAMPLES:
-                raise ValueError(f"RendererTrirast.samples: 1, 2, 4, 8 or 16, and not {shown(self.samples)}")
+            if self.samples not in tuple(PATTERNS):
+                raise ValueError(f"RendererTrirast.samples: {COUNTS}, and not {shown(self.samples)}")
             self._samples = Samples(np.asarray(self._agg), self.samples, self.threads)
         return self._samples
 

@@ -94,7 +94,7 @@ def triangles_of(draw: Any) -> NDArray[np.int32]:
 
 def check_states(value: Any) -> None:
     """Raises trirast.Error if a list without vertices and triangles is none: what arrays say once, and the states of draws. Its pixels
-    may have 2, 8 or 16 samples, and its sample masks 16 bits."""
+    may have as many samples as those of a canvas, and its sample masks 16 bits."""
     draws = value.get("draws") if isinstance(value, dict) else None
     if not isinstance(draws, list):
         image_info(json.dumps(value).encode())

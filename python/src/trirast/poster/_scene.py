@@ -13,6 +13,8 @@ from typing import TYPE_CHECKING, Any, Mapping, NamedTuple, Optional, Sequence
 import numpy as np
 from numpy.typing import NDArray
 
+from .._patterns import COUNTS
+from .._patterns import SAMPLES as SAMPLES
 from .._polygons import RULES
 from .._records import HIGH as HIGH
 from .._records import LOW as LOW
@@ -26,17 +28,6 @@ if TYPE_CHECKING:
 
 # Positions are in 1/256 pixel.
 UNIT = 256
-# Where the samples of a pixel lie, in 1/256 pixel (docs/rules.md), by their number.
-SAMPLES: dict[int, Sequence[tuple[int, int]]] = {
-    1: ((128, 128),),
-    2: ((192, 192), (64, 64)),
-    4: ((96, 32), (224, 96), (32, 160), (160, 224)),
-    8: ((144, 80), (112, 176), (208, 144), (80, 48), (48, 208), (16, 112), (176, 240), (240, 16)),
-    16: (
-        (144, 144), (112, 80), (80, 160), (192, 112), (48, 96), (160, 208), (208, 176), (176, 48),
-        (96, 224), (128, 16), (64, 32), (32, 192), (0, 128), (240, 64), (224, 240), (16, 0),
-    ),
-}
 # Sides of a poster, in pixels: what the guard band reaches.
 MAX_SIDE = 32768
 # Indices of triangles, and of polygons, have 32 bits.
@@ -232,7 +223,7 @@ def with_samples(scene: Scene, samples: int) -> Scene:
     """A scene with another number of samples a pixel. A draw whose sample mask has every sample still has every one, and another mask
     stays as it is. Raises ValueError if no pixel has as many samples."""
     if samples not in SAMPLES:
-        raise ValueError(f"samples: 1, 2, 4, 8 or 16, and not {samples}")
+        raise ValueError(f"samples: {COUNTS}, and not {samples}")
     if samples == scene.sheet.samples:
         return scene
     every = (1 << scene.sheet.samples) - 1

@@ -7,7 +7,7 @@ pub returns : goal.returns
 returns c =
     let q = c.args.quad.now in
     let covered : AreMasksOfQuad q c.args.bx c.args.by c.args.count c.masks.result =
-    quad_covered q c.of.result c.args.bx c.args.by _ _ c.args.count c.masks.result c.of.ensures.sides (ap (λ n. 2048 * c.args.bx + n) c.start.ensures) (ap (λ n. 2048 * c.args.by + n) c.start-2.ensures) c.masks.ensures in
+    quad_covered q c.of.result c.args.bx c.args.by _ _ c.args.count c.masks.result c.of.ensures.sides (ap (λ n. 2048 * c.args.bx + n) c.box_start.ensures) (ap (λ n. 2048 * c.args.by + n) c.box_start-2.ensures) c.masks.ensures in
     record {
       covered = covered;
       first_diagonal = first_parts q c.args.bx c.args.by c.args.count c.masks.result c.of.ensures.convex covered;
