@@ -83,14 +83,14 @@ def print_scenes(names: list[str], rounds: int) -> None:
     for name in names:
         times = timed("scene", arrays_path(name), str(rounds))
         cells = [f"{time / 1000:.2f}" for time in (*times, sum(times))]
-        print(f"| {name} | {' | '.join(cells)} |", flush=True)
+        print(report.row([name, *cells]), flush=True)
 
 
 def print_batches(rounds: int) -> None:
     print("\n| canvas | a batch, microseconds | by ids |\n|---|---|---|")
     for side in SIDES:
         cells = [f"{time / 1000:.2f}" for time in timed("batches", str(side), str(rounds))]
-        print(f"| {side} by {side} | {' | '.join(cells)} |", flush=True)
+        print(report.row([f"{side} by {side}", *cells]), flush=True)
 
 
 def instructions(path: str, count: int) -> int:
@@ -108,7 +108,7 @@ def print_samples(rounds: int) -> None:
     has_valgrind = shutil.which("valgrind") is not None
     what = "instructions, and time" if has_valgrind else "time"
     print(f"\nA sample by a sample of four a pixel: {what}.\n")
-    print(f"| scene | {' | '.join(f'{count} samples' for count in COUNTS)} |\n{'|---' * (len(COUNTS) + 1)}|")
+    report.print_head(["scene", *(f"{count} samples" for count in COUNTS)])
     for name in SAMPLED:
         path = arrays_path(name)
         least = {count: float("inf") for count in (4, *COUNTS)}
@@ -119,7 +119,7 @@ def print_samples(rounds: int) -> None:
         if has_valgrind:
             each.insert(0, {count: instructions(path, count) / count for count in least})
         cells = [", ".join(f"{by[count] / by[4]:.2f}" for by in each) for count in COUNTS]
-        print(f"| {name} | {' | '.join(cells)} |", flush=True)
+        print(report.row([name, *cells]), flush=True)
 
 
 # ---- Frames beside crates/frames
@@ -173,18 +173,18 @@ def print_frames(names: Sequence[str], rounds: int, threads: Sequence[int]) -> N
         for count in threads:
             frame, canvas = processor_times(source, (way_of_frames(count), way_of_canvas(count)), rounds)
             cells = [f"{1000 * frame:.2f}", f"{1000 * canvas:.2f}", f"{canvas / frame:.2f}"] if frame > LEAST else ["-"] * 3
-            print(f"| {name} | {count} | {' | '.join(cells)} |", flush=True)
+            print(report.row([name, str(count), *cells]), flush=True)
 
 
 def print_scattered(rounds: int) -> None:
     """What batches of a number of triangles take, by the frame of crates/frames."""
     heads = [f"{size:,}" for size in BATCH_SIZES]
     print("\nProcessor time of a frame by that of crates/frames, by the triangles of a batch, one thread.\n")
-    print(f"| scene | {' | '.join(heads)} | one batch |\n{'|---' * (len(heads) + 2)}|")
+    report.print_head(["scene", *heads, "one batch"])
     for name in SCATTERED:
         ways = [way_of_frames(1), *(way_of_canvas(1, "--batch", str(size)) for size in BATCH_SIZES), way_of_canvas(1)]
         frame, *times = processor_times(source_of(name), ways, rounds)
-        print(f"| {name} | {' | '.join(f'{time / frame:.2f}' for time in times)} |", flush=True)
+        print(report.row([name, *(f"{time / frame:.2f}" for time in times)]), flush=True)
 
 
 def refuse_large_pages() -> None:

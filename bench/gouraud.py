@@ -78,7 +78,7 @@ def row_of(name: str, side: int, rounds: int) -> str:
     times = [(*seconds(agg), *seconds(ours)) for _ in range(rounds)]
     least = [min(each) for each in zip(*times)]
     cells = [f"{1000 * least[k]:.0f}" for k in (0, 2, 1, 3)]
-    return f"| {name} | {count:,} | {' | '.join(cells)} | {least[3] / least[1]:.2f} |"
+    return report.row([name, f"{count:,}", *cells, f"{least[3] / least[1]:.2f}"])
 
 
 def main() -> None:

@@ -68,7 +68,7 @@ def main() -> int:
                 print(f"{name}, {workers} workers: a program fails, or draws another picture", flush=True)
                 has_failed = True
                 continue
-            print(f"| {name} | {workers} | {' | '.join(times(commands, source, options.runs))} |", flush=True)
+            print(report.row([name, str(workers), *times(commands, source, options.runs)]), flush=True)
     report.print_end()
     return 1 if has_failed else 0
 

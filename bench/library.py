@@ -68,7 +68,7 @@ def row_of(name: str, chosen: dict[str, Way], rounds: int) -> str:
     """The table's row of a scene: the least time of each way."""
     times = [[way() for way in chosen.values()] for _ in range(rounds)]
     least = [milliseconds(min(times_of_way)) for times_of_way in zip(*times)]
-    return f"| {name} | {' | '.join(least)} |"
+    return report.row([name, *least])
 
 
 def main() -> int:

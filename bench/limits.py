@@ -143,7 +143,7 @@ def row_of(name: str, program: str, most: Machine, runs: int) -> str:
     by_operations, by_stores, by_memory = (f"({time / 1e6:.1f})" for time in times)
     cells = [name, f"{met / 1e6:.2f}, {drawn / 1e6:.2f}", f"{samples / 1e6:.2f}", f"{operations / 1e6:.0f} {by_operations}"]
     cells += [f"{stores / 1e6:.1f} {by_stores}", f"{(kept + picture) / 1e6:.1f} {by_memory}"]
-    return f"| {' | '.join([*cells, f'{frame / 1e6:.2f}', f'{frame / max(times):.1f}'])} |"
+    return report.row([*cells, f"{frame / 1e6:.2f}", f"{frame / max(times):.1f}"])
 
 
 def main() -> int:

@@ -183,7 +183,7 @@ class Table:
         cells = self.cells(source, workers)
         far = far_pixels(self.program, source, target) if workers == self.workers[0] else ""
         os.remove(target)
-        print("| " + " | ".join([label, str(workers), *cells, far]) + " |", flush=True)
+        print(report.row([label, str(workers), *cells, far]), flush=True)
 
     def print(self, lists: list[str]) -> None:
         columns = (*COLUMNS, *(LEVEL_COLUMNS if self.of_level else ()), *(MODEL_COLUMNS if self.model else ()), *LAST_COLUMNS)

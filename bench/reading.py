@@ -105,7 +105,7 @@ def row_of(source: str, with_parser: bool, runs: int, before: str) -> str:
         cells[2:2] = user_cells(source, before, runs)
     for other in others:
         cells += [f"{other / 1e6:.1f}", f"{ours / other:.2f}"]
-    return f"| {' | '.join(cells)} |"
+    return report.row(cells)
 
 
 def main() -> int:

@@ -27,9 +27,14 @@ def machine() -> str:
     return f"Machine: {processor_name()}, {os.cpu_count()} processors; load before the run {load()}."
 
 
+def row(cells: Sequence[str]) -> str:
+    """A row of a table in Markdown."""
+    return f"| {' | '.join(cells)} |"
+
+
 def head(columns: Sequence[str]) -> str:
     """The head of a table in Markdown."""
-    return f"| {' | '.join(columns)} |\n{'|---' * len(columns)}|"
+    return f"{row(columns)}\n{'|---' * len(columns)}|"
 
 
 def print_head(columns: Sequence[str]) -> None:

@@ -143,7 +143,7 @@ class Table:
         times += [f"{milliseconds(run.wall)} ({found[0].wall / run.wall:.2f}x)" for run in found[1:]]
         processor = f"{milliseconds(found[0].processor)}, {milliseconds(found[-1].processor)}"
         cells = [name, str(tile), *times, processor, ", ".join(peaks), plain_time]
-        print(f"| {' | '.join(cells)} |", flush=True)
+        print(report.row(cells), flush=True)
 
     def must_end(self, run: Run, title: str) -> None:
         wanted = 1 << 8 if title.startswith(REFUSED) else 0

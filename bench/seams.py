@@ -17,10 +17,12 @@ from typing import Any
 import numpy as np
 from matplotlib.backends.backend_agg import FigureCanvasAgg
 
+from bench import report
 from python.tests import neighbours
 from trirast.matplotlib import FigureCanvasTrirast
 
 ALPHAS = (0.5, 1.0)
+COLUMNS = ("plot", "0.5: Agg", "smooth", "trirast", "1: Agg", "smooth", "trirast", "pixels inside", "away, 0.5", "away, 1")
 # The plots that matplotlib draws without antialiasing by default.
 OFF = (neighbours.contourf, neighbours.pcolormesh, neighbours.pcolor, neighbours.tripcolor)
 
@@ -53,7 +55,7 @@ def row_of(name: str, plot: neighbours.Plot) -> str:
         cells += [f"{by_agg:,}", f"{smoothly(plot, alpha):,}", f"{ours:,}"]
     within = neighbours.inside(plot, FigureCanvasAgg, 1.0)
     cells += [f"{int(within.sum()):,}", *(str(away(plot, alpha)) for alpha in ALPHAS)]
-    return f"| {' | '.join(cells)} |"
+    return report.row(cells)
 
 
 def save(folder: Path, name: str, plot: Any) -> None:
@@ -70,8 +72,7 @@ def main() -> None:
     parser = argparse.ArgumentParser(description="Counts seams between neighbouring faces.")
     parser.add_argument("--pictures", type=Path, help="a folder for pictures of both backends side by side")
     options = parser.parse_args()
-    print("| plot | 0.5: Agg | smooth | trirast | 1: Agg | smooth | trirast | pixels inside | away, 0.5 | away, 1 |")
-    print("|---|---|---|---|---|---|---|---|---|---|")
+    report.print_head(COLUMNS)
     for name, plot in neighbours.PLOTS.items():
         print(row_of(name, plot), flush=True)
         if options.pictures:

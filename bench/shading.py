@@ -136,7 +136,7 @@ def lines_of(options: argparse.Namespace) -> Iterator[str]:
     missed: list[str] = []
     for renderer, frame in frames_of(options, program):
         missed += frame.missed()
-        yield f"| {' | '.join(frame.cells())} |\n"
+        yield f"{report.row(frame.cells())}\n"
     yield f"\nRenderer: {renderer}. Load after the run {report.load()}. "
     yield f"Missed: {'; '.join(missed) or 'nothing'}.\n"
 

@@ -209,7 +209,7 @@ def svg(bars: Sequence[Bar]) -> str:
 
 def row_of(bar: Bar) -> str:
     shares = (f"{100 * bar.share(stage.name):.1f}" for stage in STAGES)
-    return f"| {bar.scene} | {bar.way} | {bar.total} | {' | '.join(shares)} |"
+    return report.row([bar.scene, bar.way, bar.total, *shares])
 
 
 def main() -> int:

@@ -97,7 +97,7 @@ class Scene:
         cells = [name, *(f"{1000 * times.frame:.2f}" for times in (one, two, four))]
         cells += [f"{one.frame / two.frame:.2f}, {faster:.2f}", f"{1000 * one.processor:.1f}, {1000 * four.processor:.1f}"]
         cells += [f"{1000 * four.calling:.2f}", f"{100 * (1 - four.processor / (max(WORKERS) * four.frame)):.0f} %"]
-        return f"| {' | '.join([*cells, f'{allowed:.2f}', f'{faster / allowed:.2f}'])} |"
+        return report.row([*cells, f"{allowed:.2f}", f"{faster / allowed:.2f}"])
 
 
 def main() -> int:
