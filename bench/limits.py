@@ -141,9 +141,10 @@ def row_of(name: str, program: str, most: Machine, runs: int) -> str:
     times = [operations / most.vectors, stores / most.cycles, kept / most.read + picture / most.written]
     frame = 1e9 * min(frame_seconds(program, source, 1) for _ in range(runs))
     by_operations, by_stores, by_memory = (f"({time / 1e6:.1f})" for time in times)
-    cells = [name, f"{met / 1e6:.2f}, {drawn / 1e6:.2f}", f"{samples / 1e6:.2f}", f"{operations / 1e6:.0f} {by_operations}"]
-    cells += [f"{stores / 1e6:.1f} {by_stores}", f"{(kept + picture) / 1e6:.1f} {by_memory}"]
-    return report.row([*cells, f"{frame / 1e6:.2f}", f"{frame / max(times):.1f}"])
+    return report.row((
+        name, f"{met / 1e6:.2f}, {drawn / 1e6:.2f}", f"{samples / 1e6:.2f}", f"{operations / 1e6:.0f} {by_operations}",
+        f"{stores / 1e6:.1f} {by_stores}", f"{(kept + picture) / 1e6:.1f} {by_memory}", f"{frame / 1e6:.2f}", f"{frame / max(times):.1f}",
+    ))
 
 
 def main() -> int:

@@ -96,10 +96,12 @@ class Scene:
         one, two, four = (min(turns) for turns in self.turns.values())
         allowed = max(WORKERS) * one.frame / min(self.beside)
         faster = one.frame / four.frame
-        cells = [name, *(f"{1000 * times.frame:.2f}" for times in (one, two, four))]
-        cells += [f"{one.frame / two.frame:.2f}, {faster:.2f}", f"{1000 * one.processor:.1f}, {1000 * four.processor:.1f}"]
-        cells += [f"{1000 * four.calling:.2f}", f"{100 * (1 - four.processor / (max(WORKERS) * four.frame)):.0f} %"]
-        return report.row([*cells, f"{allowed:.2f}", f"{faster / allowed:.2f}"])
+        idle = 1 - four.processor / (max(WORKERS) * four.frame)
+        return report.row((
+            name, *(f"{1000 * times.frame:.2f}" for times in (one, two, four)), f"{one.frame / two.frame:.2f}, {faster:.2f}",
+            f"{1000 * one.processor:.1f}, {1000 * four.processor:.1f}", f"{1000 * four.calling:.2f}", f"{100 * idle:.0f} %",
+            f"{allowed:.2f}", f"{faster / allowed:.2f}",
+        ))
 
 
 def main() -> int:

@@ -9,7 +9,7 @@ ghost use Rattle.batch.specs.Checks.{index_checks, position_checks, quad_checks,
 use crate::draw::BatchDraw;
 use crate::fault::{BatchCause, BatchFault, DrawFault};
 use crate::ids::{after, has_ids};
-use crate::indices::{BatchIndices, Halves, InOrder, Indices, Words};
+use crate::indices::{BatchIndices, InOrder, Indices};
 use crate::primitives::{corners, triangle_count, triangles_of_draw};
 use crate::seen::{is_quad_seen, is_seen};
 use crate::vertices::Vertices;
@@ -147,15 +147,11 @@ fn check_own<V: Vertices>(
     let topology = draw.topology;
     match indices {
         BatchIndices::Words(all) => {
-            let own = Words {
-                indices: &all[..draw.indices],
-            };
+            let own = &all[..draw.indices];
             check_primitives(topology, vertices, &own, origin, ids)
         }
         BatchIndices::Halves(all) => {
-            let own = Halves {
-                indices: &all[..draw.indices],
-            };
+            let own = &all[..draw.indices];
             check_primitives(topology, vertices, &own, origin, ids)
         }
         BatchIndices::InOrder => {

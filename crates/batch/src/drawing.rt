@@ -16,11 +16,11 @@ use crate::checking::check_draws;
 use crate::draw::BatchDraw;
 use crate::fault::BatchFault;
 use crate::ids::after;
-use crate::indices::{BatchIndices, Halves, InOrder, Indices, Words};
+use crate::indices::{BatchIndices, InOrder, Indices};
 use crate::part::Part;
 use crate::primitives::triangles_of_draw;
 use crate::strided::Strided;
-use crate::vertices::{BatchVertices, Packed, Vertices};
+use crate::vertices::{BatchVertices, Vertices};
 use canvas::{Ids, Origin, Piece};
 
 /// Draws the primitives of a draw, whose vertices and indices are its own and pass their checks.
@@ -74,15 +74,11 @@ fn draw_one<V: Vertices>(
     let own = vertices.first(draw.vertices);
     match indices {
         BatchIndices::Words(all) => {
-            let indices = Words {
-                indices: &all[..draw.indices],
-            };
+            let indices = &all[..draw.indices];
             draw_primitives(piece, draw, own, indices, origin, ids, has_alpha)
         }
         BatchIndices::Halves(all) => {
-            let indices = Halves {
-                indices: &all[..draw.indices],
-            };
+            let indices = &all[..draw.indices];
             draw_primitives(piece, draw, own, indices, origin, ids, has_alpha)
         }
         BatchIndices::InOrder => {
@@ -187,10 +183,7 @@ pub fn draw_batch(
     ensures same { piece.new.planes.ghost_name ≡ piece.old.planes.ghost_name }
 {
     match vertices {
-        BatchVertices::Packed(all) => {
-            let vertices = Packed { vertices: all };
-            draw_all(piece, draws, &vertices, indices, origin, ids, has_alpha)
-        }
+        BatchVertices::Packed(all) => draw_all(piece, draws, all, indices, origin, ids, has_alpha),
         BatchVertices::Strided(bytes, stride) => {
             let vertices = Strided::new(bytes, *stride);
             draw_all(piece, draws, &vertices, indices, origin, ids, has_alpha)

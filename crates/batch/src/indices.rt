@@ -69,42 +69,32 @@ pub(crate) trait Indices: Drop {
 }
 
 /// Indices of 32 bits.
-#[derive(Drop)]
-pub(crate) struct Words<'a> {
-    pub(crate) indices: &'a [u32],
-}
-
-impl Indices for Words<'_> {
-    ghost listed = { λ s. s.indices.now };
+impl Indices for &[u32] {
+    ghost listed = { λ s. s.now };
 
     #[inline(always)]
     fn count(&self) -> usize {
-        self.indices.len()
+        self.len()
     }
 
     #[inline(always)]
     fn at(&self, place: usize) -> usize {
-        self.indices[place] as usize
+        self[place] as usize
     }
 }
 
 /// Indices of 16 bits.
-#[derive(Drop)]
-pub(crate) struct Halves<'a> {
-    pub(crate) indices: &'a [u16],
-}
-
-impl Indices for Halves<'_> {
-    ghost listed = { λ s. s.indices.now };
+impl Indices for &[u16] {
+    ghost listed = { λ s. s.now };
 
     #[inline(always)]
     fn count(&self) -> usize {
-        self.indices.len()
+        self.len()
     }
 
     #[inline(always)]
     fn at(&self, place: usize) -> usize {
-        usize::from(self.indices[place])
+        usize::from(self[place])
     }
 }
 

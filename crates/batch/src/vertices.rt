@@ -43,35 +43,26 @@ pub(crate) trait Vertices: Copy {
 }
 
 /// Vertices one at the end of another.
-#[derive(Clone, Copy)]
-pub(crate) struct Packed<'a> {
-    pub(crate) vertices: &'a [BatchVertex],
-}
-
-impl Vertices for Packed<'_> {
-    ghost listed = { λ s. s.vertices.now };
+impl Vertices for &[BatchVertex] {
+    ghost listed = { λ s. s.now };
 
     #[inline(always)]
     fn count(&self) -> usize {
-        self.vertices.len()
+        self.len()
     }
 
     #[inline(always)]
     fn at(&self, index: usize) -> BatchVertex {
-        self.vertices[index]
+        self[index]
     }
 
     #[inline(always)]
     fn first(&self, count: usize) -> Self {
-        Packed {
-            vertices: &self.vertices[..count],
-        }
+        &self[..count]
     }
 
     #[inline(always)]
     fn behind(&self, count: usize) -> Self {
-        Packed {
-            vertices: &self.vertices[count..],
-        }
+        &self[count..]
     }
 }

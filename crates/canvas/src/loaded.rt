@@ -160,62 +160,6 @@ impl TileRows {
             );
         }
     }
-
-    /// Stores a picture in place of the colours of all samples, as `Piece::load` does.
-    fn load_all(
-        &self,
-        bytes: &[u8],
-        format: Format,
-        stride: usize,
-        alpha: bool,
-        samples: &mut [BlockSamples],
-    ) -> Result<(), Misfit>
-        requires { length samples.old ≡ planes_of_rows self.now.canvas self.now.first self.now.end }
-        ensures fits { IsOk result ↔ IsLargeEnough self.now.canvas self.now.first self.now.end (pixel_bytes format)
-            stride (length bytes.now) }
-        ensures loaded { OnOk result (AreLoaded self.now.canvas self.now.first self.now.end bytes.now format stride
-            alpha samples.old samples.new) }
-        ensures unfit { OnErr result (samples.new ≡ samples.old) }
-        ensures reason { IfErr result (λ misfit. misfit ≡ Misfit.Pixels) }
-    {
-        let rows = self.pixel_rows(format.pixel_bytes(), stride, bytes.len())?;
-        let all = Indices {
-            first: 0,
-            end: self.canvas.count.count(),
-            alpha,
-        };
-        self.store_rows(&rows, all, bytes, format, samples);
-        Ok(())
-    }
-
-    /// Stores a picture in place of the colours of the samples `s`, as `Piece::store` does.
-    fn store_all(
-        &self,
-        s: u32,
-        bytes: &[u8],
-        format: Format,
-        stride: usize,
-        alpha: bool,
-        samples: &mut [BlockSamples],
-    ) -> Result<(), Misfit>
-        requires { length samples.old ≡ planes_of_rows self.now.canvas self.now.first self.now.end }
-        ensures fits { IsOk result ↔ FitEntries self.now.canvas self.now.first self.now.end s (pixel_bytes format)
-            stride (length bytes.now) }
-        ensures stored { OnOk result (AreStored self.now.canvas self.now.first self.now.end s bytes.now format stride
-            alpha samples.old samples.new) }
-        ensures unfit { OnErr result (samples.new ≡ samples.old) }
-        ensures reason { IfErr result (IsEntriesMisfit self.now.canvas self.now.first self.now.end s
-            (pixel_bytes format) stride (length bytes.now)) }
-    {
-        let rows = self.entry_rows(s, format.pixel_bytes(), stride, bytes.len())?;
-        let one = Indices {
-            first: s,
-            end: s + 1,
-            alpha,
-        };
-        self.store_rows(&rows, one, bytes, format, samples);
-        Ok(())
-    }
 }
 
 impl Piece<'_> {
@@ -238,8 +182,16 @@ impl Piece<'_> {
         ensures rows { self.new.rows ≡ self.old.rows }
         ensures same { self.new.planes.ghost_name ≡ self.old.planes.ghost_name }
     {
-        self.rows
-            .load_all(bytes, format, stride, alpha, self.planes)
+        let rows = self
+            .rows
+            .pixel_rows(format.pixel_bytes(), stride, bytes.len())?;
+        let all = Indices {
+            first: 0,
+            end: self.rows.canvas.count.count(),
+            alpha,
+        };
+        self.rows.store_rows(&rows, all, bytes, format, self.planes);
+        Ok(())
     }
 
     /// Stores a picture in place of the colours of one sample index: sample `s` of each pixel of the picture in these
@@ -263,7 +215,15 @@ impl Piece<'_> {
         ensures rows { self.new.rows ≡ self.old.rows }
         ensures same { self.new.planes.ghost_name ≡ self.old.planes.ghost_name }
     {
-        self.rows
-            .store_all(s, bytes, format, stride, alpha, self.planes)
+        let rows = self
+            .rows
+            .entry_rows(s, format.pixel_bytes(), stride, bytes.len())?;
+        let one = Indices {
+            first: s,
+            end: s + 1,
+            alpha,
+        };
+        self.rows.store_rows(&rows, one, bytes, format, self.planes);
+        Ok(())
     }
 }

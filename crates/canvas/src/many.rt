@@ -27,8 +27,6 @@ fn draw_some<T: Triangles, const N: usize>(
     tile: &Tile,
     samples: &mut [BlockSamples],
 )
-    requires fits { list.now.count ≤ N }
-    requires whole { N % 16 ≡ 0 }
     requires place { from % 16 ≡ 0 }
     requires from { from < list.now.count }
     requires column { column < 64 }
@@ -67,9 +65,6 @@ impl Canvas {
     )
         requires column { column < columns_of self.now }
         requires row { row < rows_of self.now }
-        requires fits { list.now.count ≤ N }
-        requires whole { N % 16 ≡ 0 }
-        requires few { N ≤ 65536 }
         requires list { AreOfRow (T.listed triangles.now) self.now row (length (T.listed triangles.now))
             list.now.numbers list.now.columns.firsts list.now.columns.ends list.now.count list.now.span }
         requires tile { (tile.now.bx ≡ 8 * column) × (tile.now.by ≡ 8 * row) × (tile.now.side ≡ T64) ×
@@ -95,9 +90,6 @@ impl Canvas {
         samples: &mut [BlockSamples],
     )
         requires row { row < rows_of self.now }
-        requires fits { list.now.count ≤ N }
-        requires whole { N % 16 ≡ 0 }
-        requires few { N ≤ 65536 }
         requires list { AreOfRow (T.listed triangles.now) self.now row (length (T.listed triangles.now))
             list.now.numbers list.now.columns.firsts list.now.columns.ends list.now.count list.now.span }
         requires samples { length samples.old ≡ planes_of_row self.now }

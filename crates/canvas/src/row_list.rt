@@ -19,6 +19,9 @@ pub(crate) struct RowList<const N: usize> {
     pub(crate) count: usize,
     /// The columns of tiles from the first that any of them can meet to the last.
     pub(crate) span: Span,
+    pub(crate) ghost fits: { count ≤ N },
+    pub(crate) ghost whole: { N % 16 ≡ 0 },
+    pub(crate) ghost few: { N ≤ 65536 },
 }
 
 impl<const N: usize> RowList<N> {
@@ -62,8 +65,6 @@ impl<const N: usize> RowList<N> {
     )
         requires row { row < rows_of canvas.now }
         requires few { length (T.listed triangles.now) ≤ N }
-        requires most { N ≤ 65536 }
-        requires whole { N % 16 ≡ 0 }
         requires place { from % 16 ≡ 0 }
         requires from { from < length (T.listed triangles.now) }
         requires bounds { AreBounds (T.listed triangles.now) (length (T.listed triangles.now)) bounds.now.columns.firsts
@@ -72,7 +73,6 @@ impl<const N: usize> RowList<N> {
         requires before { AreOfRow (T.listed triangles.now) canvas.now row from self.old.numbers self.old.columns.firsts
             self.old.columns.ends self.old.count self.old.span }
         ensures count { self.new.count ≤ from + 16 }
-        ensures fits { self.new.count ≤ N }
         ensures after { AreOfRow (T.listed triangles.now) canvas.now row (from + 16) self.new.numbers
             self.new.columns.firsts self.new.columns.ends self.new.count self.new.span }
     {
@@ -100,11 +100,8 @@ impl<const N: usize> RowList<N> {
     )
         requires row { row < rows_of canvas.now }
         requires few { length (T.listed triangles.now) ≤ N }
-        requires most { N ≤ 65536 }
-        requires whole { N % 16 ≡ 0 }
         requires bounds { AreBounds (T.listed triangles.now) (length (T.listed triangles.now)) bounds.now.columns.firsts
             bounds.now.columns.ends bounds.now.rows.firsts bounds.now.rows.ends bounds.now.span }
-        ensures fits { self.new.count ≤ N }
         ensures row { AreOfRow (T.listed triangles.now) canvas.now row (length (T.listed triangles.now))
             self.new.numbers self.new.columns.firsts self.new.columns.ends self.new.count self.new.span }
     {

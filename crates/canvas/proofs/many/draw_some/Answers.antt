@@ -43,5 +43,5 @@ loop-bit-preserved g c =
           start c.loop-bit.samples (c.loop-bit.invariant.drawn none start before)) in
           subst (λ n. TileHasEnds (take n us) tile start c.draw_triangle.new.samples) sum
           (tile_one ts none list.numbers list.columns.firsts list.columns.ends list.count c.args.column tile c.requires.below c.requires.columns
-          (from + bit) c.triangle-triangle.result start c.loop-bit.samples c.draw_triangle.new.samples within (omega (arith, c.requires.fits)) found up_to_here c.draw_triangle.ensures);
+          (from + bit) c.triangle-triangle.result start c.loop-bit.samples c.draw_triangle.new.samples within (omega (arith, list.fits)) found up_to_here c.draw_triangle.ensures);
     }

@@ -22,7 +22,7 @@ draw_some-requires g c =
     let self = c.args.self.now in
     let narrow : c.args.column < 64 = omega (arith, c.requires.column, self.width_fits) in
     let columns = columns_of_tile (g.T.Triangles.listed c.args.triangles.now) self c.args.row c.args.column list.numbers list.columns.firsts list.columns.ends list.count list.span c.requires.list c.args.tile.now c.requires.tile c.requires.column in
-    (search rules, (c.requires.fits, (c.requires.whole, (c.loop-from.invariant.place, (c.loop-from-test.true, (narrow, (c.requires.list.below, (columns, rw (c.requires.tile.2, c.requires.tile.3) (omega (arith, c.requires.samples, c.fill_tile.auto.samples, c.loop-from.auto.samples, c.count.ensures))))))))))
+    (search rules, (c.loop-from.invariant.place, (c.loop-from-test.true, (narrow, (c.requires.list.below, (columns, rw (c.requires.tile.2, c.requires.tile.3) (omega (arith, c.requires.samples, c.fill_tile.auto.samples, c.loop-from.auto.samples, c.count.ensures))))))))
 
 pub loop-from-preserved : goal.loop-from-preserved
 loop-from-preserved g c =

@@ -52,6 +52,5 @@ loop-bit-preserved g c =
     record {
       most = omega (arith, below);
       count = omega (arith, count, order, c.loop-bit.invariant.count);
-      fits = omega (arith, count, order, within, c.requires.few, c.loop-bit.invariant.count);
       row = subst (λ n. AreOfRow ts canvas c.args.row (from + (bit + 1)) new.numbers new.columns.firsts new.columns.ends n new.span) (sym count) counted;
     }

@@ -6,7 +6,6 @@ abbrev pub invariant-loop-bit : goal.invariant-loop-bit
 invariant-loop-bit g l = record {
   most : l.next ≤ 16;
   count : l.self.count ≤ l.from + l.next;
-  fits : l.self.count ≤ g.row.N;
   row : AreOfRow (g.T.Triangles.listed l.triangles) l.canvas l.row (l.from + l.next) l.self.numbers l.self.columns.firsts l.self.columns.ends l.self.count l.self.span;
 }
 

@@ -6,7 +6,6 @@ abbrev pub invariant-loop-from : goal.invariant-loop-from
 invariant-loop-from g l = record {
   place : l.from % 16 ≡ 0;
   count : l.self.count ≤ l.from;
-  fits : l.self.count ≤ g.row.N;
   row : AreOfRow (g.T.Triangles.listed l.triangles) l.canvas l.row l.from l.self.numbers l.self.columns.firsts l.self.columns.ends l.self.count l.self.span;
 }
 
