@@ -99,28 +99,21 @@ fn triangle_asked(triangle: &str, form: Form) -> Result<Question, LineFault> {
     Ok(Question::Triangle(AskedTriangle { place, form }))
 }
 
+/// The option `--NAME`.
+fn option(alloc: Global, name: &'static str, action: ArgAction) -> Arg<'static> {
+    Arg::new(alloc, name).long(name).action(action)
+}
+
 /// What the arguments ask for. The first argument is the program's name. Either a pixel or a triangle is asked for, and
 /// of a triangle neither one sample nor all triangles.
 pub fn read_arguments<'a>(alloc: Global, arguments: &'a [&'a str]) -> Result<Question, LineFault> {
     let pixel = Arg::new(alloc, "pixel").action(ArgAction::Set);
-    let sample = Arg::new(alloc, "sample")
-        .long("sample")
-        .action(ArgAction::Set);
-    let triangle = Arg::new(alloc, "triangle")
-        .long("triangle")
-        .action(ArgAction::Set);
-    let all = Arg::new(alloc, "all")
-        .long("all")
-        .action(ArgAction::SetTrue);
-    let json = Arg::new(alloc, "json")
-        .long("json")
-        .action(ArgAction::SetTrue);
     let command = Command::new(alloc, "trirast_why")
         .arg(pixel)?
-        .arg(sample)?
-        .arg(triangle)?
-        .arg(all)?
-        .arg(json)?;
+        .arg(option(alloc, "sample", ArgAction::Set))?
+        .arg(option(alloc, "triangle", ArgAction::Set))?
+        .arg(option(alloc, "all", ArgAction::SetTrue))?
+        .arg(option(alloc, "json", ArgAction::SetTrue))?;
     let matches = command.try_get_matches_from(arguments)?;
     let form = if matches.get_flag("json") {
         Form::Json
