@@ -22,6 +22,7 @@ use crate::edge::Edge;
 use crate::rings::Rings;
 use crate::rule::Rule;
 use crate::runs::Runs;
+use crate::starts::Starts;
 use crate::strip::{Strip, point_at};
 use crate::walk::{EdgeWalk, first_column};
 use grid::Point;
@@ -151,14 +152,14 @@ fn plot_samples(
     rule: Rule,
     edge: &Edge,
     forward: bool,
-    strip: &Strip,
+    starts: &Starts,
 )
     requires runs_down { edge.now.a.y ≤ℤ edge.now.b.y }
     requires counters { HasCounters rule flags.old counters.old }
-    ensures { IsPlotted rule strip.now (λ p. signed forward (direction edge.now p)) flags.old counters.old flags.new
+    ensures { IsPlotted rule starts.now.strip (λ p. signed forward (direction edge.now p)) flags.old counters.old flags.new
         counters.new }
 {
-    for s in 0..strip.count.part_size() {
+    for s in 0..starts.strip.count.part_size() {
         plot_sample(
             flags,
             counters,
@@ -166,24 +167,30 @@ fn plot_samples(
             edge,
             forward,
             s as usize,
-            strip.start(s),
+            starts.of(s as usize),
         );
     }
 }
 
 /// Counts an edge in the rows of a strip.
-fn plot_edge(flags: &mut [Flags], counters: &mut [Counters], rule: Rule, edge: Edge, strip: &Strip)
+fn plot_edge(
+    flags: &mut [Flags],
+    counters: &mut [Counters],
+    rule: Rule,
+    edge: Edge,
+    starts: &Starts,
+)
     requires { HasCounters rule flags.old counters.old }
-    ensures { IsPlotted rule strip.now (λ p. direction edge p) flags.old counters.old flags.new counters.new }
+    ensures { IsPlotted rule starts.now.strip (λ p. direction edge p) flags.old counters.old flags.new counters.new }
 {
-    if is_apart(&edge, strip, flags.len()) {
+    if is_apart(&edge, &starts.strip, flags.len()) {
         return;
     }
     if edge.a.y() <= edge.b.y() {
-        plot_samples(flags, counters, rule, &edge, true, strip);
+        plot_samples(flags, counters, rule, &edge, true, starts);
     } else {
         let downwards = edge.reversed();
-        plot_samples(flags, counters, rule, &downwards, false, strip);
+        plot_samples(flags, counters, rule, &downwards, false, starts);
     }
 }
 
@@ -194,18 +201,18 @@ fn plot_path(
     rule: Rule,
     from: Point,
     corners: &[Corner],
-    strip: &Strip,
+    starts: &Starts,
 ) -> Point
     requires counters { HasCounters rule flags.old counters.old }
     requires corners { AreCornersInBand corners.now }
-    ensures plotted { IsPlotted rule strip.now (λ p. winding (path_edges from (map position_of corners.now)) p)
+    ensures plotted { IsPlotted rule starts.now.strip (λ p. winding (path_edges from (map position_of corners.now)) p)
         flags.old counters.old flags.new counters.new }
     ensures end { result ≡ path_end from (map position_of corners.now) }
 {
     let mut from = from;
     for corner in corners {
         let to = corner.at();
-        plot_edge(flags, counters, rule, Edge { a: from, b: to }, strip);
+        plot_edge(flags, counters, rule, Edge { a: from, b: to }, starts);
         from = to;
     }
     from
@@ -220,24 +227,24 @@ fn plot_run(
     from: Point,
     corners: &[Corner],
     is_beside: bool,
-    strip: &Strip,
+    starts: &Starts,
 ) -> Point
     requires counters { HasCounters rule flags.old counters.old }
     requires corners { AreCornersInBand corners.now }
     requires chord { IsTrue is_beside → (s row k : ℕ) → row < 64 → k < 8 * length flags.old →
-        IsCrossedAsChord from (map position_of corners.now) (strip_sample strip.now s row k) }
-    ensures plotted { IsPlotted rule strip.now (λ p. winding (path_edges from (map position_of corners.now)) p)
+        IsCrossedAsChord from (map position_of corners.now) (strip_sample starts.now.strip s row k) }
+    ensures plotted { IsPlotted rule starts.now.strip (λ p. winding (path_edges from (map position_of corners.now)) p)
         flags.old counters.old flags.new counters.new }
     ensures end { result ≡ path_end from (map position_of corners.now) }
 {
     if !is_beside {
-        return plot_path(flags, counters, rule, from, corners, strip);
+        return plot_path(flags, counters, rule, from, corners, starts);
     }
     match corners {
         [] => from,
         [.., last] => {
             let end = last.at();
-            plot_edge(flags, counters, rule, Edge { a: from, b: end }, strip);
+            plot_edge(flags, counters, rule, Edge { a: from, b: end }, starts);
             end
         }
     }
@@ -253,7 +260,7 @@ fn plot_runs(
     runs: &Runs,
     begin: usize,
     end: usize,
-    strip: &Strip,
+    starts: &Starts,
 ) -> Point
     requires counters { HasCounters rule flags.old counters.old }
     requires runs { AreRunsOf runs.now rings.now }
@@ -261,7 +268,7 @@ fn plot_runs(
     requires some { begin < end }
     requires last { end ≤ end_of rings.now.start rings.now.ends.now }
     requires within { end ≤ length rings.now.corners.now }
-    ensures plotted { IsPlotted rule strip.now
+    ensures plotted { IsPlotted rule starts.now.strip
         (λ p. winding (path_edges (corner_at rings.now.corners.now begin)
         (corners_between rings.now.corners.now (begin + 1) end)) p) flags.old counters.old flags.new counters.new }
     ensures end { result ≡ path_end (corner_at rings.now.corners.now begin)
@@ -274,8 +281,8 @@ fn plot_runs(
         let (run, held) = runs.run_of(next - 1 - start);
         let behind = end.min(start + held);
         let corners = &rings.corners[next..behind];
-        let is_beside = runs.is_beside(run, strip, flags.len());
-        from = plot_run(flags, counters, rule, from, corners, is_beside, strip);
+        let is_beside = runs.is_beside(run, &starts.strip, flags.len());
+        from = plot_run(flags, counters, rule, from, corners, is_beside, starts);
         next = behind;
     }
     from
@@ -290,20 +297,20 @@ fn plot_ring(
     runs: &Runs,
     begin: usize,
     end: usize,
-    strip: &Strip,
+    starts: &Starts,
 )
     requires counters { HasCounters rule flags.old counters.old }
     requires runs { AreRunsOf runs.now rings.now }
     requires first { rings.now.start ≤ begin }
     requires last { end ≤ end_of rings.now.start rings.now.ends.now }
     requires within { end ≤ length rings.now.corners.now }
-    ensures { IsPlotted rule strip.now (λ p. winding (ring_edges (corners_between rings.now.corners.now begin end)) p)
+    ensures { IsPlotted rule starts.now.strip (λ p. winding (ring_edges (corners_between rings.now.corners.now begin end)) p)
         flags.old counters.old flags.new counters.new }
 {
     if begin < end {
         let first = rings.corners[begin].at();
-        let last = plot_runs(flags, counters, rule, rings, runs, begin, end, strip);
-        plot_edge(flags, counters, rule, Edge { a: last, b: first }, strip);
+        let last = plot_runs(flags, counters, rule, rings, runs, begin, end, starts);
+        plot_edge(flags, counters, rule, Edge { a: last, b: first }, starts);
     }
 }
 
@@ -322,10 +329,11 @@ pub fn plot(
         (λ p. winding (polygon_edges (rings_from rings.now.corners.now rings.now.start rings.now.ends.now)) p) flags.old
         counters.old flags.new counters.new }
 {
+    let starts = Starts::new(strip);
     let mut begin = rings.start as usize;
     for ring_end in rings.ends {
         let end = *ring_end as usize;
-        plot_ring(flags, counters, rule, rings, runs, begin, end, strip);
+        plot_ring(flags, counters, rule, rings, runs, begin, end, &starts);
         begin = end;
     }
 }

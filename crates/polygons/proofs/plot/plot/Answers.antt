@@ -36,7 +36,7 @@ loop-ring_end-preserved c =
     record {
       plotted = plotted_both c.args.rule c.args.strip.now _ _ _ _ _ _ _ _ _
           (λ p. one_more (winding (polygon_edges (rings_from rings.corners.now rings.start rings.ends.now)) p) _ _ _ (ring_step rings.corners.now c.loop-ring_end.begin rings.ends.now i p c.loop-ring_end-test.true))
-          v.plotted c.plot_ring.ensures;
+          v.plotted (rw c.new-starts.ensures at c.plot_ring.ensures);
       place = sym (next_start rings.start rings.ends.now i);
     }
 

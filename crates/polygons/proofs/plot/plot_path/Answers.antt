@@ -22,7 +22,7 @@ at-to-requires c = All-get_or (λ k. IsInGuardBand (position_of k)) c.args.corne
 
 pub loop-corner-init : goal.loop-corner-init
 loop-corner-init c = record {
-  plotted = plotted_none c.args.rule c.args.strip.now _ c.args.flags.now c.args.counters.now (λ p. nothing_yet (winding (path_edges c.args.from (map position_of c.args.corners.now)) p));
+  plotted = plotted_none c.args.rule c.args.starts.now.strip _ c.args.flags.now c.args.counters.now (λ p. nothing_yet (winding (path_edges c.args.from (map position_of c.args.corners.now)) p));
   end = refl;
 }
 
@@ -43,7 +43,7 @@ loop-corner-preserved c =
     let small = inside corners i c.loop-corner-test.true in
     let item = item_of to corners i c.loop-corner-test.true c.at-to.ensures in
     record {
-      plotted = plotted_both c.args.rule c.args.strip.now _ _ _ _ _ _ _ _ _
+      plotted = plotted_both c.args.rule c.args.starts.now.strip _ _ _ _ _ _ _ _ _
           (λ p. one_more (winding (path_edges c.args.from cs) p) _ _ _ (path_step from to cs i p small item))
           v.plotted c.plot_edge.ensures;
       end = v.end ∙ end_step from to cs i small item;
@@ -56,7 +56,7 @@ returns c =
     let past : length cs ≤ c.loop-corner.corner-index = omega (arith, length-map c.args.corners.now position_of, c.loop-corner-test.false) in
     let none = none_left cs c.loop-corner.corner-index past in
     record {
-      plotted = plotted_as c.args.rule c.args.strip.now _ _ _ _ _ _
+      plotted = plotted_as c.args.rule c.args.starts.now.strip _ _ _ _ _ _
           (λ p. nothing_left (winding (path_edges c.args.from cs) p) _ (ap (λ (r : List Position). winding (path_edges c.loop-corner.from r) p) none))
           v.plotted;
       end = sym_end (path_end c.loop-corner.from (drop c.loop-corner.corner-index cs)) v.end (ap (path_end c.loop-corner.from) none);

@@ -15,7 +15,7 @@ few s n m h e k = omega arith
 pub plot_sample-requires : goal.plot_sample-requires
 plot_sample-requires c = record {
   runs_down = c.requires.runs_down;
-  sample = few _ _ _ c.loop-s-test.true c.part_size-s-end.ensures (part_small c.args.strip.now.count);
+  sample = few _ _ _ c.loop-s-test.true c.part_size-s-end.ensures (part_small c.args.starts.now.strip.count);
   counters = has_counters c.args.rule c.args.flags.now c.args.counters.now c.loop-s.flags c.loop-s.counters c.loop-s.invariant.flags_len c.loop-s.invariant.counters_len c.requires.counters;
 }
 
@@ -26,16 +26,16 @@ loop-s-preserved c =
     let p = c.plot_sample.ensures in
     let e = c.args.edge.now in
     let m = modulus c.args.rule in
-    let n_small = few _ _ _ c.loop-s-test.true c.part_size-s-end.ensures (part_small c.args.strip.now.count) in
+    let n_small = few _ _ _ c.loop-s-test.true c.part_size-s-end.ensures (part_small c.args.starts.now.strip.count) in
     record {
       flags_len = p.flags ∙ v.flags_len;
       counters_len = p.counters ∙ v.counters_len;
       done = λ s row k f g h i. elim (cases_eq s n) [
         | inl q ↦
             let a = p.here row k h (let l = v.flags_len in omega arith) in
-            let d = ap (λ (z : Position). signed c.args.forward (direction e (along (down z row) (pos k)))) c.start.ensures in
+            let d = ap (λ (z : Position). signed c.args.forward (direction e (along (down z row) (pos k)))) c.of.ensures in
             let at_n = alike_from m _ _ _ _ _ _ refl (v.rest n row k (omega arith) n_small h) d a in
-            subst (λ (j : ℕ). IsAlike m (running_sum c.args.rule c.plot_sample.new.flags c.plot_sample.new.counters j row k) (running_sum c.args.rule c.args.flags.now c.args.counters.now j row k +ℤ signed c.args.forward (direction e (strip_sample c.args.strip.now j row k)))) (sym q) at_n
+            subst (λ (j : ℕ). IsAlike m (running_sum c.args.rule c.plot_sample.new.flags c.plot_sample.new.counters j row k) (running_sum c.args.rule c.args.flags.now c.args.counters.now j row k +ℤ signed c.args.forward (direction e (strip_sample c.args.starts.now.strip j row k)))) (sym q) at_n
         | inr q ↦ alike_moved m _ _ _ (sym (p.others s row k g h q)) (v.done s row k (before_of s n f q) g h i)
       ];
       rest = λ s row k f g h. p.others s row k g h (λ x. omega arith) ∙ v.rest s row k (omega arith) g h;
@@ -50,7 +50,7 @@ returns c =
     record {
       flags_len = v.flags_len;
       counters_len = v.counters_len;
-      totals = λ s row k f g h. v.done s row k (within s _ _ _ f all c.part_size-s-end.ensures) (few s _ _ f refl (part_small c.args.strip.now.count)) g h;
+      totals = λ s row k f g h. v.done s row k (within s _ _ _ f all c.part_size-s-end.ensures) (few s _ _ f refl (part_small c.args.starts.now.strip.count)) g h;
       marked = v.marked;
       kept = v.kept;
     }
