@@ -4,15 +4,14 @@ ghost use Rattle.std.specs.Prelude.{◌≡◌, ℕ, ◌+◌, ◌*◌, ◌^◌, �
 ghost use Rattle.grid.specs.Position.{Position, IsInBand};
 ghost use Rattle.grid.specs.Samples.{part_size};
 ghost use Rattle.polygons.specs.Blocks.{down};
-ghost use Rattle.polygons.specs.Columns.{along, HasHeight};
+ghost use Rattle.polygons.specs.Columns.{HasHeight};
 ghost use Rattle.polygons.specs.Crossing.{winding};
 ghost use Rattle.polygons.specs.Polygon.{path_edges, path_end, ring_edges, polygon_edges};
 ghost use Rattle.polygons.specs.Rings.{position_of, rings_from, end_of, AreCornersInBand};
 ghost use Rattle.polygons.specs.Runs.{corner_at, corners_between, AreRunsOf, IsCrossedAsChord};
 ghost use Rattle.polygons.specs.Strip.{strip_sample};
 ghost use Rattle.polygons.specs.Rows.{direction};
-ghost use Rattle.polygons.specs.Cells.{running_sum, modulus, signed, IsAlike, HasCounters, AreMarked, IsPlotted};
-ghost use Rattle.polygons.specs.declared.rule.Rule.TheVariants.{EvenOdd};
+ghost use Rattle.polygons.specs.Cells.{signed, added_by, HasCounters, IsAdded, IsPlotted};
 
 use crate::apart::is_apart;
 use crate::cells::{Counters, Flags, cross};
@@ -53,16 +52,7 @@ fn plot_sample(
     requires runs_down { edge.now.a.y ≤ℤ edge.now.b.y }
     requires sample { s < 4 }
     requires counters { HasCounters rule flags.old counters.old }
-    ensures flags { length flags.new ≡ length flags.old }
-    ensures counters { length counters.new ≡ length counters.old }
-    ensures here { (row k : ℕ) → row < 64 → k < 8 * length flags.old →
-        IsAlike (modulus rule) (running_sum rule flags.new counters.new s row k)
-        (running_sum rule flags.old counters.old s row k +ℤ signed forward
-        (direction edge.now (along (down start row) (pos k)))) }
-    ensures others { (r row k : ℕ) → r < 4 → row < 64 → (r ≡ s → ⊥) →
-        running_sum rule flags.new counters.new r row k ≡ running_sum rule flags.old counters.old r row k }
-    ensures marked { AreMarked rule flags.old counters.old → AreMarked rule flags.new counters.new }
-    ensures kept { rule ≡ EvenOdd → counters.new ≡ counters.old }
+    ensures { IsAdded rule s 0 64 (added_by edge.now forward start) flags.old counters.old flags.new counters.new }
 {
     let first = first_row(start.y(), edge.a.y());
     let end = first_row(start.y(), edge.b.y());
@@ -87,16 +77,7 @@ fn plot_row(
     requires through { HasHeight edge.now (down start row).y }
     requires sample { s < 4 }
     requires counters { HasCounters rule flags.old counters.old }
-    ensures flags { length flags.new ≡ length flags.old }
-    ensures counters { length counters.new ≡ length counters.old }
-    ensures here { (k : ℕ) → k < 8 * length flags.old →
-        IsAlike (modulus rule) (running_sum rule flags.new counters.new s row k)
-        (running_sum rule flags.old counters.old s row k +ℤ signed forward
-        (direction edge.now (along (down start row) (pos k)))) }
-    ensures others { (r j k : ℕ) → r < 4 → j < 64 → (r ≡ s → j ≡ row → ⊥) →
-        running_sum rule flags.new counters.new r j k ≡ running_sum rule flags.old counters.old r j k }
-    ensures marked { AreMarked rule flags.old counters.old → AreMarked rule flags.new counters.new }
-    ensures kept { rule ≡ EvenOdd → counters.new ≡ counters.old }
+    ensures { IsAdded rule s row (row + 1) (added_by edge.now forward start) flags.old counters.old flags.new counters.new }
 {
     let place = point_at(start.x(), start.y() + 256 * row as i32);
     let column = first_column(edge, place);
@@ -121,16 +102,7 @@ fn plot_rows(
     requires through { (r : ℕ) → first ≤ r → r < end → HasHeight edge.now (down start r).y }
     requires sample { s < 4 }
     requires counters { HasCounters rule flags.old counters.old }
-    ensures flags { length flags.new ≡ length flags.old }
-    ensures counters { length counters.new ≡ length counters.old }
-    ensures here { (row k : ℕ) → first ≤ row → row < end → k < 8 * length flags.old →
-        IsAlike (modulus rule) (running_sum rule flags.new counters.new s row k)
-        (running_sum rule flags.old counters.old s row k +ℤ signed forward
-        (direction edge.now (along (down start row) (pos k)))) }
-    ensures others { (r row k : ℕ) → r < 4 → row < 64 → (r ≡ s → first ≤ row → row < end → ⊥) →
-        running_sum rule flags.new counters.new r row k ≡ running_sum rule flags.old counters.old r row k }
-    ensures marked { AreMarked rule flags.old counters.old → AreMarked rule flags.new counters.new }
-    ensures kept { rule ≡ EvenOdd → counters.new ≡ counters.old }
+    ensures { IsAdded rule s first end (added_by edge.now forward start) flags.old counters.old flags.new counters.new }
 {
     if first + 1 == end {
         plot_row(flags, counters, rule, edge, forward, s, start, first);

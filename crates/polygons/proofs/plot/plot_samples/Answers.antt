@@ -28,17 +28,17 @@ loop-s-preserved c =
     let m = modulus c.args.rule in
     let n_small = few _ _ _ c.loop-s-test.true c.part_size-s-end.ensures (part_small c.args.starts.now.strip.count) in
     record {
-      flags_len = p.flags ∙ v.flags_len;
-      counters_len = p.counters ∙ v.counters_len;
+      flags_len = p.flags_len ∙ v.flags_len;
+      counters_len = p.counters_len ∙ v.counters_len;
       done = λ s row k f g h i. elim (cases_eq s n) [
         | inl q ↦
-            let a = p.here row k h (let l = v.flags_len in omega arith) in
+            let a = p.here row k (omega arith) h (let l = v.flags_len in omega arith) in
             let d = ap (λ (z : Position). signed c.args.forward (direction e (along (down z row) (pos k)))) c.of.ensures in
             let at_n = alike_from m _ _ _ _ _ _ refl (v.rest n row k (omega arith) n_small h) d a in
             subst (λ (j : ℕ). IsAlike m (running_sum c.args.rule c.plot_sample.new.flags c.plot_sample.new.counters j row k) (running_sum c.args.rule c.args.flags.now c.args.counters.now j row k +ℤ signed c.args.forward (direction e (strip_sample c.args.starts.now.strip j row k)))) (sym q) at_n
-        | inr q ↦ alike_moved m _ _ _ (sym (p.others s row k g h q)) (v.done s row k (before_of s n f q) g h i)
+        | inr q ↦ alike_moved m _ _ _ (sym (p.others s row k g h (λ x _ _. q x))) (v.done s row k (before_of s n f q) g h i)
       ];
-      rest = λ s row k f g h. p.others s row k g h (λ x. omega arith) ∙ v.rest s row k (omega arith) g h;
+      rest = λ s row k f g h. p.others s row k g h (λ x _ _. omega arith) ∙ v.rest s row k (omega arith) g h;
       marked = λ h. p.marked (v.marked h);
       kept = λ e. p.kept e ∙ v.kept e;
     }
