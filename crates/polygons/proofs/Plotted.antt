@@ -7,6 +7,7 @@ use Rattle.grid.proofs.Ring.{var, plus, times, ring}
 use Rattle.grid.specs.Samples.{part_size}
 use Rattle.grid.specs.declared.sample_count.SampleCount.{SampleCount}
 use Rattle.grid.specs.declared.sample_count.SampleCount.TheVariants.{One, Two, Four, Eight, Sixteen}
+use Rattle.polygons.specs.declared.cells.Cells.{Cells}
 use Rattle.polygons.specs.declared.edge.Edge.{Edge}
 use Rattle.polygons.specs.declared.rule.Rule.{Rule}
 use Rattle.polygons.specs.declared.rule.Rule.TheVariants.{EvenOdd, NonZero}
@@ -18,6 +19,7 @@ use Rattle.polygons.specs.Polygon.{path_edges, path_end, ring_edges, polygon_edg
 use Rattle.polygons.specs.Rows.{direction, from_column}
 use Rattle.polygons.specs.Strip.{strip_sample}
 use Rattle.polygons.specs.Cells.{modulus, signed, added_by, IsAlike, IsAdded, HasCounters, IsPlotted}
+use Rattle.polygons.specs.Plotting.{ArePlotted}
 use Rattle.polygons.proofs.Exact.{exact64}
 use Rattle.polygons.proofs.Counters.{direction-from, direction-none}
 use Rattle.polygons.proofs.Cancel.{one_down, one_up}
@@ -26,6 +28,10 @@ use Rattle.polygons.proofs.Counts.{downs-ring, ups-ring}
 pub has_counters : (rule : Rule) (f c f' c' : List (List ℕ)) → length f' ≡ length f → length c' ≡ length c → HasCounters rule f c → HasCounters rule f' c'
 has_counters EvenOdd f c f' c' e g h = tt
 has_counters NonZero f c f' c' e g h = g ∙ h ∙ sym e
+
+pub counted : (rule : Rule) (f c : List (List ℕ)) → (rule ≡ NonZero → length c ≡ length f) → HasCounters rule f c
+counted EvenOdd f c h = tt
+counted NonZero f c h = h refl
 
 -- the height of a row
 pub row_height : (y s : ℤ) (n : ℕ) → y ≡ s → n < 65 → IsInBand s → IsInBand (s +ℤ pos (256 * n))
@@ -134,32 +140,40 @@ added_all rule s first end number f c f' c' s_small above below h = record {
 }
 
 -- ---- what is added to a strip
-pub plotted_as : (rule : Rule) (strip : Strip) (f g : Position → ℤ) (a b c d : List (List ℕ)) → ((p : Position) → f p ≡ g p) → IsPlotted rule strip f a b c d → IsPlotted rule strip g a b c d
-plotted_as rule strip f g a b c d e h = record {
-  flags_len = h.flags_len;
-  counters_len = h.counters_len;
-  totals = λ s row k x y z. alike_from (modulus rule) _ _ _ _ _ _ refl refl (e (strip_sample strip s row k)) (h.totals s row k x y z);
-  marked = h.marked;
-  kept = h.kept;
+pub plotted_on : (strip : Strip) (f g : Position → ℤ) (a b : Cells) → ((s row k : ℕ) → row < 64 → k < 8 * length a.flags.now → f (strip_sample strip s row k) ≡ g (strip_sample strip s row k)) → ArePlotted strip f a b → ArePlotted strip g a b
+plotted_on strip f g a b e h = record {
+  plotted = record {
+    flags_len = h.plotted.flags_len;
+    counters_len = h.plotted.counters_len;
+    totals = λ s row k x y z. alike_from (modulus a.rule) _ _ _ _ _ _ refl refl (e s row k y z) (h.plotted.totals s row k x y z);
+    marked = h.plotted.marked;
+    kept = h.plotted.kept;
+  };
+  rule = h.rule;
+  same_flags = h.same_flags;
+  same_counters = h.same_counters;
 }
 
-pub plotted_on : (rule : Rule) (strip : Strip) (f g : Position → ℤ) (a b c d : List (List ℕ)) → ((s row k : ℕ) → row < 64 → k < 8 * length a → f (strip_sample strip s row k) ≡ g (strip_sample strip s row k)) → IsPlotted rule strip f a b c d → IsPlotted rule strip g a b c d
-plotted_on rule strip f g a b c d e h = record {
-  flags_len = h.flags_len;
-  counters_len = h.counters_len;
-  totals = λ s row k x y z. alike_from (modulus rule) _ _ _ _ _ _ refl refl (e s row k y z) (h.totals s row k x y z);
-  marked = h.marked;
-  kept = h.kept;
+pub plotted_as : (strip : Strip) (f g : Position → ℤ) (a b : Cells) → ((p : Position) → f p ≡ g p) → ArePlotted strip f a b → ArePlotted strip g a b
+plotted_as strip f g a b e h = plotted_on strip f g a b (λ s row k x y. e (strip_sample strip s row k)) h
+
+-- an edge that is crossed at no sample of the strip
+pub plotted_apart : (strip : Strip) (f : Position → ℤ) (a : Cells) → ((s row k : ℕ) → row < 64 → k < 8 * length a.flags.now → f (strip_sample strip s row k) ≡ pos 0) → ArePlotted strip f a a
+plotted_apart strip f a e = record {
+  plotted = record {
+    flags_len = refl;
+    counters_len = refl;
+    totals = λ s row k x y z. alike_none (modulus a.rule) _ _ _ refl (e s row k y z);
+    marked = λ h. h;
+    kept = λ e. refl;
+  };
+  rule = refl;
+  same_flags = refl;
+  same_counters = refl;
 }
 
-pub plotted_none : (rule : Rule) (strip : Strip) (f : Position → ℤ) (a b : List (List ℕ)) → ((p : Position) → f p ≡ pos 0) → IsPlotted rule strip f a b a b
-plotted_none rule strip f a b e = record {
-  flags_len = refl;
-  counters_len = refl;
-  totals = λ s row k x y z. alike_none (modulus rule) _ _ _ refl (e (strip_sample strip s row k));
-  marked = λ h. h;
-  kept = λ e. refl;
-}
+pub plotted_none : (strip : Strip) (f : Position → ℤ) (a : Cells) → ((p : Position) → f p ≡ pos 0) → ArePlotted strip f a a
+plotted_none strip f a e = plotted_apart strip f a (λ s row k x y. e (strip_sample strip s row k))
 
 pub times_sum : (n a b : ℤ) → n *ℤ (a +ℤ b) ≡ n *ℤ a +ℤ n *ℤ b
 times_sum n a b = ring (n ∷ a ∷ b ∷ []) (times (var 0) (plus (var 1) (var 2))) (plus (times (var 0) (var 1)) (times (var 0) (var 2))) refl
@@ -167,15 +181,22 @@ times_sum n a b = ring (n ∷ a ∷ b ∷ []) (times (var 0) (plus (var 1) (var 
 alike_both : (m : ℕ) (x y z u v w : ℤ) → IsAlike m x (y +ℤ u) → IsAlike m y (z +ℤ v) → w ≡ v +ℤ u → IsAlike m x (z +ℤ w)
 alike_both m x y z u v w h k e = record { times = h.times +ℤ k.times; is = let i = h.is in let j = k.is in let d = times_sum (pos m) h.times k.times in omega (arith, ints) }
 
-pub plotted_both : (rule : Rule) (strip : Strip) (f g both : Position → ℤ) (a b c d e i : List (List ℕ)) → ((p : Position) → both p ≡ f p +ℤ g p)
-    → IsPlotted rule strip f a b c d → IsPlotted rule strip g c d e i → IsPlotted rule strip both a b e i
-plotted_both rule strip f g both a b c d e i sum h k = record {
-  flags_len = k.flags_len ∙ h.flags_len;
-  counters_len = k.counters_len ∙ h.counters_len;
-  totals = λ s row j x y z. let p = strip_sample strip s row j in alike_both (modulus rule) _ _ _ _ _ (both p) (k.totals s row j x y (let l = h.flags_len in omega arith)) (h.totals s row j x y z) (sum p);
-  marked = λ l. k.marked (h.marked l);
-  kept = λ l. k.kept l ∙ h.kept l;
-}
+pub plotted_both : (strip : Strip) (f g both : Position → ℤ) (a b c : Cells) → ((p : Position) → both p ≡ f p +ℤ g p) → ArePlotted strip f a b → ArePlotted strip g b c → ArePlotted strip both a c
+plotted_both strip f g both a b c sum h k =
+    let first = h.plotted in
+    let then : IsPlotted a.rule strip g b.flags.now b.counters.now c.flags.now c.counters.now = subst (λ (r : Rule). IsPlotted r strip g b.flags.now b.counters.now c.flags.now c.counters.now) h.rule k.plotted in
+    record {
+      plotted = record {
+        flags_len = then.flags_len ∙ first.flags_len;
+        counters_len = then.counters_len ∙ first.counters_len;
+        totals = λ s row j x y z. let p = strip_sample strip s row j in alike_both (modulus a.rule) _ _ _ _ _ (both p) (then.totals s row j x y (let l = first.flags_len in omega arith)) (first.totals s row j x y z) (sum p);
+        marked = λ l. then.marked (first.marked l);
+        kept = λ l. then.kept l ∙ first.kept l;
+      };
+      rule = k.rule ∙ h.rule;
+      same_flags = k.same_flags ∙ h.same_flags;
+      same_counters = k.same_counters ∙ h.same_counters;
+    }
 
 -- ---- the edges of paths and rings
 pub winding-cons : (e : Edge) (es : List Edge) (p : Position) → winding (e ∷ es) p ≡ direction e p +ℤ winding es p
@@ -225,13 +246,3 @@ pub ring_closed : (ring : List Position) (first last : Position) (rest : List Po
     → (p : Position) → winding (ring_edges ring) p ≡ winding (path_edges first rest) p +ℤ direction (record { a = last; b = first }) p
 ring_closed ring first last rest is end p =
     ap (λ (r : List Position). winding (ring_edges r) p) is ∙ path_closed first first rest p ∙ ap (λ (q : Position). winding (path_edges first rest) p +ℤ direction (record { a = q; b = first }) p) (sym end)
-
--- an edge that is crossed at no sample of the strip
-pub plotted_apart : (rule : Rule) (strip : Strip) (f : Position → ℤ) (a b : List (List ℕ)) → ((s row k : ℕ) → s < part_size strip.count → row < 64 → k < 8 * length a → f (strip_sample strip s row k) ≡ pos 0) → IsPlotted rule strip f a b a b
-plotted_apart rule strip f a b e = record {
-  flags_len = refl;
-  counters_len = refl;
-  totals = λ s row k x y z. alike_none (modulus rule) _ _ _ refl (e s row k x y z);
-  marked = λ h. h;
-  kept = λ e. refl;
-}

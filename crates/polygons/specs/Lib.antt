@@ -133,6 +133,9 @@
 --   IsPlotted: To the sums at each sample of a strip a number was added, which depends on where the sample lies.
 --   AreZeros: All flags or counters are 0.
 --
+-- Plotting.antt
+--   ArePlotted: To the sums at each sample of a strip a number was added, which depends on where the sample lies.
+--
 -- Spreading.antt
 --   IsCarry: Of the rows of a word of 8 by 8 bits no more than the first bit of each is set.
 --   IsFilled: Each bit is the parity of the carry into its row and of the flags of the row up to it.
@@ -159,5 +162,6 @@ pub mod Strip
 pub mod Apart
 pub mod Runs
 pub mod Cells
+pub mod Plotting
 pub mod Spreading
 pub mod Summing

@@ -3,6 +3,7 @@
 //! each word, one for each bit.
 ghost use Rattle.std.specs.Prelude.{◌≡◌, ℕ, ◌+◌, ◌*◌, ◌%◌, ◌^◌, ◌<◌, pos, negsuc, ◌+ℤ◌, cond, length};
 ghost use Rattle.polygons.specs.Rows.{from_column};
+ghost use Rattle.polygons.specs.declared.rule.Rule.TheVariants.{NonZero};
 ghost use Rattle.polygons.specs.Cells.{flag_of, counter_at, signed, HasCounters, IsAdded};
 
 use crate::rule::Rule;
@@ -12,6 +13,15 @@ pub type Flags = [u64; 32];
 
 /// The counters of a column of blocks.
 pub type Counters = [u32; 2048];
+
+/// The flags and counters of a strip, and the rule by which edges count there.
+#[derive(Drop)]
+pub(crate) struct Cells<'a> {
+    pub rule: Rule,
+    pub flags: &'a mut [Flags],
+    pub counters: &'a mut [Counters],
+    pub ghost columns: { rule ≡ NonZero → length counters.now ≡ length flags.now },
+}
 
 /// The word of a sample's row.
 #[inline(always)]

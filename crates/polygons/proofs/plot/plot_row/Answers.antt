@@ -1,4 +1,4 @@
-use Rattle.std.proofs.Common.{◌≡◌, refl, sym, subst, ap, ◌∙◌, arith, ℕ, ◌*◌, ◌<◌, ℤ, pos, ◌+ℤ◌, ◌*ℤ◌, w32, w64, to_z, of_z, FitsSigned}
+use Rattle.std.proofs.Common.{◌≡◌, refl, sym, subst, ap, ◌∙◌, arith, ℕ, ◌*◌, ◌<◌, ℤ, pos, ◌+ℤ◌, ◌*ℤ◌, w32, to_z, of_z}
 use Rattle.grid.specs.Position.{Position, IsInBand}
 use Rattle.grid.proofs.Bounds.{passed}
 use Rattle.polygons.specs.Blocks.{down}
