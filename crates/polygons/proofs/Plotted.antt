@@ -7,6 +7,7 @@ use Rattle.grid.proofs.Ring.{var, plus, times, ring}
 use Rattle.grid.specs.Samples.{part_size}
 use Rattle.grid.specs.declared.sample_count.SampleCount.{SampleCount}
 use Rattle.grid.specs.declared.sample_count.SampleCount.TheVariants.{One, Two, Four, Eight, Sixteen}
+use Rattle.polygons.specs.declared.cells.Cells.{Cells}
 use Rattle.polygons.specs.declared.edge.Edge.{Edge}
 use Rattle.polygons.specs.declared.rule.Rule.{Rule}
 use Rattle.polygons.specs.declared.rule.Rule.TheVariants.{EvenOdd, NonZero}
@@ -17,7 +18,8 @@ use Rattle.polygons.specs.Crossing.{winding}
 use Rattle.polygons.specs.Polygon.{path_edges, path_end, ring_edges, polygon_edges}
 use Rattle.polygons.specs.Rows.{direction, from_column}
 use Rattle.polygons.specs.Strip.{strip_sample}
-use Rattle.polygons.specs.Cells.{modulus, signed, IsAlike, HasCounters, IsPlotted}
+use Rattle.polygons.specs.Cells.{modulus, signed, added_by, IsAlike, IsAdded, HasCounters, IsPlotted}
+use Rattle.polygons.specs.Plotting.{ArePlotted}
 use Rattle.polygons.proofs.Exact.{exact64}
 use Rattle.polygons.proofs.Counters.{direction-from, direction-none}
 use Rattle.polygons.proofs.Cancel.{one_down, one_up}
@@ -26,6 +28,10 @@ use Rattle.polygons.proofs.Counts.{downs-ring, ups-ring}
 pub has_counters : (rule : Rule) (f c f' c' : List (List ℕ)) → length f' ≡ length f → length c' ≡ length c → HasCounters rule f c → HasCounters rule f' c'
 has_counters EvenOdd f c f' c' e g h = tt
 has_counters NonZero f c f' c' e g h = g ∙ h ∙ sym e
+
+pub counted : (rule : Rule) (f c : List (List ℕ)) → (rule ≡ NonZero → length c ≡ length f) → HasCounters rule f c
+counted EvenOdd f c h = tt
+counted NonZero f c h = h refl
 
 -- the height of a row
 pub row_height : (y s : ℤ) (n : ℕ) → y ≡ s → n < 65 → IsInBand s → IsInBand (s +ℤ pos (256 * n))
@@ -42,6 +48,12 @@ walk_direction e s w column fits is first height k =
     let there : IsFirstColumn e s column = subst (λ (v : Walk). IsFirstColumn v.edge v.row column) is first in
     ap (λ z. from_column z (pos 1) k) (exact64 column fits) ∙ sym (direction-from e s column k height there)
 
+pub walk_added : (e : Edge) (start : Position) (forward : Bool) (row : ℕ) (w : Walk) (column : ℤ) → FitsSigned w64 column → w ≡ record { edge = e; row = down start row } → IsFirstColumn w.edge w.row column
+    → HasHeight e (down start row).y → (j k : ℕ) → row ≤ j → j < row + 1 → signed forward (from_column (to_z w64 (of_z w64 column)) (pos 1) k) ≡ added_by e forward start j k
+walk_added e start forward row w column fits is first height j k h l =
+    let at : row ≡ j = omega arith in
+    ap (signed forward) (walk_direction e (down start row) w column fits is first height k) ∙ ap (λ (i : ℕ). added_by e forward start i k) at
+
 -- ---- sums that are alike
 pub alike_from : (m : ℕ) (x x' y y' z z' : ℤ) → x ≡ x' → y ≡ y' → z ≡ z' → IsAlike m x (y +ℤ z) → IsAlike m x' (y' +ℤ z')
 alike_from m x x' y y' z z' e f g h = record { times = h.times; is = let i = h.is in omega (arith, ints) }
@@ -49,10 +61,13 @@ alike_from m x x' y y' z z' e f g h = record { times = h.times; is = let i = h.i
 pub alike_moved : (m : ℕ) (x x' y : ℤ) → x ≡ x' → IsAlike m x y → IsAlike m x' y
 alike_moved m x x' y e h = subst (λ (z : ℤ). IsAlike m z y) e h
 
+pub alike_none : (m : ℕ) (x y z : ℤ) → x ≡ y → z ≡ pos 0 → IsAlike m x (y +ℤ z)
+alike_none m x y z e f = record { times = pos 0; is = omega (arith, ints) }
+
 -- an edge that is not crossed adds nothing
-pub alike_none : (m : ℕ) (x y d : ℤ) (forward : Bool) → x ≡ y → d ≡ pos 0 → IsAlike m x (y +ℤ signed forward d)
-alike_none m x y d true e f = record { times = pos 0; is = omega (arith, ints) }
-alike_none m x y d false e f = record { times = pos 0; is = omega (arith, ints) }
+pub signed_none : (forward : Bool) (d : ℤ) → d ≡ pos 0 → signed forward d ≡ pos 0
+signed_none true d e = e
+signed_none false d e = omega (arith, ints)
 
 pub direction_above : (e : Edge) (p : Position) (k : ℤ) → e.a.y ≤ℤ e.b.y → p.y <ℤ e.a.y → direction e (along p k) ≡ pos 0
 direction_above e p k h l = direction-none e p k (λ x. let t = x.0 in omega (arith, ints)) (λ x. let t = x.0 in omega (arith, ints))
@@ -70,33 +85,95 @@ part_small Sixteen = omega arith
 pub before_of : (r i : ℕ) → r < i + 1 → (r ≡ i → ⊥) → r < i
 before_of r i h e = elim (cases_lt r i) [ inl m ↦ m | inr m ↦ absurd (e (omega arith)) ]
 
--- ---- what is added to a strip
-pub plotted_as : (rule : Rule) (strip : Strip) (f g : Position → ℤ) (a b c d : List (List ℕ)) → ((p : Position) → f p ≡ g p) → IsPlotted rule strip f a b c d → IsPlotted rule strip g a b c d
-plotted_as rule strip f g a b c d e h = record {
-  flags_len = h.flags_len;
-  counters_len = h.counters_len;
-  totals = λ s row k x y z. alike_from (modulus rule) _ _ _ _ _ _ refl refl (e (strip_sample strip s row k)) (h.totals s row k x y z);
-  marked = h.marked;
-  kept = h.kept;
-}
-
-pub plotted_on : (rule : Rule) (strip : Strip) (f g : Position → ℤ) (a b c d : List (List ℕ)) → ((s row k : ℕ) → row < 64 → k < 8 * length a → f (strip_sample strip s row k) ≡ g (strip_sample strip s row k)) → IsPlotted rule strip f a b c d → IsPlotted rule strip g a b c d
-plotted_on rule strip f g a b c d e h = record {
-  flags_len = h.flags_len;
-  counters_len = h.counters_len;
-  totals = λ s row k x y z. alike_from (modulus rule) _ _ _ _ _ _ refl refl (e s row k y z) (h.totals s row k x y z);
-  marked = h.marked;
-  kept = h.kept;
-}
-
-pub plotted_none : (rule : Rule) (strip : Strip) (f : Position → ℤ) (a b : List (List ℕ)) → ((p : Position) → f p ≡ pos 0) → IsPlotted rule strip f a b a b
-plotted_none rule strip f a b e = record {
+-- ---- what is added to the rows of one sample
+pub added_none : (rule : Rule) (s first : ℕ) (number : ℕ → ℕ → ℤ) (f c : List (List ℕ)) → IsAdded rule s first first number f c f c
+added_none rule s first number f c = record {
   flags_len = refl;
   counters_len = refl;
-  totals = λ s row k x y z. alike_none (modulus rule) _ _ (f (strip_sample strip s row k)) true refl (e (strip_sample strip s row k));
+  here = λ row k h l m. absurd (omega arith);
+  others = λ r row k h l n. refl;
   marked = λ h. h;
   kept = λ e. refl;
 }
+
+pub added_as : (rule : Rule) (s first end : ℕ) (number other : ℕ → ℕ → ℤ) (f c f' c' : List (List ℕ)) → ((row k : ℕ) → first ≤ row → row < end → number row k ≡ other row k)
+    → IsAdded rule s first end number f c f' c' → IsAdded rule s first end other f c f' c'
+added_as rule s first end number other f c f' c' e h = record {
+  flags_len = h.flags_len;
+  counters_len = h.counters_len;
+  here = λ row k l m n. alike_from (modulus rule) _ _ _ _ _ _ refl refl (e row k l m) (h.here row k l m n);
+  others = h.others;
+  marked = h.marked;
+  kept = h.kept;
+}
+
+pub added_both : (rule : Rule) (s first mid end : ℕ) (number : ℕ → ℕ → ℤ) (a b c d e i : List (List ℕ)) → s < 4 → first ≤ mid → mid ≤ end → end ≤ 64
+    → IsAdded rule s first mid number a b c d → IsAdded rule s mid end number c d e i → IsAdded rule s first end number a b e i
+added_both rule s first mid end number a b c d e i s_small rise more most h k = record {
+  flags_len = k.flags_len ∙ h.flags_len;
+  counters_len = k.counters_len ∙ h.counters_len;
+  here = λ row j l m n. elim (cases_lt row mid) [
+    | inl p ↦ alike_moved (modulus rule) _ _ _ (sym (k.others s row j s_small (omega arith) (λ _ x _. omega arith))) (h.here row j l p n)
+    | inr p ↦ alike_from (modulus rule) _ _ _ _ _ _ refl (h.others s row j s_small (omega arith) (λ _ _ x. omega arith)) refl (k.here row j p m (let q = h.flags_len in omega arith))
+  ];
+  others = λ r row j l m n. k.others r row j l m (λ x y z. n x (omega arith) z) ∙ h.others r row j l m (λ x y z. n x y (omega arith));
+  marked = λ x. k.marked (h.marked x);
+  kept = λ x. k.kept x ∙ h.kept x;
+}
+
+-- rows in which nothing is added
+pub added_all : (rule : Rule) (s first end : ℕ) (number : ℕ → ℕ → ℤ) (f c f' c' : List (List ℕ)) → s < 4 → ((row k : ℕ) → row < first → number row k ≡ pos 0)
+    → ((row k : ℕ) → end ≤ row → row < 64 → number row k ≡ pos 0) → IsAdded rule s first end number f c f' c' → IsAdded rule s 0 64 number f c f' c'
+added_all rule s first end number f c f' c' s_small above below h = record {
+  flags_len = h.flags_len;
+  counters_len = h.counters_len;
+  here = λ row k _ l m. elim (cases_lt row first) [
+    | inl p ↦ alike_none (modulus rule) _ _ _ (h.others s row k s_small l (λ _ x _. omega arith)) (above row k p)
+    | inr p ↦ elim (cases_lt row end) [
+      | inl q ↦ h.here row k p q m
+      | inr q ↦ alike_none (modulus rule) _ _ _ (h.others s row k s_small l (λ _ _ x. omega arith)) (below row k q l)
+    ]
+  ];
+  others = λ r row k l m n. h.others r row k l m (λ x _ _. n x (omega arith) m);
+  marked = h.marked;
+  kept = h.kept;
+}
+
+-- ---- what is added to a strip
+pub plotted_on : (strip : Strip) (f g : Position → ℤ) (a b : Cells) → ((s row k : ℕ) → row < 64 → k < 8 * length a.flags.now → f (strip_sample strip s row k) ≡ g (strip_sample strip s row k)) → ArePlotted strip f a b → ArePlotted strip g a b
+plotted_on strip f g a b e h = record {
+  plotted = record {
+    flags_len = h.plotted.flags_len;
+    counters_len = h.plotted.counters_len;
+    totals = λ s row k x y z. alike_from (modulus a.rule) _ _ _ _ _ _ refl refl (e s row k y z) (h.plotted.totals s row k x y z);
+    marked = h.plotted.marked;
+    kept = h.plotted.kept;
+  };
+  rule = h.rule;
+  same_flags = h.same_flags;
+  same_counters = h.same_counters;
+}
+
+pub plotted_as : (strip : Strip) (f g : Position → ℤ) (a b : Cells) → ((p : Position) → f p ≡ g p) → ArePlotted strip f a b → ArePlotted strip g a b
+plotted_as strip f g a b e h = plotted_on strip f g a b (λ s row k x y. e (strip_sample strip s row k)) h
+
+-- an edge that is crossed at no sample of the strip
+pub plotted_apart : (strip : Strip) (f : Position → ℤ) (a : Cells) → ((s row k : ℕ) → row < 64 → k < 8 * length a.flags.now → f (strip_sample strip s row k) ≡ pos 0) → ArePlotted strip f a a
+plotted_apart strip f a e = record {
+  plotted = record {
+    flags_len = refl;
+    counters_len = refl;
+    totals = λ s row k x y z. alike_none (modulus a.rule) _ _ _ refl (e s row k y z);
+    marked = λ h. h;
+    kept = λ e. refl;
+  };
+  rule = refl;
+  same_flags = refl;
+  same_counters = refl;
+}
+
+pub plotted_none : (strip : Strip) (f : Position → ℤ) (a : Cells) → ((p : Position) → f p ≡ pos 0) → ArePlotted strip f a a
+plotted_none strip f a e = plotted_apart strip f a (λ s row k x y. e (strip_sample strip s row k))
 
 pub times_sum : (n a b : ℤ) → n *ℤ (a +ℤ b) ≡ n *ℤ a +ℤ n *ℤ b
 times_sum n a b = ring (n ∷ a ∷ b ∷ []) (times (var 0) (plus (var 1) (var 2))) (plus (times (var 0) (var 1)) (times (var 0) (var 2))) refl
@@ -104,15 +181,22 @@ times_sum n a b = ring (n ∷ a ∷ b ∷ []) (times (var 0) (plus (var 1) (var 
 alike_both : (m : ℕ) (x y z u v w : ℤ) → IsAlike m x (y +ℤ u) → IsAlike m y (z +ℤ v) → w ≡ v +ℤ u → IsAlike m x (z +ℤ w)
 alike_both m x y z u v w h k e = record { times = h.times +ℤ k.times; is = let i = h.is in let j = k.is in let d = times_sum (pos m) h.times k.times in omega (arith, ints) }
 
-pub plotted_both : (rule : Rule) (strip : Strip) (f g both : Position → ℤ) (a b c d e i : List (List ℕ)) → ((p : Position) → both p ≡ f p +ℤ g p)
-    → IsPlotted rule strip f a b c d → IsPlotted rule strip g c d e i → IsPlotted rule strip both a b e i
-plotted_both rule strip f g both a b c d e i sum h k = record {
-  flags_len = k.flags_len ∙ h.flags_len;
-  counters_len = k.counters_len ∙ h.counters_len;
-  totals = λ s row j x y z. let p = strip_sample strip s row j in alike_both (modulus rule) _ _ _ _ _ (both p) (k.totals s row j x y (let l = h.flags_len in omega arith)) (h.totals s row j x y z) (sum p);
-  marked = λ l. k.marked (h.marked l);
-  kept = λ l. k.kept l ∙ h.kept l;
-}
+pub plotted_both : (strip : Strip) (f g both : Position → ℤ) (a b c : Cells) → ((p : Position) → both p ≡ f p +ℤ g p) → ArePlotted strip f a b → ArePlotted strip g b c → ArePlotted strip both a c
+plotted_both strip f g both a b c sum h k =
+    let first = h.plotted in
+    let then : IsPlotted a.rule strip g b.flags.now b.counters.now c.flags.now c.counters.now = subst (λ (r : Rule). IsPlotted r strip g b.flags.now b.counters.now c.flags.now c.counters.now) h.rule k.plotted in
+    record {
+      plotted = record {
+        flags_len = then.flags_len ∙ first.flags_len;
+        counters_len = then.counters_len ∙ first.counters_len;
+        totals = λ s row j x y z. let p = strip_sample strip s row j in alike_both (modulus a.rule) _ _ _ _ _ (both p) (then.totals s row j x y (let l = first.flags_len in omega arith)) (first.totals s row j x y z) (sum p);
+        marked = λ l. then.marked (first.marked l);
+        kept = λ l. then.kept l ∙ first.kept l;
+      };
+      rule = k.rule ∙ h.rule;
+      same_flags = k.same_flags ∙ h.same_flags;
+      same_counters = k.same_counters ∙ h.same_counters;
+    }
 
 -- ---- the edges of paths and rings
 pub winding-cons : (e : Edge) (es : List Edge) (p : Position) → winding (e ∷ es) p ≡ direction e p +ℤ winding es p
@@ -162,13 +246,3 @@ pub ring_closed : (ring : List Position) (first last : Position) (rest : List Po
     → (p : Position) → winding (ring_edges ring) p ≡ winding (path_edges first rest) p +ℤ direction (record { a = last; b = first }) p
 ring_closed ring first last rest is end p =
     ap (λ (r : List Position). winding (ring_edges r) p) is ∙ path_closed first first rest p ∙ ap (λ (q : Position). winding (path_edges first rest) p +ℤ direction (record { a = q; b = first }) p) (sym end)
-
--- an edge that is crossed at no sample of the strip
-pub plotted_apart : (rule : Rule) (strip : Strip) (f : Position → ℤ) (a b : List (List ℕ)) → ((s row k : ℕ) → s < part_size strip.count → row < 64 → k < 8 * length a → f (strip_sample strip s row k) ≡ pos 0) → IsPlotted rule strip f a b a b
-plotted_apart rule strip f a b e = record {
-  flags_len = refl;
-  counters_len = refl;
-  totals = λ s row k x y z. alike_none (modulus rule) _ _ (f (strip_sample strip s row k)) true refl (e s row k x y z);
-  marked = λ h. h;
-  kept = λ e. refl;
-}

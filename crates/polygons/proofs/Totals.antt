@@ -1,5 +1,5 @@
 -- Flags and counters of a strip: one cell that changes, and what it does to the sums of its row.
-use Rattle.std.proofs.Common.{◌≡◌, ◌≢◌, ◌⊎◌, inl, inr, refl, sym, ap, ◌∙◌, arith, ℕ, zero, suc, ◌+◌, ◌*◌, ◌/◌, ◌%◌, ◌^◌, ◌<◌, Bool, true, false, cond, List, length, set, slice_index, get_or-set_same, get_or-set_other, bit_or, ℤ, pos, neg_ℤ, w64, ◌+ℤ◌, ◌-ℤ◌, ◌*ℤ◌}
+use Rattle.std.proofs.Common.{◌≡◌, ◌≢◌, ◌⊎◌, inl, inr, refl, sym, subst, ap, ◌∙◌, arith, ℕ, zero, suc, ◌+◌, ◌*◌, ◌/◌, ◌%◌, ◌^◌, ◌<◌, ◌≤◌, Bool, true, false, cond, List, length, set, slice_index, get_or-set_same, get_or-set_other, bit_or, ℤ, pos, neg_ℤ, w64, ◌+ℤ◌, ◌-ℤ◌, ◌*ℤ◌}
 use Rattle.std.proofs.lemmas.Int.{ints, clamps}
 use Rattle.std.proofs.lemmas.Bool.{cases_eq}
 use Rattle.std.proofs.lemmas.Nat.{one_shl}
@@ -8,7 +8,8 @@ use Rattle.std.specs.Int.{bit_at, int_max}
 use Rattle.std.specs.Int.RustNames.{int_le, bit_xor}
 use Rattle.polygons.specs.Rows.{sum_to, from_column}
 use Rattle.polygons.specs.ManyRows.{row_of}
-use Rattle.polygons.specs.Cells.{word_of, bit_in_block, flag_of, signed, IsAlike}
+use Rattle.polygons.specs.declared.rule.Rule.{Rule}
+use Rattle.polygons.specs.Cells.{word_of, bit_in_block, flag_of, running_sum, modulus, signed, IsAlike}
 use Rattle.polygons.proofs.RowLists.{row-here, row-other}
 use Rattle.polygons.proofs.Tests.{le_no}
 use Rattle.polygons.proofs.Counters.{number_at, number-here, number-elsewhere, sums-added, same-test}
@@ -189,3 +190,10 @@ same_or_not s r row j c k = elim (cases_eq r s) [
     | inl f ↦ elim (cases_eq k c) [ inr n ↦ inr (λ e f g. n g) | inl g ↦ inl (e, f, g) ]
   ]
 ]
+
+-- what is said of one row is said of the rows from it to before the next one
+pub one_row : (rule : Rule) (s row n : ℕ) (number : ℕ → ℤ) (f c f' c' : List (List ℕ)) → ((k : ℕ) → k < n → IsAlike (modulus rule) (running_sum rule f' c' s row k) (running_sum rule f c s row k +ℤ number k))
+    → (j k : ℕ) → row ≤ j → j < row + 1 → k < n → IsAlike (modulus rule) (running_sum rule f' c' s j k) (running_sum rule f c s j k +ℤ number k)
+one_row rule s row n number f c f' c' h j k l m o =
+    let at : row ≡ j = omega arith in
+    subst (λ (i : ℕ). IsAlike (modulus rule) (running_sum rule f' c' s i k) (running_sum rule f c s i k +ℤ number k)) at (h k o)

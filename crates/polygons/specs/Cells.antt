@@ -1,12 +1,15 @@
 -- Flags and counters of the samples of a strip, which stand where edges are first crossed.
-use Rattle.std.specs.Prelude.{◌≡◌, ℕ, ◌+◌, ◌*◌, ◌/◌, ◌%◌, ◌^◌, ◌<◌, ℤ, pos, ◌+ℤ◌, ◌*ℤ◌, neg_ℤ, Bool, true, false, List, length, slice_index}
+use Rattle.std.specs.Prelude.{◌≡◌, ℕ, ◌+◌, ◌*◌, ◌/◌, ◌%◌, ◌^◌, ◌<◌, ◌≤◌, ℤ, pos, ◌+ℤ◌, ◌*ℤ◌, neg_ℤ, Bool, true, false, List, length, slice_index}
 use Rattle.std.specs.Int.{bit_at}
 use Rattle.grid.specs.Position.{Position}
 use Rattle.grid.specs.Samples.{part_size}
+use Rattle.polygons.specs.declared.edge.Edge.{Edge}
 use Rattle.polygons.specs.declared.rule.Rule.{Rule}
 use Rattle.polygons.specs.declared.rule.Rule.TheVariants.{EvenOdd, NonZero}
 use Rattle.polygons.specs.declared.strip.Strip.{Strip}
-use Rattle.polygons.specs.Rows.{sum_to}
+use Rattle.polygons.specs.Blocks.{down}
+use Rattle.polygons.specs.Columns.{along}
+use Rattle.polygons.specs.Rows.{sum_to, direction}
 use Rattle.polygons.specs.ManyRows.{row_of}
 use Rattle.polygons.specs.Strip.{strip_sample}
 
@@ -59,6 +62,19 @@ AreMarked NonZero flags counters = (s row k : ℕ) → s < 4 → row < 64 → fl
 abbrev pub signed : Bool → ℤ → ℤ
 signed true z = z
 signed false z = neg_ℤ z
+
+-- What an edge that runs downwards adds at the samples of one index, by row and column. The first pixel has this sample at `start`.
+abbrev pub added_by : Edge → Bool → Position → ℕ → ℕ → ℤ
+added_by edge forward start row k = signed forward (direction edge (along (down start row) (pos k)))
+
+-- To the sums of sample s in the rows from `first` to before `end` a number was added, by row and column, and no other was changed.
+pub record IsAdded (rule : Rule) (s first end : ℕ) (number : ℕ → ℕ → ℤ) (flags counters flags' counters' : List (List ℕ)) : Type 0 where
+  pub flags_len : length flags' ≡ length flags
+  pub counters_len : length counters' ≡ length counters
+  pub here : (row k : ℕ) → first ≤ row → row < end → k < 8 * length flags → IsAlike (modulus rule) (running_sum rule flags' counters' s row k) (running_sum rule flags counters s row k +ℤ number row k)
+  pub others : (r row k : ℕ) → r < 4 → row < 64 → (r ≡ s → first ≤ row → row < end → ⊥) → running_sum rule flags' counters' r row k ≡ running_sum rule flags counters r row k
+  pub marked : AreMarked rule flags counters → AreMarked rule flags' counters'
+  pub kept : rule ≡ EvenOdd → counters' ≡ counters
 
 -- To the sums at each sample of a strip a number was added, which depends on where the sample lies.
 pub record IsPlotted (rule : Rule) (strip : Strip) (change : Position → ℤ) (flags counters flags' counters' : List (List ℕ)) : Type 0 where

@@ -128,8 +128,13 @@
 --   HasCounters: The nonzero rule has as many columns of counters as of flags.
 --   AreMarked: A counter other than 0 has its flag set.
 --   signed: The number, or its opposite.
+--   added_by: What an edge that runs downwards adds at the samples of one index, by row and column.
+--   IsAdded: To the sums of sample s in the rows from `first` to before `end` a number was added, by row and column, and no other was changed.
 --   IsPlotted: To the sums at each sample of a strip a number was added, which depends on where the sample lies.
 --   AreZeros: All flags or counters are 0.
+--
+-- Plotting.antt
+--   ArePlotted: To the sums at each sample of a strip a number was added, which depends on where the sample lies.
 --
 -- Spreading.antt
 --   IsCarry: Of the rows of a word of 8 by 8 bits no more than the first bit of each is set.
@@ -157,5 +162,6 @@ pub mod Strip
 pub mod Apart
 pub mod Runs
 pub mod Cells
+pub mod Plotting
 pub mod Spreading
 pub mod Summing

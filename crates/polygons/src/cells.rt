@@ -3,8 +3,8 @@
 //! each word, one for each bit.
 ghost use Rattle.std.specs.Prelude.{◌≡◌, ℕ, ◌+◌, ◌*◌, ◌%◌, ◌^◌, ◌<◌, pos, negsuc, ◌+ℤ◌, cond, length};
 ghost use Rattle.polygons.specs.Rows.{from_column};
-ghost use Rattle.polygons.specs.Cells.{flag_of, counter_at, running_sum, modulus, signed, IsAlike, HasCounters, AreMarked};
-ghost use Rattle.polygons.specs.declared.rule.Rule.TheVariants.{EvenOdd};
+ghost use Rattle.polygons.specs.declared.rule.Rule.TheVariants.{NonZero};
+ghost use Rattle.polygons.specs.Cells.{flag_of, counter_at, signed, HasCounters, IsAdded};
 
 use crate::rule::Rule;
 
@@ -13,6 +13,15 @@ pub type Flags = [u64; 32];
 
 /// The counters of a column of blocks.
 pub type Counters = [u32; 2048];
+
+/// The flags and counters of a strip, and the rule by which edges count there.
+#[derive(Drop)]
+pub(crate) struct Cells<'a> {
+    pub rule: Rule,
+    pub flags: &'a mut [Flags],
+    pub counters: &'a mut [Counters],
+    pub ghost columns: { rule ≡ NonZero → length counters.now ≡ length flags.now },
+}
 
 /// The word of a sample's row.
 #[inline(always)]
@@ -93,15 +102,8 @@ pub(crate) fn cross(
     requires sample { s < 4 }
     requires row { row < 64 }
     requires counters { HasCounters rule flags.old counters.old }
-    ensures flags { length flags.new ≡ length flags.old }
-    ensures counters { length counters.new ≡ length counters.old }
-    ensures here { (k : ℕ) → k < 8 * length flags.old →
-        IsAlike (modulus rule) (running_sum rule flags.new counters.new s row k)
-        (running_sum rule flags.old counters.old s row k +ℤ signed down (from_column column (pos 1) k)) }
-    ensures others { (r j k : ℕ) → r < 4 → j < 64 → (r ≡ s → j ≡ row → ⊥) →
-        running_sum rule flags.new counters.new r j k ≡ running_sum rule flags.old counters.old r j k }
-    ensures marked { AreMarked rule flags.old counters.old → AreMarked rule flags.new counters.new }
-    ensures kept { rule ≡ EvenOdd → counters.new ≡ counters.old }
+    ensures { IsAdded rule s row (row + 1) (λ _ k. signed down (from_column column (pos 1) k)) flags.old counters.old
+        flags.new counters.new }
 {
     let column = column.max(0) as usize;
     if column / 8 < flags.len() {

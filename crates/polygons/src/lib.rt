@@ -21,6 +21,7 @@ mod rows;
 mod rule;
 mod runs;
 mod spread;
+mod starts;
 mod strip;
 mod strip_masks;
 mod sum;

@@ -4,24 +4,25 @@ ghost use Rattle.std.specs.Prelude.{◌≡◌, ℕ, ◌+◌, ◌*◌, ◌^◌, �
 ghost use Rattle.grid.specs.Position.{Position, IsInBand};
 ghost use Rattle.grid.specs.Samples.{part_size};
 ghost use Rattle.polygons.specs.Blocks.{down};
-ghost use Rattle.polygons.specs.Columns.{along, HasHeight};
+ghost use Rattle.polygons.specs.Columns.{HasHeight};
 ghost use Rattle.polygons.specs.Crossing.{winding};
 ghost use Rattle.polygons.specs.Polygon.{path_edges, path_end, ring_edges, polygon_edges};
 ghost use Rattle.polygons.specs.Rings.{position_of, rings_from, end_of, AreCornersInBand};
 ghost use Rattle.polygons.specs.Runs.{corner_at, corners_between, AreRunsOf, IsCrossedAsChord};
 ghost use Rattle.polygons.specs.Strip.{strip_sample};
 ghost use Rattle.polygons.specs.Rows.{direction};
-ghost use Rattle.polygons.specs.Cells.{running_sum, modulus, signed, IsAlike, HasCounters, AreMarked, IsPlotted};
-ghost use Rattle.polygons.specs.declared.rule.Rule.TheVariants.{EvenOdd};
+ghost use Rattle.polygons.specs.Cells.{signed, added_by, HasCounters, IsAdded};
+ghost use Rattle.polygons.specs.Plotting.{ArePlotted};
 
 use crate::apart::is_apart;
-use crate::cells::{Counters, Flags, cross};
+use crate::cells::{Cells, Counters, Flags, cross};
 use crate::corner::Corner;
 use crate::divide::divide;
 use crate::edge::Edge;
 use crate::rings::Rings;
 use crate::rule::Rule;
 use crate::runs::Runs;
+use crate::starts::Starts;
 use crate::strip::{Strip, point_at};
 use crate::walk::{EdgeWalk, first_column};
 use grid::Point;
@@ -52,16 +53,7 @@ fn plot_sample(
     requires runs_down { edge.now.a.y ≤ℤ edge.now.b.y }
     requires sample { s < 4 }
     requires counters { HasCounters rule flags.old counters.old }
-    ensures flags { length flags.new ≡ length flags.old }
-    ensures counters { length counters.new ≡ length counters.old }
-    ensures here { (row k : ℕ) → row < 64 → k < 8 * length flags.old →
-        IsAlike (modulus rule) (running_sum rule flags.new counters.new s row k)
-        (running_sum rule flags.old counters.old s row k +ℤ signed forward
-        (direction edge.now (along (down start row) (pos k)))) }
-    ensures others { (r row k : ℕ) → r < 4 → row < 64 → (r ≡ s → ⊥) →
-        running_sum rule flags.new counters.new r row k ≡ running_sum rule flags.old counters.old r row k }
-    ensures marked { AreMarked rule flags.old counters.old → AreMarked rule flags.new counters.new }
-    ensures kept { rule ≡ EvenOdd → counters.new ≡ counters.old }
+    ensures { IsAdded rule s 0 64 (added_by edge.now forward start) flags.old counters.old flags.new counters.new }
 {
     let first = first_row(start.y(), edge.a.y());
     let end = first_row(start.y(), edge.b.y());
@@ -86,16 +78,7 @@ fn plot_row(
     requires through { HasHeight edge.now (down start row).y }
     requires sample { s < 4 }
     requires counters { HasCounters rule flags.old counters.old }
-    ensures flags { length flags.new ≡ length flags.old }
-    ensures counters { length counters.new ≡ length counters.old }
-    ensures here { (k : ℕ) → k < 8 * length flags.old →
-        IsAlike (modulus rule) (running_sum rule flags.new counters.new s row k)
-        (running_sum rule flags.old counters.old s row k +ℤ signed forward
-        (direction edge.now (along (down start row) (pos k)))) }
-    ensures others { (r j k : ℕ) → r < 4 → j < 64 → (r ≡ s → j ≡ row → ⊥) →
-        running_sum rule flags.new counters.new r j k ≡ running_sum rule flags.old counters.old r j k }
-    ensures marked { AreMarked rule flags.old counters.old → AreMarked rule flags.new counters.new }
-    ensures kept { rule ≡ EvenOdd → counters.new ≡ counters.old }
+    ensures { IsAdded rule s row (row + 1) (added_by edge.now forward start) flags.old counters.old flags.new counters.new }
 {
     let place = point_at(start.x(), start.y() + 256 * row as i32);
     let column = first_column(edge, place);
@@ -120,16 +103,7 @@ fn plot_rows(
     requires through { (r : ℕ) → first ≤ r → r < end → HasHeight edge.now (down start r).y }
     requires sample { s < 4 }
     requires counters { HasCounters rule flags.old counters.old }
-    ensures flags { length flags.new ≡ length flags.old }
-    ensures counters { length counters.new ≡ length counters.old }
-    ensures here { (row k : ℕ) → first ≤ row → row < end → k < 8 * length flags.old →
-        IsAlike (modulus rule) (running_sum rule flags.new counters.new s row k)
-        (running_sum rule flags.old counters.old s row k +ℤ signed forward
-        (direction edge.now (along (down start row) (pos k)))) }
-    ensures others { (r row k : ℕ) → r < 4 → row < 64 → (r ≡ s → first ≤ row → row < end → ⊥) →
-        running_sum rule flags.new counters.new r row k ≡ running_sum rule flags.old counters.old r row k }
-    ensures marked { AreMarked rule flags.old counters.old → AreMarked rule flags.new counters.new }
-    ensures kept { rule ≡ EvenOdd → counters.new ≡ counters.old }
+    ensures { IsAdded rule s first end (added_by edge.now forward start) flags.old counters.old flags.new counters.new }
 {
     if first + 1 == end {
         plot_row(flags, counters, rule, edge, forward, s, start, first);
@@ -145,67 +119,50 @@ fn plot_rows(
 }
 
 /// Marks where the edge is crossed by samples of each index of the part.
-fn plot_samples(
-    flags: &mut [Flags],
-    counters: &mut [Counters],
-    rule: Rule,
-    edge: &Edge,
-    forward: bool,
-    strip: &Strip,
-)
-    requires runs_down { edge.now.a.y ≤ℤ edge.now.b.y }
-    requires counters { HasCounters rule flags.old counters.old }
-    ensures { IsPlotted rule strip.now (λ p. signed forward (direction edge.now p)) flags.old counters.old flags.new
-        counters.new }
+fn plot_samples(cells: &mut Cells<'_>, edge: &Edge, forward: bool, starts: &Starts)
+    requires { edge.now.a.y ≤ℤ edge.now.b.y }
+    ensures { ArePlotted starts.now.strip (λ p. signed forward (direction edge.now p)) cells.old cells.new }
 {
-    for s in 0..strip.count.part_size() {
+    for s in 0..starts.strip.count.part_size() {
+        let start = starts.of(s as usize);
         plot_sample(
-            flags,
-            counters,
-            rule,
+            cells.flags,
+            cells.counters,
+            cells.rule,
             edge,
             forward,
             s as usize,
-            strip.start(s),
+            start,
         );
     }
 }
 
 /// Counts an edge in the rows of a strip.
-fn plot_edge(flags: &mut [Flags], counters: &mut [Counters], rule: Rule, edge: Edge, strip: &Strip)
-    requires { HasCounters rule flags.old counters.old }
-    ensures { IsPlotted rule strip.now (λ p. direction edge p) flags.old counters.old flags.new counters.new }
+fn plot_edge(cells: &mut Cells<'_>, edge: Edge, starts: &Starts)
+    ensures { ArePlotted starts.now.strip (λ p. direction edge p) cells.old cells.new }
 {
-    if is_apart(&edge, strip, flags.len()) {
+    if is_apart(&edge, &starts.strip, cells.flags.len()) {
         return;
     }
     if edge.a.y() <= edge.b.y() {
-        plot_samples(flags, counters, rule, &edge, true, strip);
+        plot_samples(cells, &edge, true, starts);
     } else {
         let downwards = edge.reversed();
-        plot_samples(flags, counters, rule, &downwards, false, strip);
+        plot_samples(cells, &downwards, false, starts);
     }
 }
 
 /// Counts the edges of a path from a corner through others. Returns the last corner.
-fn plot_path(
-    flags: &mut [Flags],
-    counters: &mut [Counters],
-    rule: Rule,
-    from: Point,
-    corners: &[Corner],
-    strip: &Strip,
-) -> Point
-    requires counters { HasCounters rule flags.old counters.old }
-    requires corners { AreCornersInBand corners.now }
-    ensures plotted { IsPlotted rule strip.now (λ p. winding (path_edges from (map position_of corners.now)) p)
-        flags.old counters.old flags.new counters.new }
+fn plot_path(cells: &mut Cells<'_>, from: Point, corners: &[Corner], starts: &Starts) -> Point
+    requires { AreCornersInBand corners.now }
+    ensures plotted { ArePlotted starts.now.strip (λ p. winding (path_edges from (map position_of corners.now)) p)
+        cells.old cells.new }
     ensures end { result ≡ path_end from (map position_of corners.now) }
 {
     let mut from = from;
     for corner in corners {
         let to = corner.at();
-        plot_edge(flags, counters, rule, Edge { a: from, b: to }, strip);
+        plot_edge(cells, Edge { a: from, b: to }, starts);
         from = to;
     }
     from
@@ -214,30 +171,27 @@ fn plot_path(
 /// Counts the edges of a path from a corner through others. If these lie in a box beside the strip, the path is crossed
 /// there as the edge from its first corner to its last one is. Returns the last corner.
 fn plot_run(
-    flags: &mut [Flags],
-    counters: &mut [Counters],
-    rule: Rule,
+    cells: &mut Cells<'_>,
     from: Point,
     corners: &[Corner],
     is_beside: bool,
-    strip: &Strip,
+    starts: &Starts,
 ) -> Point
-    requires counters { HasCounters rule flags.old counters.old }
     requires corners { AreCornersInBand corners.now }
-    requires chord { IsTrue is_beside → (s row k : ℕ) → row < 64 → k < 8 * length flags.old →
-        IsCrossedAsChord from (map position_of corners.now) (strip_sample strip.now s row k) }
-    ensures plotted { IsPlotted rule strip.now (λ p. winding (path_edges from (map position_of corners.now)) p)
-        flags.old counters.old flags.new counters.new }
+    requires chord { IsTrue is_beside → (s row k : ℕ) → row < 64 → k < 8 * length cells.old.flags.now →
+        IsCrossedAsChord from (map position_of corners.now) (strip_sample starts.now.strip s row k) }
+    ensures plotted { ArePlotted starts.now.strip (λ p. winding (path_edges from (map position_of corners.now)) p)
+        cells.old cells.new }
     ensures end { result ≡ path_end from (map position_of corners.now) }
 {
     if !is_beside {
-        return plot_path(flags, counters, rule, from, corners, strip);
+        return plot_path(cells, from, corners, starts);
     }
     match corners {
         [] => from,
         [.., last] => {
             let end = last.at();
-            plot_edge(flags, counters, rule, Edge { a: from, b: end }, strip);
+            plot_edge(cells, Edge { a: from, b: end }, starts);
             end
         }
     }
@@ -246,24 +200,20 @@ fn plot_run(
 /// Counts the edges of a ring but its last one, run by run. The ring has the corners from index `begin` to before
 /// `end`. Returns its last corner.
 fn plot_runs(
-    flags: &mut [Flags],
-    counters: &mut [Counters],
-    rule: Rule,
+    cells: &mut Cells<'_>,
     rings: &Rings<'_>,
     runs: &Runs,
     begin: usize,
     end: usize,
-    strip: &Strip,
+    starts: &Starts,
 ) -> Point
-    requires counters { HasCounters rule flags.old counters.old }
     requires runs { AreRunsOf runs.now rings.now }
     requires first { rings.now.start ≤ begin }
     requires some { begin < end }
     requires last { end ≤ end_of rings.now.start rings.now.ends.now }
     requires within { end ≤ length rings.now.corners.now }
-    ensures plotted { IsPlotted rule strip.now
-        (λ p. winding (path_edges (corner_at rings.now.corners.now begin)
-        (corners_between rings.now.corners.now (begin + 1) end)) p) flags.old counters.old flags.new counters.new }
+    ensures plotted { ArePlotted starts.now.strip (λ p. winding (path_edges (corner_at rings.now.corners.now begin)
+        (corners_between rings.now.corners.now (begin + 1) end)) p) cells.old cells.new }
     ensures end { result ≡ path_end (corner_at rings.now.corners.now begin)
         (corners_between rings.now.corners.now (begin + 1) end) }
 {
@@ -274,8 +224,8 @@ fn plot_runs(
         let (run, held) = runs.run_of(next - 1 - start);
         let behind = end.min(start + held);
         let corners = &rings.corners[next..behind];
-        let is_beside = runs.is_beside(run, strip, flags.len());
-        from = plot_run(flags, counters, rule, from, corners, is_beside, strip);
+        let is_beside = runs.is_beside(run, &starts.strip, cells.flags.len());
+        from = plot_run(cells, from, corners, is_beside, starts);
         next = behind;
     }
     from
@@ -283,49 +233,41 @@ fn plot_runs(
 
 /// Counts the edges of the ring of the corners from index `begin` to before `end`.
 fn plot_ring(
-    flags: &mut [Flags],
-    counters: &mut [Counters],
-    rule: Rule,
+    cells: &mut Cells<'_>,
     rings: &Rings<'_>,
     runs: &Runs,
     begin: usize,
     end: usize,
-    strip: &Strip,
+    starts: &Starts,
 )
-    requires counters { HasCounters rule flags.old counters.old }
     requires runs { AreRunsOf runs.now rings.now }
     requires first { rings.now.start ≤ begin }
     requires last { end ≤ end_of rings.now.start rings.now.ends.now }
     requires within { end ≤ length rings.now.corners.now }
-    ensures { IsPlotted rule strip.now (λ p. winding (ring_edges (corners_between rings.now.corners.now begin end)) p)
-        flags.old counters.old flags.new counters.new }
+    ensures { ArePlotted starts.now.strip (λ p. winding (ring_edges (corners_between rings.now.corners.now begin end)) p)
+        cells.old cells.new }
 {
     if begin < end {
         let first = rings.corners[begin].at();
-        let last = plot_runs(flags, counters, rule, rings, runs, begin, end, strip);
-        plot_edge(flags, counters, rule, Edge { a: last, b: first }, strip);
+        let last = plot_runs(cells, rings, runs, begin, end, starts);
+        plot_edge(cells, Edge { a: last, b: first }, starts);
     }
 }
 
 /// Counts the edges of a polygon, by the boxes of its runs.
-pub fn plot(
-    flags: &mut [Flags],
-    counters: &mut [Counters],
-    rule: Rule,
-    rings: &Rings<'_>,
-    runs: &Runs,
-    strip: &Strip,
-)
-    requires counters { HasCounters rule flags.old counters.old }
-    requires runs { AreRunsOf runs.now rings.now }
-    ensures { IsPlotted rule strip.now
-        (λ p. winding (polygon_edges (rings_from rings.now.corners.now rings.now.start rings.now.ends.now)) p) flags.old
-        counters.old flags.new counters.new }
+pub(crate) fn plot(cells: &mut Cells<'_>, rings: &Rings<'_>, runs: &Runs, strip: &Strip)
+    requires { AreRunsOf runs.now rings.now }
+    ensures plotted { ArePlotted strip.now
+        (λ p. winding (polygon_edges (rings_from rings.now.corners.now rings.now.start rings.now.ends.now)) p)
+        cells.old cells.new }
+    ensures same_flags { cells.new.flags.ghost_name ≡ cells.old.flags.ghost_name }
+    ensures same_counters { cells.new.counters.ghost_name ≡ cells.old.counters.ghost_name }
 {
+    let starts = Starts::new(strip);
     let mut begin = rings.start as usize;
     for ring_end in rings.ends {
         let end = *ring_end as usize;
-        plot_ring(flags, counters, rule, rings, runs, begin, end, strip);
+        plot_ring(cells, rings, runs, begin, end, &starts);
         begin = end;
     }
 }

@@ -9,7 +9,7 @@ ghost use Rattle.polygons.specs.ManyRows.{row_of};
 ghost use Rattle.polygons.specs.Cells.{HasCounters, AreZeros};
 ghost use Rattle.polygons.specs.Strip.{strip_sample};
 
-use crate::cells::{Counters, Flags};
+use crate::cells::{Cells, Counters, Flags};
 use crate::fill::fill;
 use crate::plot::plot;
 use crate::rings::Rings;
@@ -41,7 +41,12 @@ pub fn cover_strip(
         (strip_sample strip.now s (8 * row) (8 * column)) (slice_index (row_of flags.new column) (4 * row + s)) }
     ensures counters { AreZeros counters.new }
 {
-    plot(flags, counters, rule, rings, runs, strip);
+    let mut cells = Cells {
+        rule,
+        flags: &mut *flags,
+        counters: &mut *counters,
+    };
+    plot(&mut cells, rings, runs, strip);
     match rule {
         Rule::EvenOdd => fill(flags),
         Rule::NonZero => sum(flags, counters),

@@ -2,19 +2,17 @@ use Rattle.std.proofs.Common.{refl, sym, ap, arith, ℕ, List}
 use Rattle.polygons.specs.Crossing.{winding}
 use Rattle.polygons.specs.Polygon.{polygon_edges}
 use Rattle.polygons.specs.Rings.{rings_from}
-use Rattle.polygons.proofs.Plotted.{has_counters, plotted_none, plotted_both, plotted_as, none_left, nothing_yet, one_more, nothing_left}
+use Rattle.polygons.proofs.Plotted.{plotted_none, plotted_both, plotted_as, none_left, nothing_yet, one_more, nothing_left}
 use Rattle.polygons.proofs.RingParts.{ring_step, next_start, begins_within, ends_within}
 use Rattle.polygons.proofs.plot.plot.Goals as goal
 
 pub plot_ring-requires : goal.plot_ring-requires
 plot_ring-requires c =
-    let v = c.loop-ring_end.invariant.plotted in
     let rings = c.args.rings.now in
     let i = c.loop-ring_end.ring_end-index in
     let first = begins_within rings.start rings.ends.now _ i rings.rising c.loop-ring_end-test.true in
     record {
-      counters = has_counters c.args.rule c.args.flags.now c.args.counters.now c.loop-ring_end.flags c.loop-ring_end.counters v.flags_len v.counters_len c.requires.counters;
-      runs = c.requires.runs;
+      runs = c.requires;
       first = omega (arith, first, c.loop-ring_end.invariant.place);
       last = ends_within rings.start rings.ends.now _ i rings.rising c.loop-ring_end-test.true;
       within = rings.rising.within i c.loop-ring_end-test.true;
@@ -24,7 +22,7 @@ pub loop-ring_end-init : goal.loop-ring_end-init
 loop-ring_end-init c =
     let rings = c.args.rings.now in
     record {
-      plotted = plotted_none c.args.rule c.args.strip.now _ c.args.flags.now c.args.counters.now (λ p. nothing_yet (winding (polygon_edges (rings_from rings.corners.now rings.start rings.ends.now)) p));
+      plotted = plotted_none c.args.strip.now _ c.args.cells.now (λ p. nothing_yet (winding (polygon_edges (rings_from rings.corners.now rings.start rings.ends.now)) p));
       place = refl;
     }
 
@@ -34,9 +32,9 @@ loop-ring_end-preserved c =
     let i = c.loop-ring_end.ring_end-index in
     let v = c.loop-ring_end.invariant in
     record {
-      plotted = plotted_both c.args.rule c.args.strip.now _ _ _ _ _ _ _ _ _
+      plotted = plotted_both c.args.strip.now _ _ _ _ _ _
           (λ p. one_more (winding (polygon_edges (rings_from rings.corners.now rings.start rings.ends.now)) p) _ _ _ (ring_step rings.corners.now c.loop-ring_end.begin rings.ends.now i p c.loop-ring_end-test.true))
-          v.plotted c.plot_ring.ensures;
+          v.plotted (rw c.new-starts.ensures at c.plot_ring.ensures);
       place = sym (next_start rings.start rings.ends.now i);
     }
 
@@ -44,6 +42,10 @@ pub returns : goal.returns
 returns c =
     let rings = c.args.rings.now in
     let none = none_left rings.ends.now c.loop-ring_end.ring_end-index c.loop-ring_end-test.false in
-    plotted_as c.args.rule c.args.strip.now _ _ _ _ _ _
-    (λ p. nothing_left (winding (polygon_edges (rings_from rings.corners.now rings.start rings.ends.now)) p) _ (ap (λ (es : List ℕ). winding (polygon_edges (rings_from rings.corners.now c.loop-ring_end.begin es)) p) none))
-    c.loop-ring_end.invariant.plotted
+    let v = c.loop-ring_end.invariant.plotted in
+    record {
+      plotted = plotted_as c.args.strip.now _ _ _ _
+          (λ p. nothing_left (winding (polygon_edges (rings_from rings.corners.now rings.start rings.ends.now)) p) _ (ap (λ (es : List ℕ). winding (polygon_edges (rings_from rings.corners.now c.loop-ring_end.begin es)) p) none)) v;
+      same_flags = v.same_flags;
+      same_counters = v.same_counters;
+    }

@@ -14,9 +14,9 @@ turned e f p is = let a = ap (λ (g : Edge). direction g p) is in let b = direct
 
 pub returns-else-y : goal.returns-else-y
 returns-else-y c =
-    plotted_as c.args.rule c.args.strip.now _ _ _ _ _ _ (λ p. turned c.args.edge c.reversed-downwards.result p c.reversed-downwards.ensures.value) c.plot_samples-else-y.ensures
+    plotted_as c.args.starts.now.strip _ _ _ _ (λ p. turned c.args.edge c.reversed-downwards.result p c.reversed-downwards.ensures.value) c.plot_samples-else-y.ensures
 
 pub returns-then-is_apart : goal.returns-then-is_apart
 returns-then-is_apart c =
-    plotted_apart c.args.rule c.args.strip.now _ c.args.flags.now c.args.counters.now
-    (λ s row k x y z. crossed_nowhere c.args.edge c.args.strip.now (length c.args.flags.now) s row k (c.if-is_apart.ensures refl) y z)
+    plotted_apart c.args.starts.now.strip _ c.args.cells.now
+    (λ s row k y z. crossed_nowhere c.args.edge c.args.starts.now.strip (length c.args.cells.now.flags.now) s row k (c.if-is_apart.ensures refl) y z)

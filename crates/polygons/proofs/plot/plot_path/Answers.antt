@@ -6,23 +6,18 @@ use Rattle.polygons.specs.declared.corner.Corner.{Corner}
 use Rattle.polygons.specs.Crossing.{winding}
 use Rattle.polygons.specs.Polygon.{path_edges, path_end}
 use Rattle.polygons.specs.Rings.{position_of}
-use Rattle.polygons.proofs.Plotted.{has_counters, plotted_none, plotted_both, plotted_as, path_step, end_step, none_left, nothing_yet, one_more, nothing_left}
+use Rattle.polygons.proofs.Plotted.{plotted_none, plotted_both, plotted_as, path_step, end_step, none_left, nothing_yet, one_more, nothing_left}
 use Rattle.polygons.proofs.plot.plot_path.Goals as goal
-
-pub plot_edge-requires : goal.plot_edge-requires
-plot_edge-requires c =
-    let v = c.loop-corner.invariant.plotted in
-    has_counters c.args.rule c.args.flags.now c.args.counters.now c.loop-corner.flags c.loop-corner.counters v.flags_len v.counters_len c.requires.counters
 
 abbrev zeros : Corner
 zeros = record { x = pos 0; y = pos 0 }
 
 pub at-to-requires : goal.at-to-requires
-at-to-requires c = All-get_or (λ k. IsInGuardBand (position_of k)) c.args.corners.now c.loop-corner.corner-index zeros c.loop-corner-test.true c.requires.corners
+at-to-requires c = All-get_or (λ k. IsInGuardBand (position_of k)) c.args.corners.now c.loop-corner.corner-index zeros c.loop-corner-test.true c.requires
 
 pub loop-corner-init : goal.loop-corner-init
 loop-corner-init c = record {
-  plotted = plotted_none c.args.rule c.args.strip.now _ c.args.flags.now c.args.counters.now (λ p. nothing_yet (winding (path_edges c.args.from (map position_of c.args.corners.now)) p));
+  plotted = plotted_none c.args.starts.now.strip _ c.args.cells.now (λ p. nothing_yet (winding (path_edges c.args.from (map position_of c.args.corners.now)) p));
   end = refl;
 }
 
@@ -43,7 +38,7 @@ loop-corner-preserved c =
     let small = inside corners i c.loop-corner-test.true in
     let item = item_of to corners i c.loop-corner-test.true c.at-to.ensures in
     record {
-      plotted = plotted_both c.args.rule c.args.strip.now _ _ _ _ _ _ _ _ _
+      plotted = plotted_both c.args.starts.now.strip _ _ _ _ _ _
           (λ p. one_more (winding (path_edges c.args.from cs) p) _ _ _ (path_step from to cs i p small item))
           v.plotted c.plot_edge.ensures;
       end = v.end ∙ end_step from to cs i small item;
@@ -56,7 +51,7 @@ returns c =
     let past : length cs ≤ c.loop-corner.corner-index = omega (arith, length-map c.args.corners.now position_of, c.loop-corner-test.false) in
     let none = none_left cs c.loop-corner.corner-index past in
     record {
-      plotted = plotted_as c.args.rule c.args.strip.now _ _ _ _ _ _
+      plotted = plotted_as c.args.starts.now.strip _ _ _ _
           (λ p. nothing_left (winding (path_edges c.args.from cs) p) _ (ap (λ (r : List Position). winding (path_edges c.loop-corner.from r) p) none))
           v.plotted;
       end = sym_end (path_end c.loop-corner.from (drop c.loop-corner.corner-index cs)) v.end (ap (path_end c.loop-corner.from) none);

@@ -11,7 +11,7 @@ use Rattle.polygons.proofs.plot.plot_run.Goals as goal
 
 pub returns-in-empty : goal.returns-in-empty
 returns-in-empty c = record {
-  plotted = plotted_none c.args.rule c.args.strip.now _ c.args.flags.now c.args.counters.now (no_path c.args.from c.args.corners.now c.in-empty.len_below);
+  plotted = plotted_none c.args.starts.now.strip _ c.args.cells.now (no_path c.args.from c.args.corners.now c.in-empty.len_below);
   end = no_end c.args.from c.args.corners.now c.in-empty.len_below;
 }
 
@@ -21,8 +21,8 @@ returns-in-len1-up c =
     let to : c.at-end.result ≡ path_end c.args.from (map position_of corners) = c.at-end.ensures ∙ sym (path_last c.args.from corners c.in-len1-up.len_at_least) in
     let chord = c.requires.chord c.if-not-is_beside.false in
     record {
-      plotted = plotted_on c.args.rule c.args.strip.now _ _ _ _ _ _
-          (λ s row k h l. ap (λ (q : Position). direction (record { a = c.args.from; b = q }) (strip_sample c.args.strip.now s row k)) to ∙ sym (chord s row k h l)) c.plot_edge.ensures;
+      plotted = plotted_on c.args.starts.now.strip _ _ _ _
+          (λ s row k h l. ap (λ (q : Position). direction (record { a = c.args.from; b = q }) (strip_sample c.args.starts.now.strip s row k)) to ∙ sym (chord s row k h l)) c.plot_edge.ensures;
       end = to;
     }
 

@@ -16,7 +16,7 @@ loop-next-init c =
       first = omega arith;
       last = omega (arith, c.requires.some);
       from = c.at-from.ensures ∙ ap (corner_at corners) at;
-      plotted = plotted_none c.args.rule c.args.strip.now _ c.args.flags.now c.args.counters.now (from_first (corner_at corners c.args.begin) c.at-from.result rest c.at-from.ensures);
+      plotted = plotted_none c.args.starts.now.strip _ c.args.cells.now (from_first (corner_at corners c.args.begin) c.at-from.result rest c.at-from.ensures);
       path = ap (λ (q : Position). path_end q rest) (sym c.at-from.ensures);
     }
 
@@ -25,7 +25,7 @@ plot_run-from-requires-clause-chord c t s row k h l =
     let v = c.loop-next.invariant in
     let run = c.run_of-run.ensures in
     let rise : c.loop-next.next ≤ c.min-behind.result = omega (arith, v.first, c.requires.first, c.loop-next-test.true, run.ends, c.min-behind.ensures) in
-    crossed_as_chord c.args.runs.now c.args.rings.now c.args.strip.now (length c.loop-next.flags) c.run_of-run.result.0 c.loop-next.next c.min-behind.result c.loop-next.from c.requires.runs (c.is_beside-is_beside.ensures.known t)
+    crossed_as_chord c.args.runs.now c.args.rings.now c.args.starts.now.strip (length c.loop-next.cells.flags.now) c.run_of-run.result.0 c.loop-next.next c.min-behind.result c.loop-next.from c.requires.runs (c.is_beside-is_beside.ensures.known t)
     (omega (arith, v.first)) rise (omega (arith, v.first, c.requires.first, run.begins)) (omega (arith, run.held, c.min-behind.ensures)) (omega (arith, c.requires.last, c.min-behind.ensures)) (omega (arith, c.requires.within, c.min-behind.ensures))
     v.from (c.is_beside-is_beside.ensures.beside t) s row k h l
 
@@ -47,7 +47,7 @@ loop-next-preserved c =
       first = omega (arith, v.first, rise);
       last = most;
       from = c.plot_run-from.ensures.end ∙ last_between from corners next behind rise within;
-      plotted = plotted_both c.args.rule c.args.strip.now _ _ _ _ _ _ _ _ _
+      plotted = plotted_both c.args.starts.now.strip _ _ _ _ _ _
           (λ p. one_more (winding (path_edges (corner_at corners c.args.begin) (corners_between corners (c.args.begin + 1) end)) p) _ _ _ (run_step corners next behind end from to upto most c.plot_run-from.ensures.end p))
           v.plotted c.plot_run-from.ensures.plotted;
       path = v.path ∙ end_step corners next behind end from to upto most c.plot_run-from.ensures.end;
@@ -57,6 +57,6 @@ pub returns-clause-plotted : goal.returns-clause-plotted
 returns-clause-plotted c =
     let corners = c.args.rings.now.corners.now in
     let none = between_none corners c.loop-next.next c.args.end (omega (arith, c.loop-next-test.false)) in
-    plotted_as c.args.rule c.args.strip.now _ _ _ _ _ _
+    plotted_as c.args.starts.now.strip _ _ _ _
     (λ p. nothing_left (winding (path_edges (corner_at corners c.args.begin) (corners_between corners (c.args.begin + 1) c.args.end)) p) _ (ap (λ (qs : List Position). winding (path_edges c.loop-next.from qs) p) none))
     c.loop-next.invariant.plotted

@@ -1,7 +1,7 @@
 use Rattle.std.proofs.Common.{◌≡◌, ◌+◌, ◌-◌, ◌<◌, ◌≤◌, ◌-ℤ◌}
 use Rattle.polygons.specs.Crossing.{winding}
 use Rattle.polygons.specs.Polygon.{path_edges, path_end}
-use Rattle.polygons.specs.Cells.{IsPlotted}
+use Rattle.polygons.specs.Plotting.{ArePlotted}
 use Rattle.polygons.specs.Runs.{corner_at, corners_between}
 use Rattle.polygons.proofs.plot.plot_runs.Given as goal
 
@@ -10,7 +10,7 @@ invariant-loop-next l = record {
   first : l.begin < l.next;
   last : l.next ≤ l.end;
   from : l.from ≡ corner_at l.rings.corners.now (l.next - 1);
-  plotted : IsPlotted l.rule l.strip (λ p. winding (path_edges (corner_at l.rings.corners.now l.begin) (corners_between l.rings.corners.now (l.begin + 1) l.end)) p -ℤ winding (path_edges l.from (corners_between l.rings.corners.now l.next l.end)) p) l.initial.flags l.initial.counters l.flags l.counters;
+  plotted : ArePlotted l.starts.strip (λ p. winding (path_edges (corner_at l.rings.corners.now l.begin) (corners_between l.rings.corners.now (l.begin + 1) l.end)) p -ℤ winding (path_edges l.from (corners_between l.rings.corners.now l.next l.end)) p) l.initial.cells l.cells;
   path : path_end (corner_at l.rings.corners.now l.begin) (corners_between l.rings.corners.now (l.begin + 1) l.end) ≡ path_end l.from (corners_between l.rings.corners.now l.next l.end);
 }
 

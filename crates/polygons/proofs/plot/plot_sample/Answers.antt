@@ -1,13 +1,12 @@
-use Rattle.std.proofs.Common.{◌≡◌, inl, inr, refl, arith, ℕ, ◌*◌, ◌<◌, ◌≤◌, ℤ, pos, ◌+ℤ◌, ◌<ℤ◌, ◌≤ℤ◌}
+use Rattle.std.proofs.Common.{◌≡◌, arith, Bool, ℕ, ◌*◌, ◌<◌, ◌≤◌, ℤ, pos, ◌+ℤ◌, ◌<ℤ◌, ◌≤ℤ◌}
 use Rattle.std.proofs.lemmas.Int.{ints}
-use Rattle.std.proofs.lemmas.Bool.{cases_lt}
 use Rattle.grid.specs.Position.{Position, IsInBand}
 use Rattle.grid.proofs.Bounds.{passed}
 use Rattle.polygons.specs.declared.edge.Edge.{Edge}
 use Rattle.polygons.specs.Blocks.{down}
 use Rattle.polygons.specs.Columns.{HasHeight}
-use Rattle.polygons.specs.Cells.{modulus}
-use Rattle.polygons.proofs.Plotted.{alike_none, direction_above, direction_below}
+use Rattle.polygons.specs.Cells.{added_by}
+use Rattle.polygons.proofs.Plotted.{signed_none, direction_above, direction_below, added_none, added_all}
 use Rattle.polygons.proofs.plot.plot_sample.Goals as goal
 
 -- the heights of the rows are told by the coordinates that the code reads
@@ -43,54 +42,31 @@ plot_rows-requires-clause-in_band c =
     let h = through c.args.edge.now c.args.start _ _ _ _ c.first_row-first.result c.first_row-end.result c.first_row-first.result s1 a s2 b c.first_row-first.ensures.below c.first_row-end.ensures.above c.first_row-end.ensures.most (omega arith) c.if-first-end.true in
     inside_band c.args.edge.now _ h (rw c.y-2.ensures.value at c.y-2.ensures.in_band) (rw c.y-4.ensures.value at c.y-4.ensures.in_band)
 
+-- the rows above the edge and below it
+nothing_above : (e : Edge) (s : Position) (forward : Bool) (s1 a : ℤ) (first row k : ℕ) → s1 ≡ s.y → a ≡ e.a.y → e.a.y ≤ℤ e.b.y → ((r : ℕ) → r < first → (s1 +ℤ pos (256 * r)) <ℤ a) → row < first → added_by e forward s row k ≡ pos 0
+nothing_above e s forward s1 a first row k s1_is a_is runs_down above h = signed_none forward _ (direction_above e (down s row) (pos k) runs_down (above_edge s1 s.y a e.a.y first row s1_is a_is above h))
+
+nothing_below : (e : Edge) (s : Position) (forward : Bool) (s2 b : ℤ) (end row k : ℕ) → s2 ≡ s.y → b ≡ e.b.y → e.a.y ≤ℤ e.b.y → ((r : ℕ) → end ≤ r → r < 64 → b ≤ℤ (s2 +ℤ pos (256 * r))) → end ≤ row → row < 64 → added_by e forward s row k ≡ pos 0
+nothing_below e s forward s2 b end row k s2_is b_is runs_down below h l = signed_none forward _ (direction_below e (down s row) (pos k) runs_down (below_edge s2 s.y b e.b.y end row s2_is b_is below h l))
+
 pub returns-then-first-end : goal.returns-then-first-end
 returns-then-first-end c =
-    let p = c.plot_rows.ensures in
-    let e = c.args.edge.now in
-    let s = c.args.start in
-    let m = modulus c.args.rule in
     let s1 = passed c.y.result _ c.y.ensures.in_band c.y.ensures.value in
     let a = passed c.y-2.result _ c.y-2.ensures.in_band c.y-2.ensures.value in
     let s2 = passed c.y-3.result _ c.y-3.ensures.in_band c.y-3.ensures.value in
     let b = passed c.y-4.result _ c.y-4.ensures.in_band c.y-4.ensures.value in
-    record {
-      flags = p.flags;
-      counters = p.counters;
-      here = λ row k f g. elim (cases_lt row c.first_row-first.result) [
-        | inl l ↦
-            alike_none m _ _ _ c.args.forward (p.others c.args.s row k c.requires.sample f (λ _ x _. omega arith))
-            (direction_above e (down s row) (pos k) c.requires.runs_down (above_edge _ s.y _ e.a.y c.first_row-first.result row s1 a c.first_row-first.ensures.above l))
-        | inr l ↦ elim (cases_lt row c.first_row-end.result) [
-          | inl n ↦ p.here row k l n g
-          | inr n ↦
-              alike_none m _ _ _ c.args.forward (p.others c.args.s row k c.requires.sample f (λ _ _ x. omega arith))
-              (direction_below e (down s row) (pos k) c.requires.runs_down (below_edge _ s.y _ e.b.y c.first_row-end.result row s2 b c.first_row-end.ensures.below n f))
-        ]
-      ];
-      others = λ r row k f g n. p.others r row k f g (λ x _ _. n x);
-      marked = p.marked;
-      kept = p.kept;
-    }
+    added_all c.args.rule c.args.s c.first_row-first.result c.first_row-end.result _ _ _ _ _ c.requires.sample
+    (λ row k h. nothing_above c.args.edge.now c.args.start c.args.forward _ _ _ row k s1 a c.requires.runs_down c.first_row-first.ensures.above h)
+    (λ row k h l. nothing_below c.args.edge.now c.args.start c.args.forward _ _ _ row k s2 b c.requires.runs_down c.first_row-end.ensures.below h l) c.plot_rows.ensures
 
 pub returns-else-first-end : goal.returns-else-first-end
 returns-else-first-end c =
-    let e = c.args.edge.now in
-    let s = c.args.start in
-    let m = modulus c.args.rule in
     let s1 = passed c.y.result _ c.y.ensures.in_band c.y.ensures.value in
     let a = passed c.y-2.result _ c.y-2.ensures.in_band c.y-2.ensures.value in
     let s2 = passed c.y-3.result _ c.y-3.ensures.in_band c.y-3.ensures.value in
     let b = passed c.y-4.result _ c.y-4.ensures.in_band c.y-4.ensures.value in
-    record {
-      flags = refl;
-      counters = refl;
-      here = λ row k f g. elim (cases_lt row c.first_row-first.result) [
-        | inl l ↦ alike_none m _ _ _ c.args.forward refl (direction_above e (down s row) (pos k) c.requires.runs_down (above_edge _ s.y _ e.a.y c.first_row-first.result row s1 a c.first_row-first.ensures.above l))
-        | inr l ↦
-            let n : c.first_row-end.result ≤ row = let i = c.if-first-end.false in omega arith in
-            alike_none m _ _ _ c.args.forward refl (direction_below e (down s row) (pos k) c.requires.runs_down (below_edge _ s.y _ e.b.y c.first_row-end.result row s2 b c.first_row-end.ensures.below n f))
-      ];
-      others = λ r row k f g n. refl;
-      marked = λ h. h;
-      kept = λ e. refl;
-    }
+    let low : c.first_row-end.result ≤ c.first_row-first.result = let i = c.if-first-end.false in omega arith in
+    added_all c.args.rule c.args.s c.first_row-first.result c.first_row-first.result _ _ _ _ _ c.requires.sample
+    (λ row k h. nothing_above c.args.edge.now c.args.start c.args.forward _ _ _ row k s1 a c.requires.runs_down c.first_row-first.ensures.above h)
+    (λ row k h l. nothing_below c.args.edge.now c.args.start c.args.forward _ _ _ row k s2 b c.requires.runs_down c.first_row-end.ensures.below (omega arith) l)
+    (added_none c.args.rule c.args.s c.first_row-first.result _ c.args.flags.now c.args.counters.now)

@@ -6,11 +6,17 @@ use Rattle.polygons.specs.declared.rule.Rule.TheVariants.{EvenOdd}
 use Rattle.polygons.proofs.plot.plot_samples.Given as goal
 
 abbrev pub invariant-loop-s : goal.invariant-loop-s
-invariant-loop-s l = record {
-  flags_len : length l.flags ≡ length l.initial.flags;
-  counters_len : length l.counters ≡ length l.initial.counters;
-  done : (s row k : ℕ) → s < l.s → s < 4 → row < 64 → k < 8 * length l.initial.flags → IsAlike (modulus l.rule) (running_sum l.rule l.flags l.counters s row k) (running_sum l.rule l.initial.flags l.initial.counters s row k +ℤ signed l.forward (direction l.edge (strip_sample l.strip s row k)));
-  rest : (s row k : ℕ) → l.s ≤ s → s < 4 → row < 64 → running_sum l.rule l.flags l.counters s row k ≡ running_sum l.rule l.initial.flags l.initial.counters s row k;
-  kept : l.rule ≡ EvenOdd → l.counters ≡ l.initial.counters;
-  marked : AreMarked l.rule l.initial.flags l.initial.counters → AreMarked l.rule l.flags l.counters;
-}
+invariant-loop-s l =
+    let old = l.initial.cells in
+    let new = l.cells in
+    record {
+      rule : new.rule ≡ old.rule;
+      same_flags : new.flags.ghost_name ≡ old.flags.ghost_name;
+      same_counters : new.counters.ghost_name ≡ old.counters.ghost_name;
+      flags_len : length new.flags.now ≡ length old.flags.now;
+      counters_len : length new.counters.now ≡ length old.counters.now;
+      done : (s row k : ℕ) → s < l.s → s < 4 → row < 64 → k < 8 * length old.flags.now → IsAlike (modulus old.rule) (running_sum old.rule new.flags.now new.counters.now s row k) (running_sum old.rule old.flags.now old.counters.now s row k +ℤ signed l.forward (direction l.edge (strip_sample l.starts.strip s row k)));
+      rest : (s row k : ℕ) → l.s ≤ s → s < 4 → row < 64 → running_sum old.rule new.flags.now new.counters.now s row k ≡ running_sum old.rule old.flags.now old.counters.now s row k;
+      kept : old.rule ≡ EvenOdd → new.counters.now ≡ old.counters.now;
+      marked : AreMarked old.rule old.flags.now old.counters.now → AreMarked old.rule new.flags.now new.counters.now;
+    }

@@ -1,4 +1,4 @@
-use Rattle.std.proofs.Common.{refl, ap, ◌∙◌, arith, ℕ, ◌+◌, ◌^◌, ◌<◌, ◌≤◌, List, length, slice_index}
+use Rattle.std.proofs.Common.{◌≡◌, refl, sym, ap, ◌∙◌, arith, ℕ, ◌+◌, ◌^◌, ◌<◌, ◌≤◌, List, length, slice_index}
 use Rattle.std.proofs.lemmas.Nat.Bits.{bit_at-lt}
 use Rattle.polygons.specs.declared.rule.Rule.TheVariants.{EvenOdd, NonZero}
 use Rattle.polygons.specs.Polygon.{polygon_edges, corner_count}
@@ -6,7 +6,7 @@ use Rattle.polygons.specs.Rings.{rings_from}
 use Rattle.polygons.specs.ManyRows.{row_of}
 use Rattle.polygons.specs.Strip.{strip_sample}
 use Rattle.polygons.specs.Cells.{flag_of}
-use Rattle.polygons.proofs.Plotted.{part_small, has_counters}
+use Rattle.polygons.proofs.Plotted.{part_small}
 use Rattle.polygons.proofs.Masks.{mask_of_flags, even_odd_inside, nonzero_inside, marked_zeros, running_sum-zeros, from_zeros}
 use Rattle.polygons.proofs.RingParts.{few_corners}
 use Rattle.polygons.proofs.strip_masks.cover_strip.Goals as goal
@@ -16,46 +16,53 @@ within s n h k = omega arith
 
 pub returns-in-EvenOdd : goal.returns-in-EvenOdd
 returns-in-EvenOdd c =
-    let p = c.plot.ensures in
+    let flags : c.flags-1.given.0 ≡ c.plot.new.cells.flags.now = c.flags-1.given.1.1 (sym c.plot.ensures.same_flags) in
+    let counters : c.counters-1.given.0 ≡ c.plot.new.cells.counters.now = c.counters-1.given.1.1 (sym c.plot.ensures.same_counters) in
+    let p = c.plot.ensures.plotted.plotted in
+    let long = ap (λ (x : List (List ℕ)). length x) flags ∙ p.flags_len in
     let rings = c.args.rings.now in
     let edges = polygon_edges (rings_from rings.corners.now rings.start rings.ends.now) in
     let strip = c.args.strip.now in
     record {
-      len = c.fill.ensures.len ∙ p.flags_len;
+      len = c.fill.ensures.len ∙ long;
       masks = λ s row column h l m.
           rw c.in-EvenOdd.is
           (mask_of_flags EvenOdd edges strip c.fill.new.flags s row column (length c.args.flags.now) l m (λ j k j_small k_small.
           let t = rw c.in-EvenOdd.is at (p.totals s j k h j_small k_small) in
           let sum = from_zeros 2 _ _ _ (running_sum-zeros EvenOdd c.args.flags.now c.args.counters.now s j k c.requires.flags c.requires.counters) t in
-          even_odd_inside edges (strip_sample strip s j k) (flag_of c.plot.new.flags s j) (k + 1) (flag_of c.fill.new.flags s j k) _
-          (c.fill.ensures.bits s j k (within s _ h (part_small strip.count)) j_small (let e = p.flags_len in omega arith)) (bit_at-lt _ _) refl sum));
-      counters = λ column i. ap (λ (cs : List (List ℕ)). slice_index (row_of cs column) i) (p.kept c.in-EvenOdd.is) ∙ c.requires.counters column i;
+          even_odd_inside edges (strip_sample strip s j k) (flag_of c.plot.new.cells.flags.now s j) (k + 1) (flag_of c.fill.new.flags s j k) _
+          (rw flags at (c.fill.ensures.bits s j k (within s _ h (part_small strip.count)) j_small (let e = long in omega arith))) (bit_at-lt _ _) refl sum));
+      counters = λ column i. ap (λ (cs : List (List ℕ)). slice_index (row_of cs column) i) (counters ∙ p.kept c.in-EvenOdd.is) ∙ c.requires.counters column i;
     }
 
 pub returns-in-NonZero : goal.returns-in-NonZero
 returns-in-NonZero c =
-    let p = c.plot.ensures in
+    let flags : c.flags-1.given.0 ≡ c.plot.new.cells.flags.now = c.flags-1.given.1.1 (sym c.plot.ensures.same_flags) in
+    let counters : c.counters-1.given.0 ≡ c.plot.new.cells.counters.now = c.counters-1.given.1.1 (sym c.plot.ensures.same_counters) in
+    let p = c.plot.ensures.plotted.plotted in
+    let long = ap (λ (x : List (List ℕ)). length x) flags ∙ p.flags_len in
     let shape = c.args.rings.now in
     let rings = rings_from shape.corners.now shape.start shape.ends.now in
     let few : corner_count rings < 2 ^ 32 = omega (arith, few_corners shape.corners.now shape.start shape.ends.now shape.rising, shape.few) in
     let strip = c.args.strip.now in
     record {
-      len = c.sum.ensures.len ∙ p.flags_len;
+      len = c.sum.ensures.len ∙ long;
       masks = λ s row column h l m.
           rw c.in-NonZero.is
           (mask_of_flags NonZero (polygon_edges rings) strip c.sum.new.flags s row column (length c.args.flags.now) l m (λ j k j_small k_small.
           let t = rw c.in-NonZero.is at (p.totals s j k h j_small k_small) in
           let sum = from_zeros (2 ^ 32) _ _ _ (running_sum-zeros NonZero c.args.flags.now c.args.counters.now s j k c.requires.flags c.requires.counters) t in
           nonzero_inside rings (strip_sample strip s j k) (flag_of c.sum.new.flags s j k) _ few
-          (c.sum.ensures.bits s j k (within s _ h (part_small strip.count)) j_small (let e = p.flags_len in omega arith)) sum));
+          (rw (flags, counters) at (c.sum.ensures.bits s j k (within s _ h (part_small strip.count)) j_small (let e = long in omega arith))) sum));
       counters = c.sum.ensures.counters;
     }
 
 pub sum-requires : goal.sum-requires
 sum-requires c =
-    let p = c.plot.ensures in
-    let columns = has_counters c.args.rule c.args.flags.now c.args.counters.now c.plot.new.flags c.plot.new.counters p.flags_len p.counters_len c.requires.columns in
+    let flags : c.flags-1.given.0 ≡ c.plot.new.cells.flags.now = c.flags-1.given.1.1 (sym c.plot.ensures.same_flags) in
+    let counters : c.counters-1.given.0 ≡ c.plot.new.cells.counters.now = c.counters-1.given.1.1 (sym c.plot.ensures.same_counters) in
+    let p = c.plot.ensures.plotted in
     record {
-      columns = rw c.in-NonZero.is at columns;
-      marked = rw c.in-NonZero.is at (p.marked (marked_zeros c.args.rule c.args.flags.now c.args.counters.now c.requires.counters));
+      columns = rw (flags, counters) (c.plot.new.cells.columns (p.rule ∙ c.in-NonZero.is));
+      marked = rw (flags, counters) (rw c.in-NonZero.is at (p.plotted.marked (marked_zeros c.args.rule c.args.flags.now c.args.counters.now c.requires.counters)));
     }
