@@ -26,7 +26,7 @@
 #
 # To prove it:
 #   make prove     everything that needs the prover: each crate with its tests, the programs by two compilers, the must-fail edits that
-#                  are due and a sample; make prove-all tries all of them, after the whole of rt ci
+#                  are due and a sample; make prove-all runs the whole of rt ci, which tries all of them
 #   make record    write the edits that make prove saw refused into tests/edits_tried.json
 #
 # To measure it:

@@ -36,6 +36,7 @@ from tools.places import BENCH_OUT, EXAMPLES, FRAMES_OF_LEVEL, LEVEL, MODEL_PROG
 SCENES = (
     "smooth", "small", "mesh", "slivers", "blended", "flat", "flat_depth", "flat_blended", "large_mesh", "whole_values",
     "thin_slivers", "level_rows", "depths_first", "levels", "levels_four", "levels_depth", "charts", "steps", "sprites", "dust",
+    "hidden_quads",
 )
 WORKERS = (1, 4)
 FRAMES_A_TURN = 3

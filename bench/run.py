@@ -29,7 +29,7 @@ from tools.places import BENCH_OUT, PROGRAM, TOP, is_built
 SCENES = (
     "tiny", "empty", "smooth", "small", "mesh", "slivers", "blended", "flat", "flat_depth", "flat_blended", "large_mesh",
     "whole_values", "thin_slivers", "level_rows", "depths_first", "levels", "levels_four", "levels_depth", "charts", "steps", "sprites",
-    "dust", "long_list", "refused_list",
+    "dust", "hidden_quads", "long_list", "refused_list",
 )
 # Lists that are refused: the program ends with status 1 and no picture.
 REFUSED = ("refused_list",)

@@ -298,6 +298,19 @@ def dust() -> DrawList:
     draws = draws_of(triangles, depth_test="less", depth_write=True)
     return {"width": 1920, "height": 1080, "draws": draws}
 
+
+def hidden_quads() -> DrawList:
+    """Four layers of 7,225 quads of 12 pixels with a colour at each corner: the first layer hides the others, by the depth test."""
+    side, columns = 12, 85
+    triangles = []
+    for layer in range(4):
+        for place in range(columns**2):
+            row, column = divmod(place, columns)
+            triangles += level_quad(side * column + 37 / 256, side * row + 37 / 256, side, 255, (10000 * (layer + 1), 100))
+    draws = draws_of(triangles, depth_test="less", depth_write=True)
+    return {"width": 1024, "height": 1024, "draws": draws}
+
+
 def refused_list() -> DrawList:
     """The long list with its last index past the vertices: an error that is found only at the end."""
     scene = long_list()
@@ -343,6 +356,7 @@ SCENES = {
     "steps": steps,
     "sprites": sprites,
     "dust": dust,
+    "hidden_quads": hidden_quads,
     "long_list": long_list,
     "refused_list": refused_list,
 }

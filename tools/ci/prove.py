@@ -4,10 +4,12 @@
 
 Every crate is proved, as many side by side as there are processors, those with the longest chain above them first. A
 crate that is proved is checked as it stands, which says what its last line rests on, and then its tests and must-fail
-edits are tried beside the crates above. `edits.py` says which edits that are; with --all it is every one, and the whole
-of `rt ci` comes first. Over work that is kept in this checkout a step is taken again only if the crate or one below it
-has changed; with --anew each is. With crates named, only they and those below them are proved, by `rt ci` too, and all
-edits of those named are tried.
+edits are tried beside the crates above. `edits.py` says which edits that are. Over work that is kept in this checkout a
+step is taken again only if the crate or one below it has changed; with --anew each is. With crates named, only they and
+those below them are proved, and all edits of those named are tried.
+
+With --all the whole of `rt ci` comes first, which proves, tests and runs everything and tries every edit. What is left
+for the steps here are the edits that it did not name as refused, with the crates that these need.
 
 A line for each step has the time, the seconds of a processor and what came of it. What failed stands once more at the
 end. The last line is `N passed, M failed, K skipped`. Exit status 1 if something failed. Which edits were refused is
@@ -122,6 +124,11 @@ def known_seconds(top: str) -> dict[str, int]:
     return {**seconds.read_file(os.path.join(top, seconds.KNOWN)), **of_edits}
 
 
+def crate_of(name: str) -> str:
+    """The crate of an edit by its name, CRATE/NAME.edit."""
+    return name.split("/")[0]
+
+
 def chosen(run: Run, options: argparse.Namespace, refused: frozenset[str]) -> tuple[list[str], list[str], dict[str, int]]:
     """The crates to prove, the edits to try but those that were refused, and what these are known to take. Edits that cannot be
     applied are counted as failed."""
@@ -133,12 +140,12 @@ def chosen(run: Run, options: argparse.Namespace, refused: frozenset[str]) -> tu
     edits.say_plan(plan, len(every))
     run.counts += Counts(failed=len(plan.faults))
     names = every if options.all else [*plan.due, *plan.sample]
-    crates = list(run.tree.uses)
     if options.crates:
-        wanted = set(options.crates).union(*(below(crate, run.tree.uses) for crate in options.crates))
-        crates = [crate for crate in crates if crate in wanted]
-        names = [name for name in every if name.split("/")[0] in options.crates]
-    return crates, [name for name in names if name not in plan.faults and name not in refused], known
+        names = [name for name in every if crate_of(name) in options.crates]
+    names = [name for name in names if name not in plan.faults and name not in refused]
+    asked = {crate_of(name) for name in names} if options.all else options.crates or run.tree.uses
+    wanted = set(asked).union(*(below(crate, run.tree.uses) for crate in asked))
+    return [crate for crate in run.tree.uses if crate in wanted], names, known
 
 
 @contextlib.contextmanager

@@ -140,6 +140,12 @@ def test_all_finds_an_edit_that_is_not_due_and_proved(
     assert not re.search(r"\S+\.edit: refused: ", ran.said)
 
 
+def test_what_rt_ci_passed_is_not_proved_again(tree: SmallTree, capsys: pytest.CaptureFixture[str]) -> None:
+    ran = Proved(tree, capsys, all=True)
+    assert ran.counts == Counts(2 + FUNCTIONS), ran.said
+    assert "proof: " not in ran.said and set(tried.read_file(os.path.join(tree.top, tried.REFUSED))) == {"low", "high", "apart"}
+
+
 def test_a_definition_below_that_is_weakened_makes_edits_due(tree: SmallTree, capsys: pytest.CaptureFixture[str]) -> None:
     base = believed(tree)
     tree.change("crates/low/specs/Next.antt", "1 ≤ 2", "1 ≤ 3")
