@@ -2,8 +2,8 @@
 ghost use Rattle.std.specs.Prelude.{◌≡◌, ◌<◌, ◌≤◌, ◌/◌, [], length, slice_index_or, ⊤};
 ghost use Rattle.model.specs.Checking.{IsJudged};
 ghost use Rattle.model.specs.Primitives.{quad_list};
-ghost use Rattle.batch.specs.Listed.{quads_of, primitives_listed};
-ghost use Rattle.batch.specs.OwnIndices.{indices_given, count_of_indices, own_indices};
+ghost use Rattle.batch.specs.Listed.{quads_of};
+ghost use Rattle.batch.specs.OwnIndices.{indices_given};
 ghost use Rattle.batch.specs.Checks.{index_checks, position_checks, quad_checks, element_checks, primitives_checks, draw_checks, draws_checks};
 
 use crate::draw::BatchDraw;
@@ -75,24 +75,7 @@ fn check_each_quad<V: Vertices, I: Indices>(
     Ok(())
 }
 
-/// Checks the quads, if the primitives are quads.
-fn check_quads<V: Vertices, I: Indices>(
-    topology: u8,
-    vertices: &V,
-    indices: &I,
-    origin: &Origin,
-) -> Result<(), DrawFault>
-    ensures { IsJudged (quad_checks origin.now.x origin.now.y (V.listed vertices.now)
-        (primitives_listed topology (I.listed indices.now))) (λ done. ⊤) result }
-{
-    match topology {
-        0 => Ok(()),
-        1 => Ok(()),
-        _ => check_each_quad(vertices, indices, origin),
-    }
-}
-
-/// Checks the indices of a draw of these vertices, then the vertices that they name, then its quads.
+/// Checks the indices of a draw of these vertices, then the vertices that they name, then its quads, if it has any.
 fn check_elements<V: Vertices, I: Indices>(
     topology: u8,
     vertices: &V,
@@ -108,7 +91,11 @@ fn check_elements<V: Vertices, I: Indices>(
     if let Err(fault) = check_positions(vertices, indices, origin) {
         return Err(fault);
     }
-    check_quads(topology, vertices, indices, origin)
+    match topology {
+        0 => Ok(()),
+        1 => Ok(()),
+        _ => check_each_quad(vertices, indices, origin),
+    }
 }
 
 /// Checks the primitives of a draw of these vertices.
@@ -132,37 +119,6 @@ fn check_primitives<V: Vertices, I: Indices>(
     check_elements(topology, vertices, indices, origin)
 }
 
-/// Checks the primitives of a draw of these vertices, whose indices are the first of these.
-fn check_own<V: Vertices>(
-    draw: &BatchDraw,
-    vertices: &V,
-    indices: &BatchIndices<'_>,
-    origin: &Origin,
-    ids: Option<u32>,
-) -> Result<(), DrawFault>
-    requires { draw.now.indices ≤ count_of_indices (indices_given indices.now) }
-    ensures { IsJudged (primitives_checks origin.now.x origin.now.y ids (V.listed vertices.now) draw.now.topology
-        (own_indices draw.now (indices_given indices.now))) (λ done. ⊤) result }
-{
-    let topology = draw.topology;
-    match indices {
-        BatchIndices::Words(all) => {
-            let own = &all[..draw.indices];
-            check_primitives(topology, vertices, &own, origin, ids)
-        }
-        BatchIndices::Halves(all) => {
-            let own = &all[..draw.indices];
-            check_primitives(topology, vertices, &own, origin, ids)
-        }
-        BatchIndices::InOrder => {
-            let own = InOrder {
-                count: draw.vertices,
-            };
-            check_primitives(topology, vertices, &own, origin, ids)
-        }
-    }
-}
-
 /// Checks a draw, whose vertices and indices are the first of these.
 fn check_draw<V: Vertices>(
     draw: &BatchDraw,
@@ -174,8 +130,8 @@ fn check_draw<V: Vertices>(
     ensures { IsJudged (draw_checks origin.now.x origin.now.y ids draw.now (V.listed vertices.now) (indices_given indices.now))
         (λ done. ⊤) result }
 {
-    let own_vertices = draw.vertices;
-    if own_vertices > vertices.count() {
+    let topology = draw.topology;
+    if draw.vertices > vertices.count() {
         return Err(DrawFault::of_draw(BatchCause::TooFewVertices));
     }
     if draw.indices > indices.count() {
@@ -184,7 +140,23 @@ fn check_draw<V: Vertices>(
     if let Err(cause) = draw.check_state() {
         return Err(DrawFault::of_draw(cause));
     }
-    check_own(draw, &vertices.first(own_vertices), indices, origin, ids)
+    let vertices = vertices.first(draw.vertices);
+    match indices {
+        BatchIndices::Words(all) => {
+            let own = &all[..draw.indices];
+            check_primitives(topology, &vertices, &own, origin, ids)
+        }
+        BatchIndices::Halves(all) => {
+            let own = &all[..draw.indices];
+            check_primitives(topology, &vertices, &own, origin, ids)
+        }
+        BatchIndices::InOrder => {
+            let own = InOrder {
+                count: draw.vertices,
+            };
+            check_primitives(topology, &vertices, &own, origin, ids)
+        }
+    }
 }
 
 /// Checks draws. Returns the fault of the first check that fails.

@@ -15,18 +15,6 @@ use grid::{Point, Quad, Tri};
 use model::Vertex;
 use shade::{Placed, State};
 
-/// What an index past the end of the vertices stands for.
-const NONE: BatchVertex = BatchVertex {
-    x: 0,
-    y: 0,
-    depth: 0,
-    red: 0,
-    green: 0,
-    blue: 0,
-    alpha: 0,
-    unused: 0,
-};
-
 /// The vertex of this index; past the end one of zeros.
 fn numbers_at<V: Vertices>(vertices: &V, index: usize) -> BatchVertex
     ensures { result ≡ vertex_at (V.listed vertices.now) index }
@@ -34,7 +22,7 @@ fn numbers_at<V: Vertices>(vertices: &V, index: usize) -> BatchVertex
     if index < vertices.count() {
         return vertices.at(index);
     }
-    NONE
+    BatchVertex::default()
 }
 
 /// The vertex of this index, or `None` if it cannot be seen.

@@ -8,7 +8,7 @@ use model::Vertex;
 
 /// A vertex of a draw, laid out as in C.
 #[repr(C)]
-#[derive(Clone, Copy, Debug, PartialEq, Eq)]
+#[derive(Clone, Copy, Debug, Default, PartialEq, Eq)]
 pub struct BatchVertex {
     /// To the right, in 1/256 pixel of the screen: -8388608 to 8388607.
     pub x: i32,

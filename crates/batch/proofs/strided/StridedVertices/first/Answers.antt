@@ -1,4 +1,4 @@
-use Rattle.std.proofs.Common.{sym, ◌+◌, ◌≤◌, arith}
+use Rattle.std.proofs.Common.{sym, ◌≤◌, arith}
 use Rattle.std.proofs.lemmas.List.FromFn.{take-map-range_with_len}
 use Rattle.batch.specs.Strides.{vertex_in}
 use Rattle.batch.proofs.Ranges.{count_from}
