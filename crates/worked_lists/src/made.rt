@@ -1,7 +1,7 @@
 //! Lists that are made without a text, of which their maker says only whether they are within the limits.
 use grid::{Point, SampleCount};
 use list::{Draw, DrawList, Primitives, Vertex};
-use model::{DEFAULT_CLEAR, DEFAULT_OUTPUT, DEFAULT_STATE};
+use model::{DEFAULT_CLEAR, DEFAULT_OUTPUT, DEFAULT_STATE, Target};
 use std::alloc::{AllocError, Global};
 
 /// What comes of a list of this size with these draws.
@@ -10,16 +10,14 @@ fn made(
     (width, height): (u32, u32),
     draws: Vec<Draw>,
 ) -> Result<String, AllocError> {
-    let list = DrawList::new(
-        alloc,
+    let target = Target {
         width,
         height,
-        SampleCount::Four,
-        DEFAULT_CLEAR,
-        DEFAULT_OUTPUT,
-        draws,
-    );
-    match list {
+        count: SampleCount::Four,
+        clear: DEFAULT_CLEAR,
+        output: DEFAULT_OUTPUT,
+    };
+    match DrawList::new(alloc, target, draws) {
         Ok(list) => {
             let (width, height) = (list.width(), list.height());
             format!(in alloc; "{width} {height}")
