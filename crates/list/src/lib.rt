@@ -7,6 +7,6 @@ pub use checking_reader::read_by_value;
 pub use fast_reader::read_in_one_pass;
 pub use model::{
     Draw, DrawList, ListFault, MOST_BYTES, Output, Placed, Primitives, ReadFault, ReadKind,
-    RowSpan, State, Vertex, depth_bytes,
+    RowSpan, State, Target, Vertex, depth_bytes,
 };
 pub use reader::read;

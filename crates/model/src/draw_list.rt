@@ -1,5 +1,5 @@
 ghost use Rattle.std.specs.Prelude.{◌≡◌, ◌↔◌, ◌<◌, ◌≤◌, length, slice_get, Some, IfSome, IfOk};
-ghost use Rattle.model.specs.Listing.{listing_of, listing_on, scene_of, IsListingWithinLimits};
+ghost use Rattle.model.specs.Listing.{listing_on, scene_of, IsListingWithinLimits};
 ghost use Rattle.model.specs.Rows.{IsRowSpan};
 ghost use Rattle.model.specs.Place.{IsPlace};
 
@@ -78,36 +78,20 @@ impl Triangles for DrawList {
 }
 
 impl DrawList {
-    /// The draw list of these draws. Fails with `PastLimit` before it allocates, if they are past a limit.
+    /// The draw list of these draws on this target. Fails with `PastLimit` before it allocates, if it is past a limit.
     ///
     /// The state of a draw has no limits. Of its sample mask the bits of the picture's samples count, and of its
     /// scissor the pixels of the picture. So a mask above 15 and a scissor with sides outside of 0 to 4096, which the
     /// reader refuses, may stand here.
-    pub fn new(
-        alloc: Global,
-        width: u32,
-        height: u32,
-        count: SampleCount,
-        clear: Sample,
-        output: Output,
-        draws: Vec<Draw>,
-    ) -> Result<DrawList, ListFault>
-        ensures scene { IfOk result (λ list. list ≡ scene_of (listing_of width height count clear output draws.items)) }
-        ensures limits { IfOk result
-            (λ _. IsListingWithinLimits (listing_of width height count clear output draws.items)) }
+    pub fn new(alloc: Global, target: Target, draws: Vec<Draw>) -> Result<DrawList, ListFault>
+        ensures scene { IfOk result (λ list. list ≡ scene_of (listing_on target draws.items)) }
+        ensures limits { IfOk result (λ _. IsListingWithinLimits (listing_on target draws.items)) }
         ensures past_limit { (result ≡ Err ListFault.PastLimit) ↔
-            ¬ IsListingWithinLimits (listing_of width height count clear output draws.items) }
+            ¬ IsListingWithinLimits (listing_on target draws.items) }
     {
-        if !is_side(width) || !is_side(height) || !are_within_limits(&draws) {
+        if !is_side(target.width) || !is_side(target.height) || !are_within_limits(&draws) {
             return Err(ListFault::PastLimit);
         }
-        let target = Target {
-            width,
-            height,
-            count,
-            clear,
-            output,
-        };
         Ok(DrawList::within_limits(alloc, target, draws)?)
     }
 

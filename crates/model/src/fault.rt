@@ -98,18 +98,6 @@ impl From<ReadKind> for ReadFault {
     }
 }
 
-impl From<AllocError> for ReadFault {
-    ghost use Rattle.std.specs.Prelude.{◌≡◌};
-    ghost use Rattle.model.specs.Checks.{outside as fault_outside};
-    ghost use Rattle.model.specs.declared.fault.ReadKind.TheVariants.{OutOfMemory};
-
-    ghost from_gives = { λ _ fault. fault ≡ fault_outside OutOfMemory };
-
-    fn from(_refused: AllocError) -> ReadFault {
-        ReadFault::outside(ReadKind::OutOfMemory)
-    }
-}
-
 impl From<OutOfMemory> for ReadFault {
     ghost use Rattle.std.specs.Prelude.{◌≡◌};
     ghost use Rattle.model.specs.Checks.{outside as fault_outside};

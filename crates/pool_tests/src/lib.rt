@@ -9,3 +9,5 @@ mod dealing;
 mod gates;
 #[cfg(test)]
 mod running;
+#[cfg(test)]
+mod waiting;

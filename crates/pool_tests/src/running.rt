@@ -1,6 +1,7 @@
 //! Runs of the pool.
 ghost use Rattle.std.specs.Prelude.{◌≡◌, ◌*◌, ◌≤◌};
 
+use crate::waiting::Waiting;
 use grid::OutOfMemory;
 use pool::{Dealer, Desks, Gate, Job, Open, PoolFault, Tickets, run};
 use std::alloc::Global;
@@ -75,57 +76,11 @@ fn many_runs(rt: HostRuntime) -> Result<(), Fail> {
     Ok(())
 }
 
-/// Holds the work of the first tile begun until the other's work has ended, and returns whether it ended.
-#[derive(Drop)]
-struct Meeting {
-    begun: AtomicU64,
-    ended: AtomicU64,
-}
-
-impl Meeting {
-    fn new() -> Meeting {
-        Meeting {
-            begun: AtomicU64::new(0),
-            ended: AtomicU64::new(0),
-        }
-    }
-}
-
-impl Job for Meeting {
-    type Out = bool;
-
-    type Scratch = ();
-
-    ghost right = { λ _ _ _. Unit {0} };
-
-    ghost fits = { λ _ _. Unit {0} };
-
-    ghost can_work = { λ _ _. Unit {0} };
-
-    fn scratch(&self, _alloc: Global) -> Result<(), OutOfMemory> {
-        Ok(())
-    }
-
-    fn work(&self, _alloc: Global, _k: u32, _scratch: &mut ()) -> Result<bool, OutOfMemory> {
-        if self.begun.fetch_add(1, Ordering::SeqCst) > 0 {
-            self.ended.fetch_add(1, Ordering::SeqCst);
-            return Ok(true);
-        }
-        for _ in 0..1_000_000 {
-            if self.ended.load(Ordering::SeqCst) > 0 {
-                return Ok(true);
-            }
-            thread::yield_now();
-        }
-        Ok(false)
-    }
-}
-
 #[test]
 fn two_at_once(rt: HostRuntime) -> Result<(), Fail> {
-    let by_tickets = run::<_, Tickets, _, _>(&rt, rt.alloc(), 2, 2, &Meeting::new(), &Open)?;
+    let by_tickets = run::<_, Tickets, _, _>(&rt, rt.alloc(), 2, 2, &Waiting::for_second(), &Open)?;
     assert!(rt; by_tickets.as_slice() == [true, true].as_slice());
-    let by_desks = run::<_, Desks, _, _>(&rt, rt.alloc(), 2, 2, &Meeting::new(), &Open)?;
+    let by_desks = run::<_, Desks, _, _>(&rt, rt.alloc(), 2, 2, &Waiting::for_second(), &Open)?;
     assert!(rt; by_desks.as_slice() == [true, true].as_slice());
     Ok(())
 }

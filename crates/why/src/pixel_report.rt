@@ -11,8 +11,10 @@ use std::fmt::Write as _;
 
 /// Appends what the picture shows at the pixel, as a member of a JSON text or as the last line of a table.
 fn push_value(form: Form, output: Output, pixel: &Pixel, out: &mut String) -> Result<(), AllocError>
-    ensures json { form ≡ Json → OnOk result (string_bytes out.new ≡ string_bytes out.old ++ value_json output pixel.now) }
-    ensures table { form ≡ Table → OnOk result (string_bytes out.new ≡ string_bytes out.old ++ value_table output pixel.now) }
+    ensures json { form ≡ Json →
+        OnOk result (string_bytes out.new ≡ string_bytes out.old ++ value_json output pixel.now) }
+    ensures table { form ≡ Table →
+        OnOk result (string_bytes out.new ≡ string_bytes out.old ++ value_table output pixel.now) }
 {
     let [r, g, b] = pixel.colour;
     let depth = pixel.depth;

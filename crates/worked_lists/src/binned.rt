@@ -5,15 +5,14 @@ use grid::{OutOfMemory, SampleCount, TileSide};
 use list::{DrawList, Placed};
 use std::alloc::{AllocError, Global};
 
-/// The bins of a picture's tiles of this size, in order.
+/// The bins of a picture's tiles, in order.
 pub(crate) fn bins_of(
     alloc: Global,
     list: &DrawList,
-    side: TileSide,
+    tiling: &Tiling,
 ) -> Result<String, AllocError> {
-    let tiling = Tiling::new(list.width(), list.height(), side);
     let mut all = String::new(alloc);
-    let Ok(bins) = Bins::build(alloc, list, &tiling, 0, tiling.rows()) else {
+    let Ok(bins) = Bins::build(alloc, list, tiling, 0, tiling.rows()) else {
         return Ok(all);
     };
     for k in 0..tiling.tiles() {
@@ -60,12 +59,11 @@ fn is_exact(list: &DrawList, tiling: &Tiling, k: u32, bin: &[u32]) -> bool {
 pub(crate) fn are_exact(
     alloc: Global,
     list: &DrawList,
-    side: TileSide,
+    tiling: &Tiling,
 ) -> Result<bool, OutOfMemory> {
-    let tiling = Tiling::new(list.width(), list.height(), side);
-    let bins = Bins::build(alloc, list, &tiling, 0, tiling.rows())?;
+    let bins = Bins::build(alloc, list, tiling, 0, tiling.rows())?;
     for k in 0..tiling.tiles() {
-        if !is_exact(list, &tiling, k, bins.bin(k)) {
+        if !is_exact(list, tiling, k, bins.bin(k)) {
             return Ok(false);
         }
     }

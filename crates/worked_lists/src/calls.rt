@@ -1,20 +1,25 @@
 //! The calls of a line, and whether they give what the line says.
+ghost use Rattle.std.specs.Prelude.{◌<◌, length};
+
 use crate::binned::{agree_by_rows, are_exact, bins_of};
-use crate::lists::{corners_of, head_of, list_of, rows_of, state_of, values_of};
+use crate::lists::{corners_of, head_of, list_of, state_of};
 use crate::made::{made_of, quad_of};
 use crate::readers::kind_of;
+use bins::Tiling;
 use grid::TileSide;
 use list::DrawList;
 use std::alloc::{AllocError, Global};
 
-fn side_of(word: &str) -> Option<TileSide> {
-    match word {
-        "T8" => Some(TileSide::T8),
-        "T16" => Some(TileSide::T16),
-        "T32" => Some(TileSide::T32),
-        "T64" => Some(TileSide::T64),
-        _ => None,
-    }
+/// The tiles of the size that a word names, over a list's picture.
+fn tiling_of(list: &DrawList, word: &str) -> Option<Tiling> {
+    let side = match word {
+        "T8" => TileSide::T8,
+        "T16" => TileSide::T16,
+        "T32" => TileSide::T32,
+        "T64" => TileSide::T64,
+        _ => return None,
+    };
+    Some(Tiling::new(list.width(), list.height(), side))
 }
 
 fn number_of(word: Option<&str>) -> Option<u32> {
@@ -34,6 +39,26 @@ fn made_by(alloc: Global, name: &str, numbers: &str) -> Result<Option<String>, A
     }
 }
 
+/// What a call gives of the triangle of this number: also its depths and colours at the corners, and the rows of pixels
+/// that it may reach, the first, and the one after the last.
+fn of_triangle(
+    alloc: Global,
+    name: &str,
+    list: &DrawList,
+    number: usize,
+) -> Result<Option<String>, AllocError>
+    requires { number < length list.now.triangles }
+{
+    let (placed, rows) = (list.triangle(number), list.rows(number));
+    Ok(match name {
+        "corners" => Some(corners_of(alloc, &placed.tri)?),
+        "values" => Some(format!(in alloc; "{:?} {:?}", placed.z, placed.rgba)?),
+        "state" => Some(state_of(alloc, &placed.state)?),
+        "rows" => Some(format!(in alloc; "{} {}", rows.first, rows.end)?),
+        _ => None,
+    })
+}
+
 /// What a call gives of a list.
 fn given_of(
     alloc: Global,
@@ -45,21 +70,15 @@ fn given_of(
         return Ok(Some(head_of(alloc, list)?));
     }
     if name == "bins" {
-        return match side_of(word) {
-            Some(side) => Ok(Some(bins_of(alloc, list, side)?)),
+        return match tiling_of(list, word) {
+            Some(tiling) => Ok(Some(bins_of(alloc, list, &tiling)?)),
             None => Ok(None),
         };
     }
-    let Ok(number) = word.parse::<usize>() else {
-        return Ok(None);
-    };
-    Ok(match name {
-        "corners" => Some(corners_of(alloc, list, number)?),
-        "values" => Some(values_of(alloc, list, number)?),
-        "state" => Some(state_of(alloc, list, number)?),
-        "rows" => Some(rows_of(alloc, list, number)?),
-        _ => None,
-    })
+    match word.parse::<usize>() {
+        Ok(number) if number < list.triangles() => of_triangle(alloc, name, list, number),
+        _ => Ok(None),
+    }
 }
 
 /// What a call gives, or `None` if there is no such call. All but `head` have a word before the list.
@@ -75,22 +94,15 @@ fn given(alloc: Global, name: &str, words: &str) -> Result<Option<String>, Alloc
 }
 
 /// Whether the bins of the list are exact for tiles of this size.
-fn has_exact_bins(alloc: Global, words: &str) -> bool {
-    let Some((word, text)) = words.split_once(' ') else {
-        return false;
-    };
-    match (side_of(word), list_of(alloc, text)) {
-        (Some(side), Some(list)) => are_exact(alloc, &list, side).unwrap_or(false),
-        _ => false,
-    }
+fn has_exact_bins(alloc: Global, words: &str) -> Option<bool> {
+    let (word, text) = words.split_once(' ')?;
+    let list = list_of(alloc, text)?;
+    are_exact(alloc, &list, &tiling_of(&list, word)?).ok()
 }
 
 /// Whether the bins of the list agree by rows.
-fn has_bins_by_rows(alloc: Global, text: &str) -> bool {
-    match list_of(alloc, text) {
-        Some(list) => agree_by_rows(alloc, &list).unwrap_or(false),
-        None => false,
-    }
+fn has_bins_by_rows(alloc: Global, text: &str) -> Option<bool> {
+    agree_by_rows(alloc, &list_of(alloc, text)?).ok()
 }
 
 /// Whether a call gives this text.
@@ -111,8 +123,8 @@ pub(crate) fn holds(alloc: Global, line: &str) -> Result<bool, AllocError> {
         return Ok(false);
     };
     match name {
-        "exact" => return Ok(has_exact_bins(alloc, words)),
-        "by_rows" => return Ok(has_bins_by_rows(alloc, words)),
+        "exact" => return Ok(has_exact_bins(alloc, words) == Some(true)),
+        "by_rows" => return Ok(has_bins_by_rows(alloc, words) == Some(true)),
         _ => {}
     }
     match words.split_once(" = ") {

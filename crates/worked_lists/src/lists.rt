@@ -1,5 +1,6 @@
 //! What a list that was read has, as text.
-use list::{DrawList, MOST_BYTES, read};
+use grid::Tri;
+use list::{DrawList, MOST_BYTES, State, read};
 use shade::Blend;
 use std::alloc::{AllocError, Global};
 
@@ -23,45 +24,15 @@ pub(crate) fn head_of(alloc: Global, list: &DrawList) -> Result<String, AllocErr
 }
 
 /// The corners of a triangle.
-pub(crate) fn corners_of(
-    alloc: Global,
-    list: &DrawList,
-    number: usize,
-) -> Result<String, AllocError> {
-    if number >= list.triangles() {
-        return Ok(String::new(alloc));
-    }
-    let tri = list.triangle(number).tri;
+pub(crate) fn corners_of(alloc: Global, tri: &Tri) -> Result<String, AllocError> {
     let ((ax, ay), (bx, by)) = ((tri.a.x(), tri.a.y()), (tri.b.x(), tri.b.y()));
     let (cx, cy) = (tri.c.x(), tri.c.y());
     format!(in alloc; "{ax} {ay}  {bx} {by}  {cx} {cy}")
 }
 
-/// The depths and colours at the corners.
-pub(crate) fn values_of(
-    alloc: Global,
-    list: &DrawList,
-    number: usize,
-) -> Result<String, AllocError> {
-    if number >= list.triangles() {
-        return Ok(String::new(alloc));
-    }
-    let placed = list.triangle(number);
-    let (z, rgba) = (placed.z, placed.rgba);
-    format!(in alloc; "{z:?} {rgba:?}")
-}
-
 /// Which triangles are culled, the depth test, whether depths are written, which channels are, whether it blends, the
 /// sample mask and the scissor.
-pub(crate) fn state_of(
-    alloc: Global,
-    list: &DrawList,
-    number: usize,
-) -> Result<String, AllocError> {
-    if number >= list.triangles() {
-        return Ok(String::new(alloc));
-    }
-    let state = list.triangle(number).state;
+pub(crate) fn state_of(alloc: Global, state: &State) -> Result<String, AllocError> {
     let (cull, mask, scissor) = (state.cull, state.sample_mask, state.scissor);
     let (test, depth_write) = (state.merge.test, state.merge.depth_write);
     let (write, over) = (state.merge.write, state.merge.blend == Blend::OVER);
@@ -69,14 +40,4 @@ pub(crate) fn state_of(
     format!(in alloc;
         "{cull:?} {test:?} {depth_write:?} {write:?} {over:?} {mask} {x0} {y0} {x1} {y1}"
     )
-}
-
-/// The rows of pixels that a triangle may reach: the first, and the one after the last.
-pub(crate) fn rows_of(alloc: Global, list: &DrawList, number: usize) -> Result<String, AllocError> {
-    if number >= list.triangles() {
-        return Ok(String::new(alloc));
-    }
-    let rows = list.rows(number);
-    let (first, end) = (rows.first, rows.end);
-    format!(in alloc; "{first} {end}")
 }

@@ -1,32 +1,8 @@
 //! Lists that are made without a text, of which their maker says only whether they are within the limits.
-use grid::{Cull, PixelBox, Point, SampleCount};
-use list::{Draw, DrawList, Output, Primitives, State, Vertex};
-use shade::{Blend, DepthTest, Merge, Sample};
+use grid::{Point, SampleCount};
+use list::{Draw, DrawList, Primitives, Vertex};
+use model::{DEFAULT_CLEAR, DEFAULT_OUTPUT, DEFAULT_STATE, Target};
 use std::alloc::{AllocError, Global};
-
-const STATE: State = State {
-    merge: Merge {
-        test: DepthTest::Always,
-        depth_write: false,
-        write: [true, true, true],
-        blend: Blend::NONE,
-    },
-    cull: Cull::None,
-    sample_mask: 15,
-    scissor: PixelBox {
-        x0: 0,
-        y0: 0,
-        x1: 4096,
-        y1: 4096,
-    },
-};
-
-const BLACK: Sample = Sample {
-    r: 0,
-    g: 0,
-    b: 0,
-    z: 65535,
-};
 
 /// What comes of a list of this size with these draws.
 fn made(
@@ -34,16 +10,14 @@ fn made(
     (width, height): (u32, u32),
     draws: Vec<Draw>,
 ) -> Result<String, AllocError> {
-    let list = DrawList::new(
-        alloc,
+    let target = Target {
         width,
         height,
-        SampleCount::Four,
-        BLACK,
-        Output::Color,
-        draws,
-    );
-    match list {
+        count: SampleCount::Four,
+        clear: DEFAULT_CLEAR,
+        output: DEFAULT_OUTPUT,
+    };
+    match DrawList::new(alloc, target, draws) {
         Ok(list) => {
             let (width, height) = (list.width(), list.height());
             format!(in alloc; "{width} {height}")
@@ -71,7 +45,7 @@ pub(crate) fn quad_of(alloc: Global, quad: [u32; 4]) -> Result<String, AllocErro
         }
     }
     let draw = Draw {
-        state: STATE,
+        state: DEFAULT_STATE,
         vertices,
         primitives: Primitives::Quads(vec![in alloc; quad]?),
     };

@@ -4,8 +4,8 @@ ghost use Rattle.cover.specs.Square.{IsCorner};
 
 use crate::answer::{Answer, whole};
 use crate::words::Words;
-use cover::{Pair, Setup, pair_masks, quad_masks};
-use grid::{Cull, TileSide};
+use cover::{Pair, Setup, Square, pair_masks, quad_masks};
+use grid::{Cull, SampleCount, TileSide};
 use tiling::Tiling;
 
 /// A block of the screen.
@@ -13,11 +13,7 @@ fn block_of(words: &mut Words<'_>) -> Option<(u32, u32)>
     ensures { IfSome result (λ it. (it.0 < 512) × (it.1 < 512)) }
 {
     let (bx, by) = (words.number()?, words.number()?);
-    if bx < 512 && by < 512 {
-        Some((bx, by))
-    } else {
-        None
-    }
+    (bx < 512 && by < 512).then_some((bx, by))
 }
 
 pub(crate) fn is_set_up_of(words: &mut Words<'_>) -> Option<Answer> {
@@ -76,37 +72,37 @@ fn is_corner(side: TileSide, block: u32) -> bool
     block < 512 && 8 * block % side.pixels() == 0
 }
 
-pub(crate) fn class_of(words: &mut Words<'_>) -> Option<Answer> {
-    let setup = Setup::new(&words.triangle()?, Cull::None)?;
+/// A square's block column, block row and size, and how many samples a pixel has.
+fn square(words: &mut Words<'_>) -> Option<(u32, u32, TileSide, SampleCount)>
+    ensures { IfSome result (λ it. IsCorner it.2 it.0 × IsCorner it.2 it.1) }
+{
     let (bx, by) = (words.number()?, words.number()?);
     let (side, count) = (words.tile_side()?, words.samples()?);
-    if is_corner(side, bx) && is_corner(side, by) {
-        Some(Answer::Classed(setup.classify(bx, by, side, count)))
-    } else {
-        None
-    }
+    (is_corner(side, bx) && is_corner(side, by)).then_some((bx, by, side, count))
+}
+
+fn described(square: &Square) -> Answer {
+    Answer::Square(square.bx(), square.by(), square.side(), square.class())
+}
+
+pub(crate) fn class_of(words: &mut Words<'_>) -> Option<Answer> {
+    let setup = Setup::new(&words.triangle()?, Cull::None)?;
+    let (bx, by, side, count) = square(words)?;
+    Some(Answer::Classed(setup.classify(bx, by, side, count)))
 }
 
 pub(crate) fn square_of(words: &mut Words<'_>) -> Option<Answer> {
     let setup = Setup::new(&words.triangle()?, Cull::None)?;
-    let (bx, by) = (words.number()?, words.number()?);
-    let (side, count) = (words.tile_side()?, words.samples()?);
-    if is_corner(side, bx) && is_corner(side, by) {
-        let square = setup.square(bx, by, side, count);
-        Some(Answer::Square(square.bx(), square.by(), square.side(), square.class()))
-    } else {
-        None
-    }
+    let (bx, by, side, count) = square(words)?;
+    Some(described(&setup.square(bx, by, side, count)))
 }
 
 pub(crate) fn quarter_of(words: &mut Words<'_>) -> Option<Answer> {
     let setup = Setup::new(&words.triangle()?, Cull::None)?;
-    let (bx, by) = (words.number()?, words.number()?);
-    let (side, count) = (words.tile_side()?, words.samples()?);
+    let (bx, by, side, count) = square(words)?;
     let q = words.number()?;
-    if is_corner(side, bx) && is_corner(side, by) && side.pixels() > 8 && q < 4 {
-        let quarter = setup.square(bx, by, side, count).quarter(q);
-        Some(Answer::Square(quarter.bx(), quarter.by(), quarter.side(), quarter.class()))
+    if side.pixels() > 8 && q < 4 {
+        Some(described(&setup.square(bx, by, side, count).quarter(q)))
     } else {
         None
     }

@@ -1,4 +1,7 @@
 //! The calls of `shade`.
+ghost use Rattle.std.specs.Prelude.{IfSome};
+ghost use Rattle.grid.specs.Triangle.{Covers};
+
 use crate::answer::{Answer, whole};
 use crate::words::Words;
 use grid::{Point, Tri};
@@ -6,34 +9,30 @@ use shade::{
     Blend, MAX_SAMPLES, Merge, Row, Sample, Weights, apply, floor_at, over, passes, resolved_colour,
 };
 
-pub(crate) fn value_of(words: &mut Words<'_>) -> Option<Answer> {
+/// A triangle and a point that it covers.
+fn covered(words: &mut Words<'_>) -> Option<(Tri, Point)>
+    ensures { IfSome result (λ it. Covers it.0.a it.0.b it.0.c it.1) }
+{
     let (t, p) = (words.triangle()?, words.point()?);
-    let v = [words.value()?, words.value()?, words.value()?];
-    Some(if t.covers(p) {
-        whole(u32::from(floor_at(&t, p, v)))
-    } else {
-        Answer::Nothing
-    })
+    t.covers(p).then_some((t, p))
+}
+
+pub(crate) fn value_of(words: &mut Words<'_>) -> Option<Answer> {
+    let (t, p) = covered(words)?;
+    let value = floor_at(&t, p, words.values()?);
+    Some(whole(u32::from(value)))
 }
 
 pub(crate) fn weighted_of(words: &mut Words<'_>) -> Option<Answer> {
-    let (t, p) = (words.triangle()?, words.point()?);
-    let v = [words.value()?, words.value()?, words.value()?];
-    Some(if t.covers(p) {
-        whole(u32::from(Weights::at(&t, p).value(v)))
-    } else {
-        Answer::Nothing
-    })
+    let (t, p) = covered(words)?;
+    let value = Weights::at(&t, p).value(words.values()?);
+    Some(whole(u32::from(value)))
 }
 
 pub(crate) fn channel_of(words: &mut Words<'_>) -> Option<Answer> {
-    let (t, p) = (words.triangle()?, words.point()?);
+    let (t, p) = covered(words)?;
     let v = [words.byte()?, words.byte()?, words.byte()?];
-    Some(if t.covers(p) {
-        whole(u32::from(Weights::at(&t, p).channel(v)))
-    } else {
-        Answer::Nothing
-    })
+    Some(whole(u32::from(Weights::at(&t, p).channel(v))))
 }
 
 /// The value at the pixel that a number of steps to the right of a point reaches, or `None` if the triangle does not
@@ -58,8 +57,7 @@ fn stepped(t: &Tri, at: Point, v: [u16; 3], steps: u32) -> Option<u16> {
 }
 
 pub(crate) fn row_of(words: &mut Words<'_>) -> Option<Answer> {
-    let (t, p) = (words.triangle()?, words.point()?);
-    let v = [words.value()?, words.value()?, words.value()?];
+    let (t, p, v) = (words.triangle()?, words.point()?, words.values()?);
     let value = stepped(&t, p, v, words.number()?)?;
     Some(whole(u32::from(value)))
 }

@@ -1,14 +1,13 @@
 //! The words of a line.
 use grid::{Cull, PixelBox, Point, Quad, SampleCount, TileSide, Tri};
+use model::{cull_named, depth_test_named};
 use shade::{BlendFactor, BlendOperation, Channel, DepthTest, Equation, Operands, Sample, Shaded};
 use std::str::SplitWhitespace;
 
 /// What stands before a comment.
 pub(crate) fn before_comment(line: &str) -> &str {
-    match line.split_once('#') {
-        Some((before, _comment)) => before,
-        None => line,
-    }
+    line.split_once('#')
+        .map_or(line, |(before, _comment)| before)
 }
 
 /// The words that are still to be read.
@@ -42,6 +41,11 @@ impl<'a> Words<'a> {
 
     pub(crate) fn value(&mut self) -> Option<u16> {
         self.word()?.parse::<u16>().ok()
+    }
+
+    /// A value at each corner of a triangle.
+    pub(crate) fn values(&mut self) -> Option<[u16; 3]> {
+        Some([self.value()?, self.value()?, self.value()?])
     }
 
     pub(crate) fn byte(&mut self) -> Option<u8> {
@@ -113,12 +117,7 @@ impl<'a> Words<'a> {
     }
 
     pub(crate) fn cull(&mut self) -> Option<Cull> {
-        match self.word()? {
-            "none" => Some(Cull::None),
-            "front" => Some(Cull::Front),
-            "back" => Some(Cull::Back),
-            _ => None,
-        }
+        cull_named(self.word()?)
     }
 
     pub(crate) fn samples(&mut self) -> Option<SampleCount> {
@@ -133,17 +132,7 @@ impl<'a> Words<'a> {
     }
 
     pub(crate) fn depth_test(&mut self) -> Option<DepthTest> {
-        match self.word()? {
-            "never" => Some(DepthTest::Never),
-            "less" => Some(DepthTest::Less),
-            "equal" => Some(DepthTest::Equal),
-            "less_equal" => Some(DepthTest::LessEqual),
-            "greater" => Some(DepthTest::Greater),
-            "not_equal" => Some(DepthTest::NotEqual),
-            "greater_equal" => Some(DepthTest::GreaterEqual),
-            "always" => Some(DepthTest::Always),
-            _ => None,
-        }
+        depth_test_named(self.word()?)
     }
 
     fn factor(&mut self) -> Option<BlendFactor> {
