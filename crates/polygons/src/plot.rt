@@ -62,7 +62,8 @@ fn plot_sample(
     }
 }
 
-/// Marks where the edge is crossed by samples of index `s`, in the rows `first` to before `end`: those that it runs through.
+/// Marks where the edge is crossed by samples of index `s`, in the rows `first` to before `end`: those that it runs
+/// through.
 fn plot_rows(
     flags: &mut [Flags],
     counters: &mut [Counters],
@@ -223,8 +224,8 @@ fn plot_ring(
     requires first { rings.now.start ≤ begin }
     requires last { end ≤ end_of rings.now.start rings.now.ends.now }
     requires within { end ≤ length rings.now.corners.now }
-    ensures { ArePlotted starts.now.strip (λ p. winding (ring_edges (corners_between rings.now.corners.now begin end)) p)
-        cells.old cells.new }
+    ensures { ArePlotted starts.now.strip
+        (λ p. winding (ring_edges (corners_between rings.now.corners.now begin end)) p) cells.old cells.new }
 {
     if begin < end {
         let first = rings.corners[begin].at();
