@@ -124,14 +124,14 @@ added_both rule s first mid end number a b c d e i s_small rise more most h k = 
 -- rows in which nothing is added
 pub added_all : (rule : Rule) (s first end : ℕ) (number : ℕ → ℕ → ℤ) (f c f' c' : List (List ℕ)) → s < 4 → ((row k : ℕ) → row < first → number row k ≡ pos 0)
     → ((row k : ℕ) → end ≤ row → row < 64 → number row k ≡ pos 0) → IsAdded rule s first end number f c f' c' → IsAdded rule s 0 64 number f c f' c'
-added_all rule s first end number f c f' c' s_small above below h = record {
+added_all rule s first end number f c f' c' s_small above under h = record {
   flags_len = h.flags_len;
   counters_len = h.counters_len;
   here = λ row k _ l m. elim (cases_lt row first) [
     | inl p ↦ alike_none (modulus rule) _ _ _ (h.others s row k s_small l (λ _ x _. omega arith)) (above row k p)
     | inr p ↦ elim (cases_lt row end) [
       | inl q ↦ h.here row k p q m
-      | inr q ↦ alike_none (modulus rule) _ _ _ (h.others s row k s_small l (λ _ _ x. omega arith)) (below row k q l)
+      | inr q ↦ alike_none (modulus rule) _ _ _ (h.others s row k s_small l (λ _ _ x. omega arith)) (under row k q l)
     ]
   ];
   others = λ r row k l m n. h.others r row k l m (λ x _ _. n x (omega arith) m);
@@ -149,9 +149,7 @@ plotted_on strip f g a b e h = record {
     marked = h.plotted.marked;
     kept = h.plotted.kept;
   };
-  rule = h.rule;
-  same_flags = h.same_flags;
-  same_counters = h.same_counters;
+  same = h.same;
 }
 
 pub plotted_as : (strip : Strip) (f g : Position → ℤ) (a b : Cells) → ((p : Position) → f p ≡ g p) → ArePlotted strip f a b → ArePlotted strip g a b
@@ -167,9 +165,7 @@ plotted_apart strip f a e = record {
     marked = λ h. h;
     kept = λ e. refl;
   };
-  rule = refl;
-  same_flags = refl;
-  same_counters = refl;
+  same = (refl, (refl, refl));
 }
 
 pub plotted_none : (strip : Strip) (f : Position → ℤ) (a : Cells) → ((p : Position) → f p ≡ pos 0) → ArePlotted strip f a a
@@ -184,7 +180,7 @@ alike_both m x y z u v w h k e = record { times = h.times +ℤ k.times; is = let
 pub plotted_both : (strip : Strip) (f g both : Position → ℤ) (a b c : Cells) → ((p : Position) → both p ≡ f p +ℤ g p) → ArePlotted strip f a b → ArePlotted strip g b c → ArePlotted strip both a c
 plotted_both strip f g both a b c sum h k =
     let first = h.plotted in
-    let then : IsPlotted a.rule strip g b.flags.now b.counters.now c.flags.now c.counters.now = subst (λ (r : Rule). IsPlotted r strip g b.flags.now b.counters.now c.flags.now c.counters.now) h.rule k.plotted in
+    let then : IsPlotted a.rule strip g b.flags.now b.counters.now c.flags.now c.counters.now = subst (λ (r : Rule). IsPlotted r strip g b.flags.now b.counters.now c.flags.now c.counters.now) h.same.0 k.plotted in
     record {
       plotted = record {
         flags_len = then.flags_len ∙ first.flags_len;
@@ -193,9 +189,7 @@ plotted_both strip f g both a b c sum h k =
         marked = λ l. then.marked (first.marked l);
         kept = λ l. then.kept l ∙ first.kept l;
       };
-      rule = k.rule ∙ h.rule;
-      same_flags = k.same_flags ∙ h.same_flags;
-      same_counters = k.same_counters ∙ h.same_counters;
+      same = (k.same.0 ∙ h.same.0, (k.same.1.0 ∙ h.same.1.0, k.same.1.1 ∙ h.same.1.1));
     }
 
 -- ---- the edges of paths and rings

@@ -134,6 +134,7 @@
 --   AreZeros: All flags or counters are 0.
 --
 -- Plotting.antt
+--   AreSame: The cells are the same memory, and count by the same rule.
 --   ArePlotted: To the sums at each sample of a strip a number was added, which depends on where the sample lies.
 --
 -- Spreading.antt

@@ -62,30 +62,8 @@ fn plot_sample(
     }
 }
 
-/// Marks where the edge is crossed by samples of index `s`, in one row that it runs through.
-fn plot_row(
-    flags: &mut [Flags],
-    counters: &mut [Counters],
-    rule: Rule,
-    edge: &Edge,
-    forward: bool,
-    s: usize,
-    start: Point,
-    row: usize,
-)
-    requires row { row < 64 }
-    requires in_band { IsInBand (start.y +ℤ pos (256 * row)) }
-    requires through { HasHeight edge.now (down start row).y }
-    requires sample { s < 4 }
-    requires counters { HasCounters rule flags.old counters.old }
-    ensures { IsAdded rule s row (row + 1) (added_by edge.now forward start) flags.old counters.old flags.new counters.new }
-{
-    let place = point_at(start.x(), start.y() + 256 * row as i32);
-    let column = first_column(edge, place);
-    cross(flags, counters, rule, s, row, column, forward);
-}
-
-/// Marks where the edge is crossed by samples of index `s`, in the rows `first` to before `end`: those that it runs through.
+/// Marks where the edge is crossed by samples of index `s`, in the rows `first` to before `end`: those that it runs
+/// through.
 fn plot_rows(
     flags: &mut [Flags],
     counters: &mut [Counters],
@@ -105,11 +83,13 @@ fn plot_rows(
     requires counters { HasCounters rule flags.old counters.old }
     ensures { IsAdded rule s first end (added_by edge.now forward start) flags.old counters.old flags.new counters.new }
 {
+    let place = point_at(start.x(), start.y() + 256 * first as i32);
     if first + 1 == end {
-        plot_row(flags, counters, rule, edge, forward, s, start, first);
+        let column = first_column(edge, place);
+        cross(flags, counters, rule, s, first, column, forward);
         return;
     }
-    let mut walk = EdgeWalk::new(*edge, point_at(start.x(), start.y() + 256 * first as i32));
+    let mut walk = EdgeWalk::new(*edge, place);
     for row in first..end {
         cross(flags, counters, rule, s, row, walk.column(), forward);
         if row + 1 < end {
@@ -244,8 +224,8 @@ fn plot_ring(
     requires first { rings.now.start ≤ begin }
     requires last { end ≤ end_of rings.now.start rings.now.ends.now }
     requires within { end ≤ length rings.now.corners.now }
-    ensures { ArePlotted starts.now.strip (λ p. winding (ring_edges (corners_between rings.now.corners.now begin end)) p)
-        cells.old cells.new }
+    ensures { ArePlotted starts.now.strip
+        (λ p. winding (ring_edges (corners_between rings.now.corners.now begin end)) p) cells.old cells.new }
 {
     if begin < end {
         let first = rings.corners[begin].at();

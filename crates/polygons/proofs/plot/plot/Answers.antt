@@ -46,6 +46,6 @@ returns c =
     record {
       plotted = plotted_as c.args.strip.now _ _ _ _
           (λ p. nothing_left (winding (polygon_edges (rings_from rings.corners.now rings.start rings.ends.now)) p) _ (ap (λ (es : List ℕ). winding (polygon_edges (rings_from rings.corners.now c.loop-ring_end.begin es)) p) none)) v;
-      same_flags = v.same_flags;
-      same_counters = v.same_counters;
+      same_flags = v.same.1.0;
+      same_counters = v.same.1.1;
     }

@@ -1,32 +1,51 @@
-use Rattle.std.proofs.Common.{◌≡◌, sym, subst, ap, ◌∙◌, arith, ℕ, ◌+◌, ◌*◌, ◌<◌, ◌≤◌, ℤ, pos, w32, to_z, of_z, ◌+ℤ◌, ◌*ℤ◌, ◌<ℤ◌}
+use Rattle.std.proofs.Common.{◌≡◌, refl, sym, subst, ap, ◌∙◌, arith, ℕ, ◌+◌, ◌*◌, ◌<◌, ◌≤◌, ℤ, pos, w32, to_z, of_z, ◌+ℤ◌, ◌*ℤ◌, ◌<ℤ◌}
 use Rattle.std.proofs.lemmas.Int.{ints}
 use Rattle.grid.specs.Position.{Position, IsInBand}
 use Rattle.grid.proofs.Bounds.{passed}
 use Rattle.polygons.specs.declared.edge.Edge.{Edge}
 use Rattle.polygons.specs.Blocks.{down}
-use Rattle.polygons.specs.Columns.{Walk, below, HasHeight}
+use Rattle.polygons.specs.Columns.{Walk, below, HasHeight, IsFirstColumn}
+use Rattle.polygons.specs.Cells.{added_by}
 use Rattle.polygons.proofs.Plotted.{has_counters, row_height, row_after, walk_added, added_none, added_as, added_both}
 use Rattle.polygons.proofs.plot.plot_rows.Goals as goal
 use Rattle.polygons.proofs.plot.plot_rows.Goals.{then-row-end, else-row-end}
 
-pub point_at-requires-clause-y : goal.point_at-requires-clause-y
-point_at-requires-clause-y c =
+pub point_at-place-requires-clause-y : goal.point_at-place-requires-clause-y
+point_at-place-requires-clause-y c =
     let in_band : IsInBand c.args.start.y = rw c.y.ensures.value at c.y.ensures.in_band in
     let most = c.requires.most in let rows = c.requires.rows in
     rw (row_height c.y.result c.args.start.y c.args.first c.y.ensures.value (omega arith) in_band c.requires.in_band) c.requires.in_band
 
-first_height : (y s : ℤ) (n m : ℕ) → y ≡ s → n < m → m ≤ 64 → IsInBand y → IsInBand (s +ℤ pos (256 * n))
-    → to_z w32 (of_z w32 (to_z w32 (of_z w32 y) +ℤ to_z w32 (of_z w32 (pos 256 *ℤ to_z w32 n)))) ≡ s +ℤ pos (256 * n)
-first_height y s n m e h k l i = row_height y s n e (omega arith) (rw e at l) i
+placed : (p start : Position) (x y : ℤ) (n m : ℕ) → x ≡ start.x → y ≡ start.y → n < m → m ≤ 64 → IsInBand x → IsInBand y → IsInBand (start.y +ℤ pos (256 * n))
+    → p ≡ record { x = to_z w32 (of_z w32 x); y = to_z w32 (of_z w32 (to_z w32 (of_z w32 y) +ℤ to_z w32 (of_z w32 (pos 256 *ℤ to_z w32 n)))) } → p ≡ down start n
+placed p start x y n m e f h k l o r is =
+    let across = passed x start.x l e in
+    let height = row_height y start.y n f (omega arith) (rw f at o) r in
+    is ∙ (λ i. record { x = across i; y = height i })
+
+pub first_column-column-requires : goal.first_column-column-requires
+first_column-column-requires c =
+    let place = placed _ c.args.start _ _ _ _ c.x.ensures.value c.y.ensures.value c.requires.rows c.requires.most c.x.ensures.in_band c.y.ensures.in_band c.requires.in_band c.point_at-place.ensures in
+    subst (λ (q : Position). HasHeight c.args.edge.now q.y) (sym place) (c.requires.through c.args.first (omega arith) c.requires.rows)
 
 pub new-walk-requires : goal.new-walk-requires
 new-walk-requires c =
-    let high = first_height c.y.result c.args.start.y c.args.first c.args.end c.y.ensures.value c.requires.rows c.requires.most c.y.ensures.in_band c.requires.in_band in
-    let y = ap (λ (p : Position). p.y) c.point_at.ensures ∙ high in
-    subst (λ (z : ℤ). HasHeight c.args.edge.now z) (sym y) (c.requires.through c.args.first (omega arith) c.requires.rows)
+    let place = placed _ c.args.start _ _ _ _ c.x.ensures.value c.y.ensures.value c.requires.rows c.requires.most c.x.ensures.in_band c.y.ensures.in_band c.requires.in_band c.point_at-place.ensures in
+    subst (λ (q : Position). HasHeight c.args.edge.now q.y) (sym place) (c.requires.through c.args.first (omega arith) c.requires.rows)
 
-pub cross-requires-clause-counters : goal.cross-requires-clause-counters
-cross-requires-clause-counters c =
+pub returns-then-first-end : goal.returns-then-first-end
+returns-then-first-end c =
+    let place = placed _ c.args.start _ _ _ _ c.x.ensures.value c.y.ensures.value c.requires.rows c.requires.most c.x.ensures.in_band c.y.ensures.in_band c.requires.in_band c.point_at-place.ensures in
+    let e = c.args.edge.now in
+    let p : Position = down c.args.start c.args.first in
+    let column = c.first_column-column.result in
+    let first : IsFirstColumn e p column = subst (λ (q : Position). IsFirstColumn e q column) place c.first_column-column.ensures in
+    let one : c.args.first + 1 ≡ c.args.end = c.if-first-end.true in
+    rw one at (added_as c.args.rule c.args.s c.args.first (c.args.first + 1) _ (added_by e c.args.forward c.args.start) _ _ _ _
+    (walk_added e c.args.start c.args.forward c.args.first (record { edge = e; row = p }) column (record { sfits = c.first_column-column.type_inv }) refl first (c.requires.through c.args.first (omega arith) c.requires.rows)) c.cross.ensures)
+
+pub cross-requires-in-loop-row-clause-counters : goal.cross-requires-in-loop-row-clause-counters
+cross-requires-in-loop-row-clause-counters c =
     has_counters c.args.rule c.args.flags.now c.args.counters.now c.loop-row.flags c.loop-row.counters c.loop-row.invariant.added.flags_len c.loop-row.invariant.added.counters_len c.requires.counters
 
 under : (e : Edge) (s : Position) (w : Walk) (n : ℕ) → w ≡ record { edge = e; row = down s n } → HasHeight e (down s (n + 1)).y → (w.row.y +ℤ pos 256) <ℤ w.edge.b.y
@@ -39,9 +58,7 @@ step-requires c =
 
 pub loop-row-init : goal.loop-row-init
 loop-row-init c =
-    let x = passed c.x.result c.args.start.x c.x.ensures.in_band c.x.ensures.value in
-    let y = first_height c.y.result c.args.start.y c.args.first c.args.end c.y.ensures.value c.requires.rows c.requires.most c.y.ensures.in_band c.requires.in_band in
-    let place : c.point_at.result ≡ down c.args.start c.args.first = c.point_at.ensures ∙ (λ i. record { x = x i; y = y i }) in
+    let place = placed _ c.args.start _ _ _ _ c.x.ensures.value c.y.ensures.value c.requires.rows c.requires.most c.x.ensures.in_band c.y.ensures.in_band c.requires.in_band c.point_at-place.ensures in
     record {
       walk = λ h. c.new-walk.ensures ∙ (λ i. record { edge = c.args.edge.now; row = place i });
       added = added_none c.args.rule c.args.s c.args.first _ c.args.flags.now c.args.counters.now;
@@ -62,7 +79,7 @@ loop-row-preserved c =
         | else-row-end w ↦ absurd (let f = w.if-row-end.false in omega arith)
       ];
       added = added_both c.args.rule c.args.s c.args.first n (n + 1) _ _ _ _ _ _ _ c.requires.sample low (omega arith) (omega arith) v.added
-          (added_as c.args.rule c.args.s n (n + 1) _ _ _ _ _ _ (walk_added e c.args.start c.args.forward n c.loop-row.walk c.column.result (record { sfits = c.column.type_inv }) is c.column.ensures (c.requires.through n low end)) c.cross.ensures);
+          (added_as c.args.rule c.args.s n (n + 1) _ _ _ _ _ _ (walk_added e c.args.start c.args.forward n c.loop-row.walk c.column.result (record { sfits = c.column.type_inv }) is c.column.ensures (c.requires.through n low end)) c.cross-in-loop-row.ensures);
     }
 
 pub returns : goal.returns

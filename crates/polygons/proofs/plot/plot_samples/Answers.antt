@@ -28,12 +28,10 @@ loop-s-preserved c =
     let m = modulus old.rule in
     let f' = c.plot_sample.new.flags in
     let c' = c.plot_sample.new.counters in
-    let p = rw v.rule at c.plot_sample.ensures in
+    let p = rw v.same.0 at c.plot_sample.ensures in
     let n_small = few _ _ _ c.loop-s-test.true c.part_size-s-end.ensures (part_small c.args.starts.now.strip.count) in
     record {
-      rule = v.rule;
-      same_flags = v.same_flags;
-      same_counters = v.same_counters;
+      same = v.same;
       flags_len = p.flags_len ∙ v.flags_len;
       counters_len = p.counters_len ∙ v.counters_len;
       done = λ s row k f g h i. elim (cases_eq s n) [
@@ -61,9 +59,7 @@ returns c =
         marked = v.marked;
         kept = v.kept;
       };
-      rule = v.rule;
-      same_flags = v.same_flags;
-      same_counters = v.same_counters;
+      same = v.same;
     }
   where
     within : (s n m t : ℕ) → s < m → t ≡ n → n ≡ m → s < t

@@ -63,6 +63,6 @@ sum-requires c =
     let counters : c.counters-1.given.0 ≡ c.plot.new.cells.counters.now = c.counters-1.given.1.1 (sym c.plot.ensures.same_counters) in
     let p = c.plot.ensures.plotted in
     record {
-      columns = rw (flags, counters) (c.plot.new.cells.columns (p.rule ∙ c.in-NonZero.is));
+      columns = rw (flags, counters) (c.plot.new.cells.columns (p.same.0 ∙ c.in-NonZero.is));
       marked = rw (flags, counters) (rw c.in-NonZero.is at (p.plotted.marked (marked_zeros c.args.rule c.args.flags.now c.args.counters.now c.requires.counters)));
     }
