@@ -15,6 +15,7 @@
 --   stride_of: The bytes from the beginning of a row to that of the next: those of a row if the caller says 0.
 --   HasRoom: The rows of pixels, of `unit` entries a pixel, fit into `size` entries.
 --   piece_checks: What each call on tile rows checks first.
+--   IsFormat: There is a format of this number.
 --   format_of: The formats by their numbers.
 --   image_checks: A picture of `size` bytes is read or written, whose rows begin `stride` bytes behind each other.
 --   entries_of: The entries from the beginning of a row to that of the next: those of a row for 0, else those of `stride` bytes.

@@ -2,7 +2,7 @@
 use Rattle.std.specs.Prelude.{◌≡◌, ◌⊎◌, ℕ, Bool, ◌==◌, ◌+◌, ◌-◌, ◌*◌, ◌/◌, ◌%◌, ◌<◌, ◌≤◌, min, max, if◌then◌else◌}
 use Rattle.model.specs.Checking.{Checks, done, check, followed_by}
 use Rattle.grid.specs.declared.sample_count.SampleCount.{SampleCount}
-use Rattle.grid.specs.declared.sample_count.SampleCount.TheVariants as samples
+use Rattle.grid.specs.Samples.{IsPattern, pattern_of}
 use Rattle.canvas.specs.declared.canvas.Canvas.{Canvas}
 use Rattle.canvas.specs.declared.format.Format.{Format}
 use Rattle.canvas.specs.declared.format.Format.TheVariants.{Rgb8, Rgba8, Bgra8, Rgba8Straight, Bgra8Straight}
@@ -16,16 +16,11 @@ use Rattle.canvas_c.specs.declared.piece.CanvasHead.{CanvasHead}
 
 -- A pixel may have this number of samples, with 0 for one.
 abbrev pub IsCount : ℕ → Type 0
-IsCount samples = (samples ≡ 0) ⊎ (samples ≡ 1) ⊎ (samples ≡ 2) ⊎ (samples ≡ 4) ⊎ (samples ≡ 8) ⊎ (samples ≡ 16)
+IsCount samples = (samples ≡ 0) ⊎ IsPattern samples
 
 -- The samples of a pixel by their number: 0 and 1 are one.
 abbrev pub samples_listed : ℕ → SampleCount
-samples_listed n =
-    if n == 2 then samples.Two
-    else (if n == 4 then samples.Four
-    else (if n == 8 then samples.Eight
-    else (if n == 16 then samples.Sixteen
-    else samples.One)))
+samples_listed n = pattern_of n
 
 -- A sample may have this number of channels: 3, without alpha, with 0 for that, or 4, with alpha.
 pub record AreChannels (channels : ℕ) : Type 0 where
@@ -95,6 +90,10 @@ piece_checks head planes =
     check (planes ≡ planes_listed head.width head.samples head.first head.end) BadMemory
     done)))
 
+-- There is a format of this number.
+abbrev pub IsFormat : ℕ → Type 0
+IsFormat n = n ≤ 4
+
 -- The formats by their numbers.
 abbrev pub format_of : ℕ → Format
 format_of n =
@@ -108,7 +107,7 @@ format_of n =
 abbrev pub image_checks : CanvasHead → ℕ → ℕ → ℕ → ℕ → Checks Status
 image_checks head planes format stride size =
     followed_by (piece_checks head planes) (
-    check (format ≤ 4) BadFormat (
+    check (IsFormat format) BadFormat (
     check (HasRoom head (pixel_bytes (format_of format)) (stride_of (head.width * pixel_bytes (format_of format)) stride) size) BufferTooSmall
     done))
 

@@ -11,13 +11,13 @@ use Rattle.canvas.specs.Tiles.{tile_entries, IsUniform, AreTileIds}
 use Rattle.c_abi.specs.declared.status.Status.{Status}
 use Rattle.c_abi.specs.declared.status.Status.TheVariants.{BufferTooSmall, BadFormat, BadSample, BadTile}
 use Rattle.canvas_c.specs.declared.piece.CanvasHead.{CanvasHead}
-use Rattle.canvas_c.specs.Pieces.{samples_listed, HasRoom, format_of, stride_of, piece_checks}
+use Rattle.canvas_c.specs.Pieces.{samples_listed, HasRoom, IsFormat, format_of, stride_of, piece_checks}
 
 -- The colours of one sample index are read or written in `size` bytes, whose rows begin `stride` bytes behind each other.
 abbrev pub colours_checks : CanvasHead → ℕ → ℕ → ℕ → ℕ → ℕ → Checks Status
 colours_checks head planes sample format stride size =
     followed_by (piece_checks head planes) (
-    check (format ≤ 4) BadFormat (
+    check (IsFormat format) BadFormat (
     check (sample < count_of (samples_listed head.samples)) BadSample (
     check (HasRoom head (pixel_bytes (format_of format)) (stride_of (head.width * pixel_bytes (format_of format)) stride) size) BufferTooSmall
     done)))

@@ -7,7 +7,7 @@ ghost use Rattle.canvas.specs.Loaded.{AreLoaded};
 ghost use Rattle.model.specs.Checking.{IsJudged, check, followed_by, done as checked};
 ghost use Rattle.c_abi.specs.Calls.{IsStatus};
 ghost use Rattle.c_abi.specs.declared.status.Status.TheVariants as failed;
-ghost use Rattle.canvas_c.specs.Pieces.{has_alpha, AreRowsOf, OnRows, format_of as format_named, stride_of as row_stride, piece_checks, image_checks};
+ghost use Rattle.canvas_c.specs.Pieces.{has_alpha, AreRowsOf, OnRows, IsFormat, format_of as format_named, stride_of as row_stride, piece_checks, image_checks};
 
 use crate::piece::{CanvasHead, CanvasPiece, fitted, rows_of};
 use c_abi::{Status, status_of};
@@ -16,7 +16,7 @@ use lanes::BlockSamples;
 
 /// The format of this number.
 fn format_of(number: u32) -> Option<Format>
-    ensures some { IsSome result ↔ (number ≤ 4) }
+    ensures some { IsSome result ↔ IsFormat number }
     ensures value { IfSome result (λ format. format ≡ format_named number) }
 {
     match number {
@@ -36,7 +36,7 @@ pub(crate) fn image_rows(
     format: u32,
 ) -> Result<(TileRows, Format), Status>
     ensures judged { IsJudged (followed_by (piece_checks head.now (length planes.now))
-        (check (format ≤ 4) failed.BadFormat checked)) (λ found. AreRowsOf head.now found.0) result }
+        (check (IsFormat format) failed.BadFormat checked)) (λ found. AreRowsOf head.now found.0) result }
     ensures planes { IfOk result (λ found. length planes.now ≡
         planes_of_rows found.0.canvas found.0.first found.0.end) }
     ensures format { IfOk result (λ found. found.1 ≡ format_named format) }

@@ -25,7 +25,7 @@ pub struct CanvasHead {
     pub width: u32,
     /// Its rows of pixels: 1 to 4096.
     pub height: u32,
-    /// The samples of a pixel: 1, 2, 4, 8 or 16, or 0 for 1.
+    /// The samples of a pixel: as many as `SampleCount::of` takes, or 0 for 1.
     pub samples: u32,
     /// The channels of a sample: 3, without alpha; 0 for 3; or 4, with alpha.
     pub channels: u32,
@@ -58,18 +58,14 @@ pub struct CanvasPiece<'a> {
     pub planes: &'a mut [BlockSamples],
 }
 
-/// This number of samples of a pixel.
+/// This number of samples of a pixel, with 0 for one.
 fn count_of(samples: u32) -> Option<SampleCount>
     ensures some { IsSome result ↔ IsCount samples }
     ensures value { IfSome result (λ count. count ≡ samples_listed samples) }
 {
     match samples {
-        0 | 1 => Some(SampleCount::One),
-        2 => Some(SampleCount::Two),
-        4 => Some(SampleCount::Four),
-        8 => Some(SampleCount::Eight),
-        16 => Some(SampleCount::Sixteen),
-        _ => None,
+        0 => Some(SampleCount::One),
+        _ => SampleCount::of(samples),
     }
 }
 
