@@ -14,7 +14,7 @@ from ._draw import EVERY_SAMPLE, Cull, DepthTest, Draw, state_in_c
 from ._errors import BatchError, CanvasError, PositionError, SampleError, TileError, adding
 from ._ffi import CCanvas, CClear, CCorners, CError, library
 from ._fragments import Fragments, Rate, fragments_of
-from ._patterns import COUNTS
+from ._patterns import COUNTS, PATTERNS
 from ._picture import Path, Picture, save_png
 from ._png import png_chunks
 from ._polygons import RULES, Rule, polygons_of, scratch_of
@@ -39,8 +39,8 @@ Format = Literal["rgb", "rgba", "bgra", "rgba_straight", "bgra_straight"]
 
 
 class Canvas:
-    """The samples of `width` by `height` pixels, 1 to 4096 each, with `samples` a pixel, a number that has a pattern in
-    docs/rules.md, as 4 or 16.
+    """The samples of `width` by `height` pixels, 1 to 4096 each, with as many `samples` a pixel as Canvas.SAMPLE_COUNTS
+    has, in the standard patterns of Direct3D 11.
 
     `origin` is the pixel of the screen at which the upper left pixel of the canvas lies; positions and scissors are
     those of the screen. `memory` is a buffer of at least Canvas.size(..) bytes that can be written, in which the samples
@@ -54,6 +54,9 @@ class Canvas:
 
     Each call raises TypeError or ValueError, which names the parameter, at what it does not take.
     """
+
+    # The numbers of samples that a pixel may have.
+    SAMPLE_COUNTS = tuple(PATTERNS)
 
     def __init__(
         self,
