@@ -21,6 +21,7 @@ for needed in ("numpy", "hypothesis"):
         raise unittest.SkipTest(f"the calls that are made up need {needed}")
 
 import numpy
+import pytest
 from hypothesis import HealthCheck, Phase, given, settings
 from hypothesis import strategies as st
 
@@ -460,6 +461,8 @@ def sessions(calls: int) -> Iterator[int]:
 
 
 class Fuzz(unittest.TestCase):
+    # An interrupt within a callback of Python's own, as that of a weak reference, ends there with a warning.
+    @pytest.mark.filterwarnings("ignore::pytest.PytestUnraisableExceptionWarning")
     def test_no_call_crashes_or_draws_another_picture(self) -> None:
         interrupts, calls = Interrupts(), 0
         self.addCleanup(signal.signal, signal.SIGALRM, signal.SIG_DFL)

@@ -67,7 +67,7 @@ signed false z = neg_ℤ z
 abbrev pub added_by : Edge → Bool → Position → ℕ → ℕ → ℤ
 added_by edge forward start row k = signed forward (direction edge (along (down start row) (pos k)))
 
--- To the sums of sample s in the rows from `first` to before `end` a number was added, by row and column, and no other was changed.
+-- To the sums of sample s in the rows from `first` to before `end` a number was added, by row and column; no other was changed.
 pub record IsAdded (rule : Rule) (s first end : ℕ) (number : ℕ → ℕ → ℤ) (flags counters flags' counters' : List (List ℕ)) : Type 0 where
   pub flags_len : length flags' ≡ length flags
   pub counters_len : length counters' ≡ length counters

@@ -129,7 +129,7 @@
 --   AreMarked: A counter other than 0 has its flag set.
 --   signed: The number, or its opposite.
 --   added_by: What an edge that runs downwards adds at the samples of one index, by row and column.
---   IsAdded: To the sums of sample s in the rows from `first` to before `end` a number was added, by row and column, and no other was changed.
+--   IsAdded: To the sums of sample s in the rows from `first` to before `end` a number was added, by row and column; no other was changed.
 --   IsPlotted: To the sums at each sample of a strip a number was added, which depends on where the sample lies.
 --   AreZeros: All flags or counters are 0.
 --
