@@ -6,8 +6,7 @@ Needs `make bin/list_bench`. `list::read` checks a list and builds it; `serde_js
 values, or goes over all values on demand, and neither knows what a list is. The programs take turns, each reads the same bytes seven
 times a turn, and the least time of each counts. simdjson's columns need its library (Debian: libsimdjson-dev) and a C++ compiler, and
 are left out without them. A layout puts blanks into a scene's text: behind each comma, a vertex or a triangle a line with blanks
-behind commas, or an element a line. With --before the user time of ten readings is compared with that of another build's
-crates/list_bench, in turn.
+behind commas, or an element a line. With --before crates/list_bench of another build takes turns with them.
 """
 
 from __future__ import annotations
@@ -27,7 +26,7 @@ SCENES = ("long_list", "mesh", "small")
 PARSER = os.path.join(BENCH_OUT, "simdjson")
 LAYOUTS = ("plain", "commas", "lines", "elements")
 COLUMNS = ("list", "MB", "`list::read`, ms", "GB/s", "serde_json's tree, ms", "ours / tree")
-BEFORE_COLUMNS = ("user time, ms", "before, ms", "ours / before")
+BEFORE_COLUMNS = ("before, ms", "ours / before")
 PARSER_COLUMNS = ("simdjson's tape, ms", "ours / tape", "parser kept, ms", "ours / kept", "on demand, ms", "ours / on demand")
 
 
@@ -73,36 +72,16 @@ def laid_out(source: str, layout: str) -> str:
     return path
 
 
-def user_time(program: str, source: str) -> float:
-    """The milliseconds of user time of one reading, by ten of them in one process."""
-    with open(source, "rb") as file:
-        child = subprocess.Popen([program, "--read"], stdin=file)
-    _pid, status, usage = os.wait4(child.pid, 0)
-    child.returncode = os.waitstatus_to_exitcode(status)
-    if child.returncode:
-        raise subprocess.CalledProcessError(child.returncode, program)
-    return float(usage.ru_utime) * 1000 / 10
-
-
-def user_cells(source: str, before: str, runs: int) -> list[str]:
-    """The least user times of this build and of another one, and their ratio."""
-    turns = [(user_time(READER_PROGRAM, source), user_time(before, source)) for _ in range(runs)]
-    ours, others = (min(each) for each in zip(*turns))
-    return [f"{ours:.1f}", f"{others:.1f}", f"{ours / others:.2f}"]
-
-
 def row_of(source: str, with_parser: bool, runs: int, before: str) -> str:
     """The table's row of a list: the least time of each way."""
-    turns = []
-    for _ in range(runs):
-        turn = times([READER_PROGRAM, "--time"], source, 2)
-        turns.append(turn + (times([PARSER], source, 3) if with_parser else []))
+    ways = [([READER_PROGRAM, "--time"], 2)]
+    ways += [([before, "--time"], 1)] if before else []
+    ways += [([PARSER], 3)] if with_parser else []
+    turns = [[time for command, count in ways for time in times(command, source, count)] for _ in range(runs)]
     ours, *others = [min(each) for each in zip(*turns)]
     size = os.path.getsize(source)
     name = os.path.splitext(os.path.basename(source))[0]
     cells = [name, f"{size / 1e6:.1f}", f"{ours / 1e6:.1f}", f"{size / ours:.2f}"]
-    if before:
-        cells[2:2] = user_cells(source, before, runs)
     for other in others:
         cells += [f"{other / 1e6:.1f}", f"{ours / other:.2f}"]
     return report.row(cells)
@@ -120,9 +99,7 @@ def main() -> int:
     sources = scenes.write_all(options.scenes)
     with_parser = built_parser()
     print(f"{report.machine()} Least of {options.runs} turns of seven rounds.\n")
-    user_columns = BEFORE_COLUMNS if options.before else ()
-    columns = (*COLUMNS[:2], *user_columns, *COLUMNS[2:], *(PARSER_COLUMNS if with_parser else ()))
-    report.print_head(columns)
+    report.print_head((*COLUMNS, *(BEFORE_COLUMNS if options.before else ()), *(PARSER_COLUMNS if with_parser else ())))
     for source in sources:
         for layout in options.layouts:
             print(row_of(laid_out(source, layout), with_parser, options.runs, options.before), flush=True)
