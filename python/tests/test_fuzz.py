@@ -462,7 +462,7 @@ def sessions(calls: int) -> Iterator[int]:
 
 class Fuzz(unittest.TestCase):
     # An interrupt within a callback of Python's own, as that of a weak reference, ends there with a warning.
-    @pytest.mark.filterwarnings("ignore::pytest.PytestUnraisableExceptionWarning")
+    @pytest.mark.filterwarnings(r"ignore:[\s\S]*KeyboardInterrupt:pytest.PytestUnraisableExceptionWarning")
     def test_no_call_crashes_or_draws_another_picture(self) -> None:
         interrupts, calls = Interrupts(), 0
         self.addCleanup(signal.signal, signal.SIGALRM, signal.SIG_DFL)
