@@ -18,6 +18,7 @@
 # To test what was built:
 #   make test      everything that runs, over bin/ and lib/, which it builds if they are missing or old; make test-long takes longer forms.
 #                  Each check is a goal too, as named below; with LONG=1 it takes its longer form
+#   make hostile   the check fault-injection: readers, writers, devices and threads that fail
 #   make races     run the program under valgrind; no part of make test
 #   make conformance  compare the machine's OpenGL driver with the program, sample by sample; out/conformance.html.
 #                  With DEVICE=d3d11 Direct3D 11, here by Wine: out/conformance-d3d11.html; ADAPTER=warp or a number, else hardware.
@@ -100,7 +101,7 @@ MADE := $(addprefix $(LIBDIR)/,libtrirast.so pkgconfig/trirast.pc $(addprefix cm
 CHECKS := $(shell sed -n 's/.*\bname="\([a-z-]*\)".*/\1/p' tools/ci/checks.py)
 
 .PHONY: all why look library install uninstall demo test test-long prove prove-all record help races bench frames model conformance \
-    conformance-windows clean $(CHECKS)
+    conformance-windows clean hostile $(CHECKS)
 .DELETE_ON_ERROR:
 
 # ---- To use it
@@ -287,6 +288,8 @@ test-long:
 
 $(CHECKS):
 	@$(PYTHON) -m tools.ci.run_checks $@ $(if $(LONG),--long)
+
+hostile: fault-injection
 
 $(TILES): $(SOURCES)
 	cd crates/refused_tiles && $(RT) run < stdin > /dev/null
