@@ -2,43 +2,23 @@
 
 from __future__ import annotations
 
-from typing import Sequence
-
-from conformance import blending
-from conformance.mutants import mutant_of
-from conformance.renderer import Candidate
+from conformance.rules import Rules
 from conformance.sample_counts import resolved
-from conformance.suites.setting import PLAIN, Setting
 from tools import picture_file
 from tools.reference import renderer
 from tools.draw_list import DrawList, encode
 
 
-class Model:
-    """A renderer: `picture` gives the bytes of a list's pixels."""
+class Model(Rules):
+    """A renderer by the reference."""
 
     def __init__(self, mutant: str = "") -> None:
-        self.name = f"model with {mutant}" if mutant else "model"
-        self.mutant = mutant_of(mutant)
-        self.setting = PLAIN
-
-    def said(self) -> list[tuple[str, str]]:
-        return [("renderer", self.name)]
-
-    def left_out(self) -> Sequence[tuple[str, str]]:
-        return ()
-
-    def through(self, setting: Setting) -> Candidate:
-        self.setting = setting
-        return self
+        super().__init__(f"model with {mutant}" if mutant else "model", mutant)
 
     def picture(self, scene: DrawList) -> bytes:
-        drawn = self.mutant.drawn(scene, self.setting)
+        drawn = self.list_drawn(scene)
         with self.mutant.rules():
             return resolved(drawn, renderer.SAMPLES, rendered)
-
-    def pixels(self, scene: DrawList) -> bytes:
-        return blending.pixels(self.mutant.drawn(scene, self.setting))
 
 
 def rendered(scene: DrawList) -> bytes:

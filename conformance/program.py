@@ -2,13 +2,8 @@
 
 from __future__ import annotations
 
-from typing import Sequence
-
-from conformance import blending
-from conformance.mutants import mutant_of
-from conformance.renderer import Candidate
+from conformance.rules import Rules
 from conformance.sample_counts import resolved
-from conformance.suites.setting import PLAIN, Setting
 from conformance.suites.shapes import PLACES
 from tools import answers, picture_file
 from tools.draw_list import DrawList, encode
@@ -23,32 +18,17 @@ class Refused(Exception):
     """The program refused a list, or did not write a picture of its size."""
 
 
-class Program:
-    """A renderer by a program. Under a setting it draws what the rules make of a list, or a mutant of them."""
+class Program(Rules):
+    """A renderer by a program."""
 
     def __init__(self, path: str, mutant: str = "") -> None:
+        super().__init__(f"{path}, {mutant}" if mutant else path, mutant)
         self.path = path
-        self.name = f"{path}, {mutant}" if mutant else path
-        self.mutant = mutant_of(mutant)
-        self.setting = PLAIN
-
-    def said(self) -> list[tuple[str, str]]:
-        return [("renderer", self.name)]
-
-    def left_out(self) -> Sequence[tuple[str, str]]:
-        return ()
-
-    def through(self, setting: Setting) -> Candidate:
-        self.setting = setting
-        return self
-
-    def pixels(self, scene: DrawList) -> bytes:
-        return blending.pixels(self.mutant.drawn(scene, self.setting))
 
     def picture(self, scene: DrawList) -> bytes:
-        return resolved(self.mutant.drawn(scene, self.setting), PLACES, self.drawn)
+        return resolved(self.list_drawn(scene), PLACES, self.rendered)
 
-    def drawn(self, scene: DrawList) -> bytes:
+    def rendered(self, scene: DrawList) -> bytes:
         """The program's own picture of a list."""
         answer = answers.drawn(self.path, as_bytes(scene))
         if answer.status != 0:

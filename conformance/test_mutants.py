@@ -31,7 +31,7 @@ class Remembering(Model):
     def picture(self, scene: DrawList) -> bytes:
         if self.mutant.rules is not contextlib.nullcontext:
             return super().picture(scene)
-        key = as_bytes(self.mutant.drawn(scene, self.setting))
+        key = as_bytes(self.list_drawn(scene))
         if key not in self.drawn:
             self.drawn[key] = super().picture(scene)
         return self.drawn[key]

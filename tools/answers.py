@@ -2,9 +2,11 @@
 
 from __future__ import annotations
 
+import os
 import subprocess
 from typing import Any, NamedTuple, Sequence
 
+from tools.places import OUT, TOP
 from tools.reference import renderer
 
 MAX_SECONDS = 60
@@ -22,6 +24,16 @@ class Answer(NamedTuple):
 
     def __str__(self) -> str:
         return f"status {self.status} {self.line.decode(errors='replace').strip()!r}"
+
+
+def keep(name: str, text: bytes) -> str:
+    """Leaves a list whose answer differs in out/compare/. Returns the name of the file, from the top of the repository."""
+    folder = os.path.join(OUT, "compare")
+    os.makedirs(folder, exist_ok=True)
+    path = os.path.join(folder, f"{name}.json")
+    with open(path, "wb") as file:
+        file.write(text)
+    return os.path.relpath(path, TOP)
 
 
 def drawn(program: str, text: bytes, arguments: Sequence[str] = (), seconds: int = MAX_SECONDS) -> Answer:

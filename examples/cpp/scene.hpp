@@ -12,26 +12,10 @@
 #include <utility>
 #include <vector>
 
+#include "numbers.hpp"
 #include "trirast_clip.hpp"
 
 namespace scene {
-
-// Numbers by a seed: the same on every machine (SplitMix64).
-class Numbers {
-public:
-    explicit Numbers(std::uint64_t seed) : state_(seed) {}
-    std::uint64_t next() {
-        std::uint64_t z = state_ += 0x9E3779B97F4A7C15u;
-        z = (z ^ z >> 30) * 0xBF58476D1CE4E5B9u;
-        z = (z ^ z >> 27) * 0x94D049BB133111EBu;
-        return z ^ z >> 31;
-    }
-    double unit() { return static_cast<double>(next() >> 11) * 0x1p-53; }
-    double within(double least, double most) { return least + (most - least) * unit(); }
-
-private:
-    std::uint64_t state_;
-};
 
 struct Vector {
     double x = 0, y = 0, z = 0;

@@ -1,10 +1,12 @@
 """What the tests of posters share."""
 
 import importlib.util
+import io
 import os
 import shutil
 import tempfile
 import unittest
+from contextlib import redirect_stderr
 from typing import Any, Dict, List
 
 if importlib.util.find_spec("numpy") is None:
@@ -13,6 +15,7 @@ if importlib.util.find_spec("numpy") is None:
 import numpy as np
 
 from trirast import poster
+from trirast.poster import _command
 
 
 def random_scene(seed: int, width: int = 300, height: int = 200, triangles: int = 200, reach: int = 20000) -> poster.Scene:
@@ -70,3 +73,19 @@ class Files(unittest.TestCase):
         with open(self.path(name), "wb") as file:
             file.write(data)
         return self.path(name)
+
+
+class Commands(Files):
+    """Tests that run the command for posters, of pictures with 3 by 3 pixels."""
+
+    def run_command(self, *words: str) -> "tuple[int, str]":
+        errors = io.StringIO()
+        with redirect_stderr(errors):
+            status = _command.main(list(words))
+        return status, errors.getvalue()
+
+    def run_to_end(self, *words: str) -> None:
+        """A run succeeds, and says so in one line."""
+        status, line = self.run_command(*words)
+        self.assertEqual(status, 0, line)
+        self.assertRegex(line, r"\Aposter: .*: 3 by 3 pixels\n\Z")

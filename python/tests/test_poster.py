@@ -21,7 +21,7 @@ from trirast.poster import _command, _draw_list, _index, _journal, _part, _png, 
 from trirast.poster._dask import draw_by_dask
 
 from .common import DRAW_LIST, FILE, VERTICES, run
-from .poster_common import Files, as_list, random_scene
+from .poster_common import Commands, Files, as_list, random_scene
 
 SHEET = poster.Sheet(3, 3)
 
@@ -381,19 +381,7 @@ class Stopped(Files):
             self.assertEqual(journal.rows, ["b"], cut)
 
 
-class Command(Files):
-    def run_command(self, *words: str) -> "tuple[int, str]":
-        errors = io.StringIO()
-        with redirect_stderr(errors):
-            status = _command.main(list(words))
-        return status, errors.getvalue()
-
-    def run_to_end(self, *words: str) -> None:
-        """A run succeeds, and says so in one line."""
-        status, line = self.run_command(*words)
-        self.assertEqual(status, 0, line)
-        self.assertRegex(line, r"\Aposter: .*: 3 by 3 pixels\n\Z")
-
+class Command(Commands):
     def test_draws_a_list(self) -> None:
         name = self.write("a.json", list_of())
         self.run_to_end(name, "-o", self.path("a.ppm"))

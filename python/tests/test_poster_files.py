@@ -1,7 +1,6 @@
 """Files of posters: what may be replaced, what is locked, what a stopped run leaves, and files of arrays that are broken."""
 
 import importlib.util
-import io
 import json
 import os
 import random
@@ -13,7 +12,6 @@ import threading
 import time
 import unittest
 import zipfile
-from contextlib import redirect_stderr
 from typing import Any, Dict, List
 from unittest import mock
 
@@ -24,17 +22,17 @@ import numpy as np
 
 import trirast
 from trirast import poster
-from trirast.poster import _arrays, _command, _journal, _poster, _threads, _tile_folder
+from trirast.poster import _arrays, _journal, _poster, _threads, _tile_folder
 from trirast.poster._own_file import open_alone
 
 from .common import DRAW_LIST, FILE, PYTHON, SECONDS, VERTICES
-from .poster_common import Files, as_list, random_scene
+from .poster_common import Commands, Files, as_list, random_scene
 
 VALUE = {"width": 3, "height": 3, "draws": [{"triangles": 1}]}
 PNG = b"\x89PNG\r\n\x1a\n"
 
 
-class Runs(Files):
+class Runs(Commands):
     """Runs of the command over one list."""
 
     def setUp(self) -> None:
@@ -51,18 +49,6 @@ class Runs(Files):
                 mode = os.lstat(path).st_mode
                 found[os.path.relpath(path, self.folder)] = self.content(path) if stat.S_ISREG(mode) else stat.S_IFMT(mode)
         return found
-
-    def run_command(self, *words: str) -> "tuple[int, str]":
-        errors = io.StringIO()
-        with redirect_stderr(errors):
-            status = _command.main(list(words))
-        return status, errors.getvalue()
-
-    def run_to_end(self, *words: str) -> None:
-        """A run succeeds, and says so in one line."""
-        status, line = self.run_command(*words)
-        self.assertEqual(status, 0, line)
-        self.assertRegex(line, r"\Aposter: .*: 3 by 3 pixels\n\Z")
 
     def must_refuse(self, error: str, *words: str) -> None:
         """A run ends with a line for this error before it draws, and changes no file."""

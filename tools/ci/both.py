@@ -7,33 +7,21 @@ A goal that ends in no counts, or with a status against them, is a failure more.
 
 from __future__ import annotations
 
-import subprocess
 import sys
 
+from tools.ci import counted
 from tools.counts import Counts
 from tools.places import TOP
 
 
+def said(line: str) -> str:
+    """A line, but for those in which make says of a goal that it failed: they stand behind the counts."""
+    return "" if line.startswith("make") else line.strip()
+
+
 def run(goal: str, top: str) -> Counts:
     """Runs a goal, passes on what it prints, and returns its counts."""
-    last = ""
-    with subprocess.Popen(
-        ["make", goal], cwd=top, stdin=subprocess.DEVNULL, stdout=subprocess.PIPE, stderr=subprocess.STDOUT, text=True,
-        errors="replace",
-    ) as child:
-        assert child.stdout
-        for line in child.stdout:
-            sys.stdout.write(line)
-            sys.stdout.flush()
-            # What make says of a goal that failed stands behind the counts.
-            if line.strip() and not line.startswith("make"):
-                last = line
-    counts = Counts.in_line(last)
-    if counts is None or (child.returncode and not counts.failed):
-        said = "" if counts else " and printed no counts"
-        print(f"make {goal} ended with status {child.returncode}{said}", flush=True)
-        counts = (counts or Counts()) + Counts(failed=1)
-    return counts
+    return counted.run(f"make {goal}", ["make", goal], top, said)
 
 
 def main() -> int:

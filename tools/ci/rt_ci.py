@@ -3,11 +3,10 @@
 from __future__ import annotations
 
 import re
-import subprocess
-import sys
 from dataclasses import dataclass
 from typing import Sequence
 
+from tools.ci import counted
 from tools.counts import Counts
 
 REFUSED = re.compile(r"^rt: must-fail (\w+/\S+\.edit): refused\b")
@@ -20,24 +19,14 @@ class Whole:
 
 
 def run(rt: str, top: str, crates: Sequence[str] = ()) -> Whole:
-    """Runs rt ci, for these crates and those below them if any are named, and passes its output on. No counts, or a status against
-    them, are a failure."""
+    """Runs rt ci, for these crates and those below them if any are named, and passes its output on."""
     refused: set[str] = set()
-    last = ""
-    with subprocess.Popen(
-        [rt, "ci", *crates], cwd=top, stdin=subprocess.DEVNULL, stdout=subprocess.PIPE, stderr=subprocess.STDOUT, text=True,
-        errors="replace",
-    ) as child:
-        assert child.stdout
-        for line in child.stdout:
-            sys.stdout.write(line)
-            sys.stdout.flush()
-            last = line.strip() or last
-            if found := REFUSED.match(line):
-                refused.add(found[1])
-    # Of crates by name the line also says, in brackets, that this is not the gate.
-    counts = Counts.in_line(last.partition(" (")[0])
-    if counts is None or (child.returncode and not counts.failed):
-        print(f"rt ci ended with status {child.returncode}" + ("" if counts else " and printed no counts"), flush=True)
-        counts = (counts or Counts()) + Counts(failed=1)
+
+    def said(line: str) -> str:
+        if found := REFUSED.match(line):
+            refused.add(found[1])
+        # Of crates by name the last line also says, in brackets, that this is not the gate.
+        return line.strip().partition(" (")[0]
+
+    counts = counted.run("rt ci", [rt, "ci", *crates], top, said)
     return Whole(counts, frozenset(refused))

@@ -20,7 +20,7 @@ from typing import Iterable
 from tools import answers, picture_file
 from tools.reference import bound_triangles, generated_lists
 from tools.answers import Answer
-from tools.places import OUT, PROGRAM, TOP, is_built
+from tools.places import PROGRAM, is_built
 
 TILES = (8, 16, 32, 64)
 WORKERS = (1, 2, 7, 16)
@@ -56,12 +56,7 @@ class Comparison:
     def report(self, text: bytes, name: str, arguments: str, expected: Answer, found: Answer) -> None:
         """Prints how two answers differ, and leaves the list in out/compare/."""
         self.differences += 1
-        folder = os.path.join(OUT, "compare")
-        os.makedirs(folder, exist_ok=True)
-        path = os.path.join(folder, f"{name}.json")
-        with open(path, "wb") as file:
-            file.write(text)
-        print(f"{os.path.relpath(path, TOP)}: {arguments}")
+        print(f"{answers.keep(name, text)}: {arguments}")
         print(f"    expected {expected}")
         print(f"    found    {found}")
         if expected.status == 0 and found.status == 0:

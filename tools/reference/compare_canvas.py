@@ -27,7 +27,7 @@ from tools.reference import canvas_in_c, generated_lists, renderer
 from tools.draw_list import Draw, DrawList, encode, triangles_of
 from tools.checks.library.commands import PACKAGE_ENVIRONMENT
 from tools.checks.library.lists import indices_of
-from tools.places import OUT, PROGRAM, SHARED_LIBRARY, TOP, is_built
+from tools.places import PROGRAM, SHARED_LIBRARY, TOP, is_built
 
 LISTS = 1000
 LOWEST, HIGHEST = -8388608, 8388607
@@ -284,12 +284,7 @@ def compare_lists(lists: int, seed: int, counts: list[int]) -> int:
             compared += compare(scene, random.Random(f"canvas {seed} {number}"))
         except Difference as difference:
             differences += 1
-            folder = os.path.join(OUT, "compare")
-            os.makedirs(folder, exist_ok=True)
-            path = os.path.join(folder, f"canvas_{number}.json")
-            with open(path, "wb") as file:
-                file.write(encode(scene))
-            print(f"{os.path.relpath(path, TOP)}: {difference}")
+            print(f"{answers.keep(f'canvas_{number}', encode(scene))}: {difference}")
     print(f"{lists} lists, {compared} values compared, {differences} differences")
     print(f"{lists - differences} passed, {differences} failed", flush=True)
     return 1 if differences or not compared else 0

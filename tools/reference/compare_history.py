@@ -30,7 +30,7 @@ from typing import Any, Callable, Iterator, Optional
 from tools import answers, picture_file
 from tools.reference import generated_lists, renderer, sample_history
 from tools.counts import Counts
-from tools.places import OUT, PROGRAM, TOP, WHY_PROGRAM, is_built, text_of
+from tools.places import PROGRAM, WHY_PROGRAM, is_built, text_of
 from tools.reference.sample_history import ON_UNCOVERED_EDGE, OUTSIDE, Event, Value
 
 LISTS = 500
@@ -100,13 +100,8 @@ class Comparison:
         self.differences: list[str] = []
 
     def report(self, text: bytes, name: str, what: str) -> None:
-        folder = os.path.join(OUT, "compare")
-        os.makedirs(folder, exist_ok=True)
-        path = os.path.join(folder, f"{name}.json")
-        with open(path, "wb") as file:
-            file.write(text)
         self.differences.append(name)
-        print(f"{os.path.relpath(path, TOP)}: {what}")
+        print(f"{answers.keep(name, text)}: {what}")
 
     def difference(self, text: bytes, scene: renderer.Scene, picture: bytes, x: int, y: int, s: int) -> Optional[str]:
         """How the history of a sample differs from the rules, or `None`."""

@@ -26,7 +26,7 @@ from tools.reference import generated_lists, renderer, sample_history
 from tools.reference.compare_history import COUNTED, LISTS, MAX_EVENTS, MAX_TRIANGLES, SAMPLES, called, first_difference, pixels_of
 from tools.counts import Counts
 from tools.checks.library.commands import PACKAGE_ENVIRONMENT
-from tools.places import OUT, PROGRAM, SHARED_LIBRARY, TOP, WHY_PROGRAM, is_built
+from tools.places import PROGRAM, SHARED_LIBRARY, TOP, WHY_PROGRAM, is_built
 from tools.reference.sample_history import ON_UNCOVERED_EDGE, OUTSIDE, Value
 
 FAILURES = {None: 0, OUTSIDE: 1, ON_UNCOVERED_EDGE: 2}
@@ -233,12 +233,7 @@ class Comparison:
             compare(text, *arguments)
         except Difference as difference:
             self.differences += 1
-            folder = os.path.join(OUT, "compare")
-            os.makedirs(folder, exist_ok=True)
-            path = os.path.join(folder, f"{name}.json")
-            with open(path, "wb") as file:
-                file.write(text)
-            print(f"{os.path.relpath(path, TOP)}: {difference}", flush=True)
+            print(f"{answers.keep(name, text)}: {difference}", flush=True)
 
 
 def compare_lists(lists: int, samples: int, counted: int, seed: int) -> int:

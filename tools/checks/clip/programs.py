@@ -3,18 +3,18 @@
 from __future__ import annotations
 
 import os
-import shutil
 import subprocess
 from typing import Sequence
 
 from tools import places
-from tools.checks.cases import MAX_SECONDS, must
-from tools.ci.edit import pairs_in
+from tools.checks import header_edits
+from tools.checks.cases import MAX_SECONDS
 from tools.checks.library.commands import WARNINGS, need, run
-from tools.places import INCLUDE, TOP, text_of
+from tools.places import EXAMPLES, INCLUDE, TOP
 
 OUT = os.path.join(places.OUT, "check-clip")
 SOURCES = os.path.join(TOP, "tools", "checks", "clip")
+PROGRAMS = os.path.join(EXAMPLES, "cpp")
 STANDARDS = {"c": "-std=c99", "cpp": "-std=c++17"}
 STRICT = (*WARNINGS, "-Wconversion")
 
@@ -22,7 +22,7 @@ STRICT = (*WARNINGS, "-Wconversion")
 def compiled(compiler: str, source: str, name: str, *flags: str, include: str = INCLUDE) -> str:
     """Compiles a source of this folder with all warnings, which are errors, to an object. Returns its path."""
     path = os.path.join(OUT, f"{name}.o")
-    folders = (f"-I{include}", f"-I{SOURCES}")
+    folders = (f"-I{include}", f"-I{PROGRAMS}", f"-I{SOURCES}")
     standard = STANDARDS[source.rpartition(".")[2]]
     run([need(compiler), standard, *STRICT, *flags, *folders, "-c", os.path.join(SOURCES, source), "-o", path])
     return path
@@ -47,19 +47,6 @@ def failures(program: Sequence[str], seeds: int) -> tuple[int, str]:
     return done.returncode, done.stdout
 
 
-def edits() -> list[str]:
-    """The names of the wrong edits."""
-    return [os.path.basename(path)[: -len(".edit")] for path in places.files("tools", "checks", "clip", "edits", "*.edit")]
-
-
 def edited(name: str) -> str:
-    """A folder with the headers, made wrong by an edit. Each old text stands once in what the pairs before it made."""
-    folder = os.path.join(OUT, name)
-    shutil.copytree(INCLUDE, folder)
-    for file, old, new in pairs_in(text_of("tools", "checks", "clip", "edits", f"{name}.edit")):
-        path = os.path.join(folder, file)
-        text = text_of(path)
-        must(text.count(old) == 1, f"{text.count(old)} times in {file}, and not once: {old}")
-        with open(path, "w", encoding="ascii") as header:
-            header.write(text.replace(old, new))
-    return folder
+    """A folder with the headers, made wrong by an edit."""
+    return header_edits.apply("clip", name, [INCLUDE], os.path.join(OUT, name))

@@ -16,9 +16,9 @@ import pytest
 
 from tools import places
 from tools.checks.cases import Case, MissingError, case, must
-from tools.checks import cases
-from tools.checks.clip import picture, programs
-from tools.checks.clip.programs import OUT, compiled, edited, edits, failures, filter_by, linked
+from tools.checks import cases, header_edits
+from tools.checks.clip import picture
+from tools.checks.clip.programs import OUT, compiled, edited, failures, filter_by, linked
 from tools.checks.clip.tasks import all_tasks
 from tools.checks.library.arm64 import COMPILER as ARM64, QEMU
 from tools.checks.library.commands import PACKAGE_ENVIRONMENT, WARNINGS, need, python_with, run
@@ -205,7 +205,7 @@ CASES = [
     case("the same bytes: Python", check_python),
     *(case(f"the program of the page in {language}", check_page, language) for language in ("c", "python")),
     case("the example", check_example),
-    *(case(f"wrong edit: {name}", check_edit, name) for name in edits()),
+    *(case(f"wrong edit: {name}", check_edit, name) for name in header_edits.names("clip")),
 ]
 
 

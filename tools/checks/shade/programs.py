@@ -2,18 +2,16 @@
 
 from __future__ import annotations
 
-import glob
 import os
 import re
-import shutil
 import subprocess
 from typing import Sequence
 
 from tools import places
-from tools.checks.cases import MAX_SECONDS, must
+from tools.checks import header_edits
+from tools.checks.cases import MAX_SECONDS
 from tools.checks.library.commands import WARNINGS, need, run
-from tools.ci.edit import pairs_in
-from tools.places import EXAMPLES, INCLUDE, STATIC_LIBRARY, TOP, text_of
+from tools.places import EXAMPLES, INCLUDE, STATIC_LIBRARY, TOP
 
 OUT = os.path.join(places.OUT, "check-shade")
 SOURCES = os.path.join(TOP, "tools", "checks", "shade")
@@ -120,24 +118,6 @@ def program_of(source: str, *flags: str, more: Sequence[str] = (), name: str = "
     return path
 
 
-def edits() -> list[str]:
-    """The names of the wrong edits."""
-    paths = places.files("tools", "checks", "shade", "edits", "*.edit")
-    return [os.path.basename(path)[: -len(".edit")] for path in paths]
-
-
 def edited(name: str) -> str:
-    """A folder with the headers, made wrong by an edit. Each old text stands once in what the pairs before it made."""
-    folder = os.path.join(OUT, name)
-    os.makedirs(folder)
-    # All of them: a header that stands beside another one is taken before any folder.
-    for source in (INCLUDE, PROGRAMS):
-        for header in glob.glob(os.path.join(source, "*.h*")):
-            shutil.copy(header, folder)
-    for file, old, new in pairs_in(text_of("tools", "checks", "shade", "edits", f"{name}.edit")):
-        path = os.path.join(folder, file)
-        text = text_of(path)
-        must(text.count(old) == 1, f"{text.count(old)} times in {file}, and not once: {old}")
-        with open(path, "w", encoding="ascii") as header_file:
-            header_file.write(text.replace(old, new))
-    return folder
+    """A folder with the headers, and with those of the examples, made wrong by an edit."""
+    return header_edits.apply("shade", name, [INCLUDE, PROGRAMS], os.path.join(OUT, name))

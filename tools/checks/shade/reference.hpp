@@ -9,6 +9,7 @@
 #include <cstdint>
 #include <vector>
 
+#include "patterns.hpp"
 #include "scene.hpp"
 #include "under_test.hpp"
 
@@ -16,37 +17,16 @@ namespace reference {
 
 using Wide = __int128;
 
-// Where samples lie in a pixel: docs/rules.md.
 struct Place {
     std::int64_t x, y;
 };
 
 inline std::vector<Place> places(std::size_t samples) {
-    static constexpr int patterns[5][16][2] = {{{0, 0}},
-                                               {{4, 4}, {-4, -4}},
-                                               {{-2, -6}, {6, -2}, {-6, 2}, {2, 6}},
-                                               {{1, -3}, {-1, 3}, {5, 1}, {-3, -5}, {-5, 5}, {-7, -1}, {3, 7}, {7, -7}},
-                                               {{1, 1},
-                                                {-1, -3},
-                                                {-3, 2},
-                                                {4, -1},
-                                                {-5, -2},
-                                                {2, 5},
-                                                {5, 3},
-                                                {3, -5},
-                                                {-2, 6},
-                                                {0, -7},
-                                                {-4, -6},
-                                                {-6, 4},
-                                                {-8, 0},
-                                                {7, -4},
-                                                {6, 7},
-                                                {-7, -8}}};
     std::size_t row = 0;
     while (std::size_t{1} << row < samples) row++;
     std::vector<Place> found;
     for (std::size_t s = 0; s < samples; s++)
-        found.push_back({128 + 16 * patterns[row][s][0], 128 + 16 * patterns[row][s][1]});
+        found.push_back({128 + 16 * PATTERNS[row][s][0], 128 + 16 * PATTERNS[row][s][1]});
     return found;
 }
 

@@ -6,6 +6,7 @@
 #include <cstdio>
 #include <cstring>
 
+#include "patterns.hpp"
 #include "trirast.h"
 
 namespace {
@@ -75,27 +76,6 @@ void each_pixel(const trirast_canvas &canvas, const Do &each) {
 }
 
 // ---- Triangles
-
-constexpr signed char PATTERNS[5][16][2] = {{{0, 0}},
-                                            {{4, 4}, {-4, -4}},
-                                            {{-2, -6}, {6, -2}, {-6, 2}, {2, 6}},
-                                            {{1, -3}, {-1, 3}, {5, 1}, {-3, -5}, {-5, 5}, {-7, -1}, {3, 7}, {7, -7}},
-                                            {{1, 1},
-                                             {-1, -3},
-                                             {-3, 2},
-                                             {4, -1},
-                                             {-5, -2},
-                                             {2, 5},
-                                             {5, 3},
-                                             {3, -5},
-                                             {-2, 6},
-                                             {0, -7},
-                                             {-4, -6},
-                                             {-6, 4},
-                                             {-8, 0},
-                                             {7, -4},
-                                             {6, 7},
-                                             {-7, -8}}};
 
 std::int64_t side(const trirast_vertex &a, const trirast_vertex &b, std::int64_t x, std::int64_t y) {
     return (std::int64_t{b.x} - a.x) * (y - a.y) - (std::int64_t{b.y} - a.y) * (x - a.x);

@@ -15,14 +15,14 @@ import shutil
 
 import pytest
 
-from tools.checks import cases
+from tools.checks import cases, header_edits
 from tools.checks.cases import Case, MissingError, case, must
 from tools.checks.library.arm64 import COMPILER as ARM64, QEMU
 from tools.checks.library.commands import need, run
 from tools.checks.library.sanitized import SANITIZERS
 from tools.checks.shade import exact, examples, programs
 from tools.checks.shade.programs import (
-    IN_C, OUT, compiled, edited, edits, failures, filter_by, filter_for_arm64, named, outcome,
+    IN_C, OUT, compiled, edited, failures, filter_by, filter_for_arm64, named, outcome,
     tests_of,
 )
 from tools.places import INCLUDE
@@ -164,7 +164,10 @@ CASES = [
     case("a walk through a model", examples.check_walk, 200),
     case("standards", check_standards, is_long=True),
     case("fast-math is refused", check_fast_math),
-    *(case(f"wrong edit: {name}", check_edit, name, is_long=k % SHORT_EDITS > 0) for k, name in enumerate(edits())),
+    *(
+        case(f"wrong edit: {name}", check_edit, name, is_long=k % SHORT_EDITS > 0)
+        for k, name in enumerate(header_edits.names("shade"))
+    ),
 ]
 
 
