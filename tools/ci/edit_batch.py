@@ -13,7 +13,8 @@ from __future__ import annotations
 import os
 import re
 from dataclasses import dataclass
-from typing import Iterable, Sequence
+from math import ceil
+from typing import Iterable, Mapping, Sequence
 
 from tools.ci.edit import applied, pairs_in
 from tools.ci.edit_trial import SECONDS, is_judged, try_edit
@@ -23,8 +24,10 @@ from tools.ci.sources import changed_bodies, owner_of
 from tools.ci.toolchain import Ran, Toolchain
 from tools.places import text_of
 
-# The most edits that are tried together. With more, processors would wait for the last batch.
+# The most edits that are tried together, and the most seconds of a processor that these are likely to take. With more, processors
+# would wait for the last batch.
 MOST = 24
+MOST_SECONDS = 300.0
 # What a check says of a function whose own proof does not hold.
 REFUSED = re.compile(r"not proved\b|no proof: expected answers\b")
 
@@ -121,11 +124,12 @@ class Batch:
         return Outcome(outcome.has_passed, outcome.remark, outcome.seconds + self.spent[name], outcome.details)
 
 
-def batches(names: Sequence[str]) -> list[list[str]]:
-    """The edits of a crate in batches of about the same size. Those of one function, whose names are alike, and of functions that
-    call each other, which stand in one file, come into several."""
-    count = -(-len(names) // MOST)
-    return [list(names[k::count]) for k in range(count)]
+def batches(seconds: Mapping[str, float]) -> list[list[str]]:
+    """The edits of a crate, with what each is likely to take, in batches of about the same size. Those of one function, whose names
+    are alike, and of functions that call each other, which stand in one file, come into several."""
+    names = list(seconds)
+    count = min(len(names), max(ceil(len(names) / MOST), ceil(sum(seconds.values()) / MOST_SECONDS)))
+    return [names[k::count] for k in range(count)]
 
 
 def try_batch(rooms: Rooms, rt: Toolchain, crate: str, names: Sequence[str]) -> Outcome:

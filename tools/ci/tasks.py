@@ -53,9 +53,10 @@ def steps_of(crate: str, steps: Steps, has_edits: bool, known: Mapping[str, int]
 def tasks_of(crate: str, steps: Steps, edits: Sequence[str], known: Mapping[str, int]) -> list[Task]:
     """The tasks of a crate, each behind those that it needs. Its edits are tried once it stands, beside its tests."""
     made = steps_of(crate, steps, bool(edits), known)
-    for number, batch in enumerate(batches(edits), 1):
+    likely = {edit: known.get(f"{crate}/{edit}", EDIT_SECONDS) for edit in edits}
+    for number, batch in enumerate(batches(likely), 1):
         parts = tuple(f"{crate}/{edit}" for edit in batch)
-        seconds = sum(known.get(name, EDIT_SECONDS) for name in parts)
+        seconds = sum(likely[edit] for edit in batch)
         run = partial(tried, steps, crate, batch)
         made.append(Task(f"{crate}: edits {number}", run, (f"{crate}: as it stands",), seconds, parts=parts))
     return made

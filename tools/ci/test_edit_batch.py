@@ -143,9 +143,11 @@ def test_one_that_changes_a_clause_is_tried_by_itself(tree: SmallTree) -> None:
     assert edit_of(f"{tree.top}/crates/apart", "lib.f2.says_three.edit", text) is None
 
 
-def test_batches_share_the_edits() -> None:
-    names = [f"lib.f{k}.edit" for k in range(50)]
-    made = batches(names)
+@pytest.mark.parametrize("number, seconds, sizes", [
+    (50, 5.0, [17, 17, 16]), (24, 5.0, [24]), (22, 50.0, [6, 6, 5, 5]), (2, 400.0, [1, 1]), (1, 900.0, [1]), (0, 0.0, []),
+])
+def test_batches_share_the_edits(number: int, seconds: float, sizes: list[int]) -> None:
+    names = [f"lib.f{k}.edit" for k in range(number)]
+    made = batches(dict.fromkeys(names, seconds))
     assert sorted(name for batch in made for name in batch) == sorted(names)
-    assert [len(batch) for batch in made] == [17, 17, 16]
-    assert batches([]) == []
+    assert [len(batch) for batch in made] == sizes
