@@ -2,7 +2,7 @@ ghost use Rattle.std.specs.Prelude.{◌≡◌, pos};
 ghost use Rattle.std.specs.Int.RustNames.{unsigned_abs};
 ghost use Rattle.grid.specs.Triangle.{doubled_area};
 
-use crate::mode::{Colour, ColourMode, Depth, DepthMode, DrawMode};
+use crate::mode::{Attributes, Colour, ColourMode, Depth, DepthMode, DrawMode};
 use planes::{ColourPlanes, ColourSlopes, DepthPlane, Reciprocal, Slope};
 use shade::Placed;
 use std::marker::Model;
@@ -11,10 +11,8 @@ use std::marker::Model;
 /// mode of drawing suits it, which are found once for all its samples (attribute setup). Contracts see the triangle.
 #[derive(Debug, Drop)]
 pub struct Interpolants {
-    pub(crate) placed: Placed,
     pub(crate) mode: DrawMode,
-    pub(crate) depth: Depth,
-    pub(crate) colour: Colour,
+    pub(crate) attributes: Attributes,
 }
 
 impl Model for Interpolants {
@@ -23,9 +21,9 @@ impl Model for Interpolants {
 
     ghost Value = { Triangle };
 
-    ghost view = { λ i. i.placed };
+    ghost view = { λ i. i.attributes.placed };
 
-    ghost invariant = { λ i. IsDrawModeOf i.placed i.mode i.depth i.colour };
+    ghost invariant = { λ i. IsDrawModeOf i.attributes i.mode };
 }
 
 /// The doubled area of a triangle that has one, with its reciprocal.
@@ -43,15 +41,17 @@ impl Interpolants {
         ensures { result ≡ placed.now }
     {
         Interpolants {
-            placed: *placed,
             mode: DrawMode::Each,
-            depth: Depth {
-                mode: DepthMode::Unused,
-                plane: DepthPlane::none(),
-            },
-            colour: Colour {
-                mode: ColourMode::Flat(placed.rgba[0]),
-                planes: ColourPlanes::none(),
+            attributes: Attributes {
+                placed: *placed,
+                depth: Depth {
+                    mode: DepthMode::Unused,
+                    plane: DepthPlane::none(),
+                },
+                colour: Colour {
+                    mode: ColourMode::Flat(placed.rgba[0]),
+                    planes: ColourPlanes::none(),
+                },
             },
         }
     }
@@ -83,7 +83,7 @@ impl Interpolants {
         requires { ¬ (doubled_area self.old.tri.a self.old.tri.b self.old.tri.c ≡ pos 0) }
         ensures { self.new ≡ self.old }
     {
-        let placed = self.placed;
+        let placed = self.attributes.placed;
         self.set(&placed, true);
     }
 
@@ -99,15 +99,17 @@ impl Interpolants {
         let merge = &placed.state.merge;
         if !by_plane && !by_planes {
             *self = Interpolants {
-                placed: *placed,
                 mode: DrawMode::of(merge),
-                depth: Depth {
-                    mode: depth,
-                    plane: DepthPlane::none(),
-                },
-                colour: Colour {
-                    mode: colour,
-                    planes: ColourPlanes::none(),
+                attributes: Attributes {
+                    placed: *placed,
+                    depth: Depth {
+                        mode: depth,
+                        plane: DepthPlane::none(),
+                    },
+                    colour: Colour {
+                        mode: colour,
+                        planes: ColourPlanes::none(),
+                    },
                 },
             };
             return;
@@ -120,15 +122,17 @@ impl Interpolants {
             return;
         }
         *self = Interpolants {
-            placed: *placed,
             mode: DrawMode::of(merge),
-            depth: Depth {
-                mode: depth,
-                plane: DepthPlane::of_used(by_plane, &depth_slope, reciprocal, search),
-            },
-            colour: Colour {
-                mode: colour,
-                planes: ColourPlanes::of_used(by_planes, &slopes, reciprocal, search),
+            attributes: Attributes {
+                placed: *placed,
+                depth: Depth {
+                    mode: depth,
+                    plane: DepthPlane::of_used(by_plane, &depth_slope, reciprocal, search),
+                },
+                colour: Colour {
+                    mode: colour,
+                    planes: ColourPlanes::of_used(by_planes, &slopes, reciprocal, search),
+                },
             },
         };
     }
@@ -137,6 +141,6 @@ impl Interpolants {
     pub fn placed(&self) -> &Placed
         ensures { result.now ≡ self.now }
     {
-        &self.placed
+        &self.attributes.placed
     }
 }
