@@ -140,12 +140,8 @@ fn draw_in_colour(
         }
         DepthMode::Plane => {
             let depth = DepthSource::Plane(&triangle.placed, &triangle.depth.plane);
-            draw_planes(
-                &Sources::new(merge, depth, colour),
-                mask,
-                samples,
-                corrections,
-            );
+            let sources = &Sources::new(merge, depth, colour);
+            draw_planes(sources, mask, samples, corrections);
         }
     }
 }
@@ -201,29 +197,17 @@ fn draw_otherwise(
     match known {
         KnownEquation::Replace => {
             let merge = with_known(KnownEquation::Replace, merge);
-            draw_planes(
-                &Sources::new(merge, depth, colour),
-                mask,
-                samples,
-                corrections,
-            );
+            let sources = &Sources::new(merge, depth, colour);
+            draw_planes(sources, mask, samples, corrections);
         }
         KnownEquation::Over => {
             let merge = with_known(KnownEquation::Over, merge);
-            draw_planes(
-                &Sources::new(merge, depth, colour),
-                mask,
-                samples,
-                corrections,
-            );
+            let sources = &Sources::new(merge, depth, colour);
+            draw_planes(sources, mask, samples, corrections);
         }
         KnownEquation::Other => {
-            draw_planes(
-                &Sources::new(*merge, depth, colour),
-                mask,
-                samples,
-                corrections,
-            );
+            let sources = &Sources::new(*merge, depth, colour);
+            draw_planes(sources, mask, samples, corrections);
         }
     }
 }
