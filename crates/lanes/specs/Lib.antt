@@ -8,7 +8,6 @@
 --
 -- BlockMask.antt
 --   first_of: Where sample s of the part, of the first pixel of the block, lies.
---   IsPlaneMask: A block whose samples are in the mask lies on the screen, and all of them are in a mask that is whole.
 --   plane_of: The samples s of a part of a block, as they are stored.
 --   CoversBlock: The triangle covers the samples in the masks of a block.
 --   IsBlockDrawn: The samples in the masks of a block are drawn, and the others are unchanged.
@@ -40,11 +39,11 @@
 --   IsColourMode: What has to hold so that a triangle's colour can be computed in this mode, in the channels that the draw reads.
 --   IsByPlanes: The mode takes the colour from planes.
 --   IsColourBy: The triangle's colour can be computed in this mode, by these planes if the mode needs them.
---   WritesChannels: The merge writes red, green and blue, or none of them, and alpha or not.
+--   WritesColours: The merge writes red, green and blue, and alpha or not.
 --   IsMergeMode: Samples can be merged in this mode: one after another always, and sixteen at once by the equation of the merge.
---   IsDrawnBy: The triangle can be drawn sixteen samples at once by its depth and its colour, and its draw blends by the known equation.
---   IsDrawModeOf: The triangle can be drawn in this mode, by its depth and its colour if sixteen samples are drawn at once.
---   AreSourcesOf: The triangle is drawn by these sources: the merge of its draw, its depth and its colour.
+--   IsDrawnBy: The triangle can be drawn sixteen samples at once by this depth and this colour, and its draw blends by the known equation.
+--   IsDrawModeOf: The triangle can be drawn in this mode, by this depth and this colour if sixteen samples are drawn at once.
+--   AreSourcesOf: What a triangle is drawn by: the merge of its draw, its depth and its colour.
 --   known_of: The colour equation of a draw list's `over`, or of its `none`.
 --
 -- Merging.antt
