@@ -140,8 +140,12 @@ fn draw_in_colour(
         }
         DepthMode::Plane => {
             let depth = DepthSource::Plane(&triangle.placed, &triangle.depth.plane);
-            let sources = &Sources::new(merge, depth, colour);
-            draw_planes(sources, mask, samples, corrections);
+            draw_planes(
+                &Sources::new(merge, depth, colour),
+                mask,
+                samples,
+                corrections,
+            );
         }
     }
 }
@@ -197,17 +201,29 @@ fn draw_otherwise(
     match known {
         KnownEquation::Replace => {
             let merge = with_known(KnownEquation::Replace, merge);
-            let sources = &Sources::new(merge, depth, colour);
-            draw_planes(sources, mask, samples, corrections);
+            draw_planes(
+                &Sources::new(merge, depth, colour),
+                mask,
+                samples,
+                corrections,
+            );
         }
         KnownEquation::Over => {
             let merge = with_known(KnownEquation::Over, merge);
-            let sources = &Sources::new(merge, depth, colour);
-            draw_planes(sources, mask, samples, corrections);
+            draw_planes(
+                &Sources::new(merge, depth, colour),
+                mask,
+                samples,
+                corrections,
+            );
         }
         KnownEquation::Other => {
-            let sources = &Sources::new(*merge, depth, colour);
-            draw_planes(sources, mask, samples, corrections);
+            draw_planes(
+                &Sources::new(*merge, depth, colour),
+                mask,
+                samples,
+                corrections,
+            );
         }
     }
 }

@@ -23,7 +23,7 @@ use crate::merging::passes_lanes;
 use crate::operands::LaneOperands;
 use crate::sources::{DepthSource, Sources};
 use planes::Corrections;
-use shade::{Equation, Merge, Placed};
+use shade::{Merge, Placed};
 use std::simd::prelude::*;
 
 /// A byte in all lanes.
@@ -54,16 +54,28 @@ fn operands(merge: &Merge, number: usize, s: u16x16, a: u16x16, e: u16x16, d: u8
     }
 }
 
-/// A channel of colours that is written by these operands, where the mask is set.
+/// A written channel, where the mask is set.
 #[inline(always)]
-fn drawn_lanes(equation: &Equation, mask: u16x16, o: &LaneOperands, d: u8x16) -> u8x16
-    requires { AreByteOperands o.now }
+fn drawn_lanes(
+    merge: &Merge,
+    number: usize,
+    mask: u16x16,
+    s: u16x16,
+    a: u16x16,
+    e: u16x16,
+    d: u8x16,
+) -> u8x16
+    requires number { number < 3 }
+    requires bytes { Each1 (λ n. n ≤ 255) s × Each1 (λ n. n ≤ 255) a × AreByteLanes e }
     ensures whole { length result ≡ 16 }
     ensures set { (i : ℕ) → i < 16 → slice_index mask i ≡ 65535
-        → IsBlended equation.now Colour (lane_of o.now i) (slice_index result i) }
+        → IsBlended merge.now.blend.colour Colour
+        (operands_of merge.now number (slice_index s i) (slice_index a i) (slice_index e i) (slice_index d i))
+        (slice_index result i) }
     ensures clear { (i : ℕ) → i < 16 → slice_index mask i ≡ 0 → slice_index result i ≡ slice_index d i }
 {
-    let new = narrow(coloured_lanes(equation, o));
+    let o = operands(merge, number, s, a, e, d);
+    let new = narrow(coloured_lanes(&merge.blend.colour, &o));
     choose_bytes(mask, new, d)
 }
 
@@ -92,8 +104,7 @@ fn draw_channel(
 {
     if merge.write[number] {
         let old = u8x16::from_slice(&stored[at..]);
-        let o = operands(merge, number, s, a, e, old);
-        drawn_lanes(&merge.blend.colour, mask, &o, old).copy_to_slice(&mut stored[at..]);
+        drawn_lanes(merge, number, mask, s, a, e, old).copy_to_slice(&mut stored[at..]);
     }
 }
 

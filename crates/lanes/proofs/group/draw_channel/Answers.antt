@@ -9,7 +9,7 @@ use Rattle.lanes.proofs.group.draw_channel.Goals as goal
 pub returns-then-merge-number-clause-set : goal.returns-then-merge-number-clause-set
 returns-then-merge-number-clause-set c i l e =
     let m = c.args.merge.now in
-    let drawn = subst (λ o. IsBlended m.blend.colour Colour o (get_or c.drawn_lanes.result i 0)) (c.operands-o.ensures.each i l) (c.drawn_lanes.ensures.set i l e) in
+    let drawn = c.drawn_lanes.ensures.set i l e in
     let at_old = subst (λ d. IsBlended m.blend.colour Colour (operands_of m c.args.number (get_or c.args.s i 0) (get_or c.args.a i 0) (get_or c.args.e i 0) d) (get_or c.drawn_lanes.result i 0)) (get_or-chunk c.args.at 16 c.args.stored.now i 0 l) drawn in
     rw c.if-merge-number.true
     (subst (λ n. IsBlended m.blend.colour Colour (operands_of m c.args.number (get_or c.args.s i 0) (get_or c.args.a i 0) (get_or c.args.e i 0) (get_or c.args.stored.now (c.args.at + i) 0)) n)
