@@ -47,21 +47,19 @@ pub record IsColourBy (t : Placed) (c : Colour) : Type 0 where
   pub is_mode : IsColourMode t c.mode
   pub are_planes : IsByPlanes c.mode → AreColourPlanes t c.planes
 
--- The merge writes red, green and blue, or none of them, and alpha or not.
-pub record WritesChannels (colours alpha : Bool) (m : Merge) : Type 0 where
-  pub with_colours : m.write ≡ colours ∷ colours ∷ colours ∷ []
+-- The merge writes red, green and blue, and alpha or not.
+pub record WritesColours (alpha : Bool) (m : Merge) : Type 0 where
+  pub colours : m.write ≡ true ∷ true ∷ true ∷ []
   pub with_alpha : m.blend.write_alpha ≡ alpha
 
 -- Samples can be merged in this mode: one after another always, and sixteen at once by the equation of the merge. The two
--- equations of draw lists have modes of their own, in which red, green and blue are written, with alpha or without, and one in
--- which no channel is written.
+-- equations of draw lists have modes of their own, in which red, green and blue are written, with alpha or without.
 abbrev pub IsMergeMode : Merge → DrawMode → Type 0
 IsMergeMode m draw.Each = Unit {0}
-IsMergeMode m draw.Depths = IsKnown Replace m.blend.colour × WritesChannels false false m
-IsMergeMode m draw.Replace = IsKnown Replace m.blend.colour × WritesChannels true false m
-IsMergeMode m draw.Over = IsKnown Over m.blend.colour × WritesChannels true false m
-IsMergeMode m draw.ReplaceWithAlpha = IsKnown Replace m.blend.colour × WritesChannels true true m
-IsMergeMode m draw.OverWithAlpha = IsKnown Over m.blend.colour × WritesChannels true true m
+IsMergeMode m draw.Replace = IsKnown Replace m.blend.colour × WritesColours false m
+IsMergeMode m draw.Over = IsKnown Over m.blend.colour × WritesColours false m
+IsMergeMode m draw.ReplaceWithAlpha = IsKnown Replace m.blend.colour × WritesColours true m
+IsMergeMode m draw.OverWithAlpha = IsKnown Over m.blend.colour × WritesColours true m
 IsMergeMode m (draw.Otherwise known) = IsKnown known m.blend.colour
 
 -- The triangle can be drawn sixteen samples at once by its depth and its colour, and its draw blends by the known equation.
@@ -73,11 +71,10 @@ pub record IsDrawnBy (t : Attributes) (known : KnownEquation) : Type 0 where
 -- The triangle can be drawn in this mode, by its depth and its colour if sixteen samples are drawn at once.
 abbrev pub IsDrawModeOf : Attributes → DrawMode → Type 0
 IsDrawModeOf t draw.Each = Unit {0}
-IsDrawModeOf t draw.Depths = IsDrawnBy t Replace × WritesChannels false false t.placed.state.merge
-IsDrawModeOf t draw.Replace = IsDrawnBy t Replace × WritesChannels true false t.placed.state.merge
-IsDrawModeOf t draw.Over = IsDrawnBy t Over × WritesChannels true false t.placed.state.merge
-IsDrawModeOf t draw.ReplaceWithAlpha = IsDrawnBy t Replace × WritesChannels true true t.placed.state.merge
-IsDrawModeOf t draw.OverWithAlpha = IsDrawnBy t Over × WritesChannels true true t.placed.state.merge
+IsDrawModeOf t draw.Replace = IsDrawnBy t Replace × WritesColours false t.placed.state.merge
+IsDrawModeOf t draw.Over = IsDrawnBy t Over × WritesColours false t.placed.state.merge
+IsDrawModeOf t draw.ReplaceWithAlpha = IsDrawnBy t Replace × WritesColours true t.placed.state.merge
+IsDrawModeOf t draw.OverWithAlpha = IsDrawnBy t Over × WritesColours true t.placed.state.merge
 IsDrawModeOf t (draw.Otherwise known) = IsDrawnBy t known
 
 -- The triangle is drawn by these sources: the merge of its draw, its depth and its colour.

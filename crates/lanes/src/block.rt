@@ -7,7 +7,7 @@ ghost use Rattle.planes.specs.Group.{position_in};
 ghost use Rattle.lanes.specs.Block.{CoversMask, AreDrawn};
 ghost use Rattle.lanes.specs.BlockMask.{CoversBlock, IsBlockDrawn, IsPlaneMask};
 ghost use Rattle.lanes.specs.Lanes.{IsMask};
-ghost use Rattle.lanes.specs.Mode.{AreSourcesOf, IsDepthBy, IsDrawnBy, WritesChannels, known_of};
+ghost use Rattle.lanes.specs.Mode.{AreSourcesOf, IsDepthBy, IsDrawnBy, WritesColours, known_of};
 ghost use Rattle.lanes.specs.Sources.{IsColourOf};
 
 use crate::block_mask::{BlockMask, PlaneMask};
@@ -150,23 +150,23 @@ fn draw_in_colour(
     }
 }
 
-/// Draws a block's samples by a merge that writes red, green and blue by an equation of draw lists with `COLOURS`, and
-/// else none of them, and alpha with `ALPHA`. Each source of colour and of depth has code of its own.
+/// Draws a block's samples by a merge that writes all colour channels by an equation of draw lists, and alpha with
+/// `ALPHA`. Each source of colour and of depth has code of its own.
 #[inline(never)]
-fn draw_by_sources<const OVER: bool, const COLOURS: bool, const ALPHA: bool>(
+fn draw_by_sources<const OVER: bool, const ALPHA: bool>(
     triangle: &Attributes,
     mask: &BlockMask,
     samples: &mut [BlockSamples],
     corrections: &mut Corrections,
 )
     requires by { IsDrawnBy triangle.now (known_of OVER) }
-    requires all { WritesChannels COLOURS ALPHA triangle.now.placed.state.merge }
+    requires all { WritesColours ALPHA triangle.now.placed.state.merge }
     requires samples { length samples.old ≡ part_size mask.now.count }
     ensures drawn { CoversBlock triangle.now.placed mask.now
         → IsBlockDrawn triangle.now.placed mask.now samples.old samples.new }
     ensures samples { length samples.new ≡ length samples.old }
 {
-    let merge = whole::<OVER, COLOURS, ALPHA>(&triangle.placed.state.merge);
+    let merge = whole::<OVER, ALPHA>(&triangle.placed.state.merge);
     match triangle.colour.mode {
         ColourMode::Flat(rgba) => {
             let colour = ColourSource::Flat(rgba);
@@ -246,20 +246,17 @@ impl Interpolants {
         let triangle = &self.attributes;
         match self.mode {
             DrawMode::Each => draw_each(&triangle.placed, mask, samples),
-            DrawMode::Depths => {
-                draw_by_sources::<false, false, false>(triangle, mask, samples, corrections);
-            }
             DrawMode::Replace => {
-                draw_by_sources::<false, true, false>(triangle, mask, samples, corrections);
+                draw_by_sources::<false, false>(triangle, mask, samples, corrections);
             }
             DrawMode::Over => {
-                draw_by_sources::<true, true, false>(triangle, mask, samples, corrections);
+                draw_by_sources::<true, false>(triangle, mask, samples, corrections);
             }
             DrawMode::ReplaceWithAlpha => {
-                draw_by_sources::<false, true, true>(triangle, mask, samples, corrections);
+                draw_by_sources::<false, true>(triangle, mask, samples, corrections);
             }
             DrawMode::OverWithAlpha => {
-                draw_by_sources::<true, true, true>(triangle, mask, samples, corrections);
+                draw_by_sources::<true, true>(triangle, mask, samples, corrections);
             }
             DrawMode::Otherwise(known) => {
                 draw_otherwise(known, triangle, mask, samples, corrections);

@@ -1,7 +1,7 @@
 //! A merge made again, so that its colour equation is known if the code is inlined.
 ghost use Rattle.std.specs.Prelude.{◌≡◌};
 ghost use Rattle.shade.specs.Presets.{IsKnown};
-ghost use Rattle.lanes.specs.Mode.{WritesChannels, known_of};
+ghost use Rattle.lanes.specs.Mode.{WritesColours, known_of};
 
 use shade::{Blend, Equation, KnownEquation, Merge};
 
@@ -48,14 +48,12 @@ pub(crate) fn with_known(known: KnownEquation, m: &Merge) -> Merge
     remade(known, m, m.write, m.blend.write_alpha)
 }
 
-/// A merge by an equation of draw lists, made again so that its equation and what it writes are known if the code is
-/// inlined. It writes red, green and blue with `COLOURS`, and else none of them, and alpha with `ALPHA`.
+/// A merge that writes red, green and blue by an equation of draw lists, made again so that its equation and what it
+/// writes are known if the code is inlined. With `ALPHA` it writes alpha.
 #[inline(always)]
-pub(crate) fn whole<const OVER: bool, const COLOURS: bool, const ALPHA: bool>(
-    merge: &Merge,
-) -> Merge
+pub(crate) fn whole<const OVER: bool, const ALPHA: bool>(merge: &Merge) -> Merge
     requires known { IsKnown (known_of OVER) merge.now.blend.colour }
-    requires all { WritesChannels COLOURS ALPHA merge.now }
+    requires all { WritesColours ALPHA merge.now }
     ensures { result ≡ merge.now }
 {
     let known = if OVER {
@@ -63,5 +61,5 @@ pub(crate) fn whole<const OVER: bool, const COLOURS: bool, const ALPHA: bool>(
     } else {
         KnownEquation::Replace
     };
-    remade(known, merge, [COLOURS; 3], ALPHA)
+    remade(known, merge, [true; 3], ALPHA)
 }

@@ -1,7 +1,7 @@
 //! The mode in which a triangle is drawn, which is chosen once for all its samples.
 ghost use Rattle.std.specs.Prelude.{◌≡◌, ◌<◌, IsTrue, slice_index};
 ghost use Rattle.shade.specs.Placed.{channel, rgba_of};
-ghost use Rattle.lanes.specs.Mode.{IsDepthBy, IsColourBy, IsMergeMode, WritesChannels};
+ghost use Rattle.lanes.specs.Mode.{IsDepthBy, IsColourBy, IsMergeMode, WritesColours};
 ghost use Rattle.lanes.specs.Sources.{IsDepthOf, IsColourOf, IsFlat};
 
 use crate::sources::{ColourSource, DepthSource};
@@ -33,8 +33,6 @@ pub(crate) enum ColourMode {
 pub(crate) enum DrawMode {
     /// One sample after another by the definition: a value changes too fast from pixel to pixel for a plane.
     Each,
-    /// Sixteen samples at once; no channel is written, but depths may be.
-    Depths,
     /// Sixteen samples at once; the colour takes the place of the stored one.
     Replace,
     /// Sixteen samples at once; the colour is laid over the stored one.
@@ -71,13 +69,13 @@ pub(crate) struct Attributes {
     pub(crate) colour: Colour,
 }
 
-/// Whether a merge writes red, green and blue exactly if colours are asked for, and alpha exactly if it is.
+/// Whether a merge writes red, green and blue, and alpha exactly if it is asked for.
 #[inline(always)]
-fn writes_channels(merge: &Merge, colours: bool, alpha: bool) -> bool
-    ensures { IsTrue result → WritesChannels colours alpha merge.now }
+fn writes_colours(merge: &Merge, alpha: bool) -> bool
+    ensures { IsTrue result → WritesColours alpha merge.now }
 {
     let [red, green, blue] = merge.write;
-    red == colours && green == colours && blue == colours && merge.blend.write_alpha == alpha
+    red && green && blue && merge.blend.write_alpha == alpha
 }
 
 impl DrawMode {
@@ -88,12 +86,10 @@ impl DrawMode {
     {
         let known = KnownEquation::of(&merge.blend.colour);
         match known {
-            KnownEquation::Replace if writes_channels(merge, true, false) => DrawMode::Replace,
-            KnownEquation::Over if writes_channels(merge, true, false) => DrawMode::Over,
-            KnownEquation::Replace if writes_channels(merge, true, true) =>
-                DrawMode::ReplaceWithAlpha,
-            KnownEquation::Over if writes_channels(merge, true, true) => DrawMode::OverWithAlpha,
-            KnownEquation::Replace if writes_channels(merge, false, false) => DrawMode::Depths,
+            KnownEquation::Replace if writes_colours(merge, false) => DrawMode::Replace,
+            KnownEquation::Over if writes_colours(merge, false) => DrawMode::Over,
+            KnownEquation::Replace if writes_colours(merge, true) => DrawMode::ReplaceWithAlpha,
+            KnownEquation::Over if writes_colours(merge, true) => DrawMode::OverWithAlpha,
             _ => DrawMode::Otherwise(known),
         }
     }

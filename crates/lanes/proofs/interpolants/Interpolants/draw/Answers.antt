@@ -11,11 +11,8 @@ drawn : (t placed : Placed) (mask : BlockMask) (old new : List BlockSamples) →
     → (CoversBlock placed mask → IsBlockDrawn placed mask old new) → CoversBlock t mask → IsBlockDrawn t mask old new
 drawn t placed mask old new same = subst (λ (p : Placed). CoversBlock p mask → IsBlockDrawn p mask old new) same
 
-pub returns-in-Depths-clause-drawn : goal.returns-in-Depths-clause-drawn
-returns-in-Depths-clause-drawn c = drawn _ _ c.args.mask.now _ _ c.self.view_is c.draw_by_sources.ensures.drawn c.requires.covered
-
 pub returns-in-Replace-clause-drawn : goal.returns-in-Replace-clause-drawn
-returns-in-Replace-clause-drawn c = drawn _ _ c.args.mask.now _ _ c.self.view_is c.draw_by_sources-in-Replace.ensures.drawn c.requires.covered
+returns-in-Replace-clause-drawn c = drawn _ _ c.args.mask.now _ _ c.self.view_is c.draw_by_sources.ensures.drawn c.requires.covered
 
 pub returns-in-Over-clause-drawn : goal.returns-in-Over-clause-drawn
 returns-in-Over-clause-drawn c = drawn _ _ c.args.mask.now _ _ c.self.view_is c.draw_by_sources-in-Over.ensures.drawn c.requires.covered

@@ -1,5 +1,5 @@
 use Rattle.lanes.specs.declared.mode.DrawMode.{DrawMode}
-use Rattle.lanes.specs.declared.mode.DrawMode.TheVariants.{Each, Depths, Replace, Over, ReplaceWithAlpha, OverWithAlpha, Otherwise}
+use Rattle.lanes.specs.declared.mode.DrawMode.TheVariants.{Each, Replace, Over, ReplaceWithAlpha, OverWithAlpha, Otherwise}
 use Rattle.lanes.specs.declared.mode.Attributes.{Attributes}
 use Rattle.lanes.specs.Mode.{IsDepthBy, IsColourBy, IsMergeMode, IsDrawModeOf}
 use Rattle.lanes.proofs.interpolants.Interpolants.set.Goals as goal
@@ -7,7 +7,6 @@ use Rattle.lanes.proofs.interpolants.Interpolants.set.Goals as goal
 -- a mode for the merge is one for a triangle with its depth and its colour
 mode_of : (t : Attributes) (mode : DrawMode) → IsMergeMode t.placed.state.merge mode → IsDepthBy t.placed t.depth → IsColourBy t.placed t.colour → IsDrawModeOf t mode
 mode_of t Each is depth colour = is
-mode_of t Depths is depth colour = (record { known_of = is.0; depth_of = depth; colour_of = colour }, is.1)
 mode_of t Replace is depth colour = (record { known_of = is.0; depth_of = depth; colour_of = colour }, is.1)
 mode_of t Over is depth colour = (record { known_of = is.0; depth_of = depth; colour_of = colour }, is.1)
 mode_of t ReplaceWithAlpha is depth colour = (record { known_of = is.0; depth_of = depth; colour_of = colour }, is.1)
