@@ -1,21 +1,15 @@
 -- The samples of a block of 8 by 8 pixels, of a part of the sample indices.
-use Rattle.std.specs.Prelude.{ℕ, ◌+◌, ◌*◌, ◌<◌, IsBitSet, IsTrue, List, [], slice_index, slice_index_or}
+use Rattle.std.specs.Prelude.{ℕ, ◌+◌, ◌*◌, ◌<◌, List, [], slice_index, slice_index_or}
 use Rattle.grid.specs.Position.{Position}
 use Rattle.grid.specs.Samples.{part_size, sample_position}
 use Rattle.lanes.specs.declared.block_samples.BlockSamples.{BlockSamples}
 use Rattle.lanes.specs.declared.block_mask.BlockMask.{BlockMask}
-use Rattle.lanes.specs.declared.block_mask.PlaneMask.{PlaneMask}
 use Rattle.shade.specs.declared.placed.Placed.{Placed}
-use Rattle.lanes.specs.Block.{IsOnScreen, CoversMask, AreDrawn}
+use Rattle.lanes.specs.Block.{CoversMask, AreDrawn}
 
 -- Where sample s of the part, of the first pixel of the block, lies.
 abbrev pub first_of : BlockMask → ℕ → Position
 first_of m s = sample_position (8 * m.bx) (8 * m.by) (m.from + s) m.count
-
--- A block whose samples are in the mask lies on the screen, and all of them are in a mask that is whole.
-pub record IsPlaneMask (m : PlaneMask) : Type 0 where
-  pub on_screen : IsOnScreen m.first
-  pub full : IsTrue m.whole → (k : ℕ) → k < 64 → IsBitSet m.bits k
 
 -- The samples s of a part of a block, as they are stored.
 abbrev pub plane_of : List BlockSamples → ℕ → BlockSamples

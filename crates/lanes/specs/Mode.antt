@@ -4,7 +4,8 @@ use Rattle.shade.specs.declared.placed.Placed.{Placed}
 use Rattle.shade.specs.declared.sample.Merge.{Merge}
 use Rattle.shade.specs.declared.known.KnownEquation.{KnownEquation}
 use Rattle.shade.specs.declared.known.KnownEquation.TheVariants.{Replace, Over}
-use Rattle.lanes.specs.declared.sources.Sources.{Sources}
+use Rattle.lanes.specs.declared.sources.DepthSource.{DepthSource}
+use Rattle.lanes.specs.declared.sources.ColourSource.{ColourSource}
 use Rattle.lanes.specs.declared.mode.DepthMode.{DepthMode}
 use Rattle.lanes.specs.declared.mode.DepthMode.TheVariants.{Unused, Flat, Plane}
 use Rattle.lanes.specs.declared.mode.ColourMode.{ColourMode}
@@ -13,7 +14,6 @@ use Rattle.lanes.specs.declared.mode.DrawMode.{DrawMode}
 use Rattle.lanes.specs.declared.mode.DrawMode.TheVariants as draw
 use Rattle.lanes.specs.declared.mode.Depth.{Depth}
 use Rattle.lanes.specs.declared.mode.Colour.{Colour}
-use Rattle.lanes.specs.declared.mode.Attributes.{Attributes}
 use Rattle.shade.specs.Presets.{IsKnown}
 use Rattle.planes.specs.AttributePlane.{IsDepthPlane, AreColourPlanes}
 use Rattle.lanes.specs.Sources.{NeedsNoDepth, IsFlat, IsFlatColour, IsDepthOf, IsColourOf}
@@ -62,26 +62,26 @@ IsMergeMode m draw.ReplaceWithAlpha = IsKnown Replace m.blend.colour × WritesCo
 IsMergeMode m draw.OverWithAlpha = IsKnown Over m.blend.colour × WritesColours true m
 IsMergeMode m (draw.Otherwise known) = IsKnown known m.blend.colour
 
--- The triangle can be drawn sixteen samples at once by its depth and its colour, and its draw blends by the known equation.
-pub record IsDrawnBy (t : Attributes) (known : KnownEquation) : Type 0 where
-  pub known_of : IsKnown known t.placed.state.merge.blend.colour
-  pub depth_of : IsDepthBy t.placed t.depth
-  pub colour_of : IsColourBy t.placed t.colour
+-- The triangle can be drawn sixteen samples at once by this depth and this colour, and its draw blends by the known equation.
+pub record IsDrawnBy (t : Placed) (known : KnownEquation) (depth : Depth) (colour : Colour) : Type 0 where
+  pub known_of : IsKnown known t.state.merge.blend.colour
+  pub depth_of : IsDepthBy t depth
+  pub colour_of : IsColourBy t colour
 
--- The triangle can be drawn in this mode, by its depth and its colour if sixteen samples are drawn at once.
-abbrev pub IsDrawModeOf : Attributes → DrawMode → Type 0
-IsDrawModeOf t draw.Each = Unit {0}
-IsDrawModeOf t draw.Replace = IsDrawnBy t Replace × WritesColours false t.placed.state.merge
-IsDrawModeOf t draw.Over = IsDrawnBy t Over × WritesColours false t.placed.state.merge
-IsDrawModeOf t draw.ReplaceWithAlpha = IsDrawnBy t Replace × WritesColours true t.placed.state.merge
-IsDrawModeOf t draw.OverWithAlpha = IsDrawnBy t Over × WritesColours true t.placed.state.merge
-IsDrawModeOf t (draw.Otherwise known) = IsDrawnBy t known
+-- The triangle can be drawn in this mode, by this depth and this colour if sixteen samples are drawn at once.
+abbrev pub IsDrawModeOf : Placed → DrawMode → Depth → Colour → Type 0
+IsDrawModeOf t draw.Each depth colour = Unit {0}
+IsDrawModeOf t draw.Replace depth colour = IsDrawnBy t Replace depth colour × WritesColours false t.state.merge
+IsDrawModeOf t draw.Over depth colour = IsDrawnBy t Over depth colour × WritesColours false t.state.merge
+IsDrawModeOf t draw.ReplaceWithAlpha depth colour = IsDrawnBy t Replace depth colour × WritesColours true t.state.merge
+IsDrawModeOf t draw.OverWithAlpha depth colour = IsDrawnBy t Over depth colour × WritesColours true t.state.merge
+IsDrawModeOf t (draw.Otherwise known) depth colour = IsDrawnBy t known depth colour
 
--- The triangle is drawn by these sources: the merge of its draw, its depth and its colour.
-pub record AreSourcesOf (t : Placed) (s : Sources) : Type 0 where
-  pub merge_of : t.state.merge ≡ s.merge
-  pub depth_of : IsDepthOf t s.depth
-  pub colour_of : IsColourOf t s.colour
+-- What a triangle is drawn by: the merge of its draw, its depth and its colour.
+pub record AreSourcesOf (t : Placed) (merge : Merge) (depth : DepthSource) (colour : ColourSource) : Type 0 where
+  pub merge_of : t.state.merge ≡ merge
+  pub depth_of : IsDepthOf t depth
+  pub colour_of : IsColourOf t colour
 
 -- The colour equation of a draw list's `over`, or of its `none`.
 abbrev pub known_of : Bool → KnownEquation

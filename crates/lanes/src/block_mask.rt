@@ -1,4 +1,4 @@
-ghost use Rattle.std.specs.Prelude.{◌≡◌, ℕ, ◌+◌, ◌*◌, ◌<◌, IsBitSet, IsTrue, slice_index};
+ghost use Rattle.std.specs.Prelude.{◌≡◌, ◌+◌, ◌*◌, ◌<◌};
 ghost use Rattle.grid.specs.Samples.{part_size, IsPart, sample_position};
 ghost use Rattle.lanes.specs.Block.{IsOnScreen};
 
@@ -23,28 +23,7 @@ pub struct BlockMask {
     pub ghost part: { IsPart count from },
 }
 
-/// Some samples of one sample index of a block.
-#[derive(Clone, Copy, Debug)]
-pub(crate) struct PlaneMask {
-    /// Where the sample of the block's first pixel lies.
-    pub(crate) first: Point,
-    /// Bit 8 * row + column is set for the pixel in that row and column of the block.
-    pub(crate) bits: u64,
-    /// If it is set, all bits are.
-    pub(crate) whole: bool,
-}
-
-/// Whether all pixels of a block are in the mask.
-#[inline(always)]
-fn is_whole(mask: u64) -> bool
-    ensures { IsTrue result → (k : ℕ) → k < 64 → IsBitSet mask k }
-{
-    mask == u64::MAX
-}
-
 impl BlockMask {
-    ghost use Rattle.lanes.specs.BlockMask.{IsPlaneMask, first_of};
-
     /// Where sample `from + s` of the block's first pixel lies.
     #[inline(always)]
     pub fn first(&self, s: u32) -> Point
@@ -53,21 +32,5 @@ impl BlockMask {
         ensures on_screen { IsOnScreen result }
     {
         sample_at(8 * self.bx, 8 * self.by, self.from + s, self.count)
-    }
-
-    /// The samples `from + s` that are in the mask.
-    #[inline(always)]
-    pub(crate) fn samples(&self, s: u32) -> PlaneMask
-        requires { s < part_size self.now.count }
-        ensures first { result.first ≡ first_of self.now s }
-        ensures bits { result.bits ≡ slice_index self.now.plane s }
-        ensures is { IsPlaneMask result }
-    {
-        let bits = self.plane[s as usize];
-        PlaneMask {
-            first: self.first(s),
-            bits,
-            whole: is_whole(bits),
-        }
     }
 }

@@ -12,8 +12,7 @@ ghost use Rattle.shade.specs.Canvas.{alpha_operands, IsAlphaMerged, IsCanvasDraw
 ghost use Rattle.planes.specs.Group.{position_in, IsGroupOnScreen};
 ghost use Rattle.lanes.specs.Block.{stored_at};
 ghost use Rattle.lanes.specs.Operands.{AreByteLanes, AreByteOperands, lane_of};
-ghost use Rattle.lanes.specs.Sources.{IsDepthOf};
-ghost use Rattle.lanes.specs.Mode.{AreSourcesOf};
+ghost use Rattle.lanes.specs.Sources.{IsDepthOf, IsColourOf};
 
 use crate::blend::{blended_alpha, coloured_lanes};
 use crate::block_samples::BlockSamples;
@@ -21,7 +20,7 @@ use crate::lane_bytes::{narrow, widen};
 use crate::lane_mask::{both, choose, choose_bytes, is_clear};
 use crate::merging::passes_lanes;
 use crate::operands::LaneOperands;
-use crate::sources::{DepthSource, Sources};
+use crate::sources::{ColourSource, DepthSource};
 use planes::Corrections;
 use shade::{Merge, Placed};
 use std::simd::prelude::*;
@@ -256,7 +255,9 @@ fn test_depths_of(
 /// y).
 #[inline(always)]
 pub(crate) fn draw_group(
-    sources: &Sources<'_>,
+    merge: &Merge,
+    depth: &DepthSource<'_>,
+    colour: &ColourSource<'_>,
     mask: u16x16,
     x: i32,
     y: i32,
@@ -266,7 +267,7 @@ pub(crate) fn draw_group(
 )
     requires room { at + 16 ≤ 64 }
     requires on_screen { IsGroupOnScreen (record { x = x; y = y }) }
-    ensures set { (t : Triangle) (i : ℕ) → AreSourcesOf t sources.now → i < 16 → slice_index mask i ≡ 65535
+    ensures set { (t : Triangle) (i : ℕ) → t.state.merge ≡ merge.now → IsDepthOf t depth.now → IsColourOf t colour.now → i < 16 → slice_index mask i ≡ 65535
         → Covers t.tri.a t.tri.b t.tri.c (position_in (record { x = x; y = y }) i)
         → IsCanvasDrawnAt t (position_in (record { x = x; y = y }) i) (stored_at samples.old (at + i))
         (stored_at samples.new (at + i)) }
@@ -274,21 +275,11 @@ pub(crate) fn draw_group(
         stored_at samples.new (at + i) ≡ stored_at samples.old (at + i) }
     ensures elsewhere { (k : ℕ) → (k < at) ⊎ (at + 16 ≤ k) → stored_at samples.new k ≡ stored_at samples.old k }
 {
-    let merge = &sources.merge;
-    let drawn = test_depths_of(
-        &sources.depth,
-        merge,
-        mask,
-        x,
-        y,
-        &mut samples.z,
-        at,
-        corrections,
-    );
+    let drawn = test_depths_of(depth, merge, mask, x, y, &mut samples.z, at, corrections);
     if is_clear(drawn) {
         return;
     }
-    let c = sources.colour.values(merge, x, y, corrections);
+    let c = colour.values(merge, x, y, corrections);
     let e = stored_lanes(&samples.alpha, at);
     draw_channel(merge, 0, drawn, c.r, c.a, e, &mut samples.r, at);
     draw_channel(merge, 1, drawn, c.g, c.a, e, &mut samples.g, at);

@@ -2,7 +2,7 @@ ghost use Rattle.std.specs.Prelude.{◌≡◌, pos};
 ghost use Rattle.std.specs.Int.RustNames.{unsigned_abs};
 ghost use Rattle.grid.specs.Triangle.{doubled_area};
 
-use crate::mode::{Attributes, Colour, ColourMode, Depth, DepthMode, DrawMode};
+use crate::mode::{Colour, ColourMode, Depth, DepthMode, DrawMode};
 use planes::{ColourPlanes, ColourSlopes, DepthPlane, Reciprocal, Slope};
 use shade::Placed;
 use std::marker::Model;
@@ -11,8 +11,10 @@ use std::marker::Model;
 /// mode of drawing suits it, which are found once for all its samples (attribute setup). Contracts see the triangle.
 #[derive(Debug, Drop)]
 pub struct Interpolants {
+    pub(crate) placed: Placed,
     pub(crate) mode: DrawMode,
-    pub(crate) attributes: Attributes,
+    pub(crate) depth: Depth,
+    pub(crate) colour: Colour,
 }
 
 impl Model for Interpolants {
@@ -21,9 +23,9 @@ impl Model for Interpolants {
 
     ghost Value = { Triangle };
 
-    ghost view = { λ i. i.attributes.placed };
+    ghost view = { λ i. i.placed };
 
-    ghost invariant = { λ i. IsDrawModeOf i.attributes i.mode };
+    ghost invariant = { λ i. IsDrawModeOf i.placed i.mode i.depth i.colour };
 }
 
 /// The doubled area of a triangle that has one, with its reciprocal.
@@ -41,17 +43,15 @@ impl Interpolants {
         ensures { result ≡ placed.now }
     {
         Interpolants {
+            placed: *placed,
             mode: DrawMode::Each,
-            attributes: Attributes {
-                placed: *placed,
-                depth: Depth {
-                    mode: DepthMode::Unused,
-                    plane: DepthPlane::none(),
-                },
-                colour: Colour {
-                    mode: ColourMode::Flat(placed.rgba[0]),
-                    planes: ColourPlanes::none(),
-                },
+            depth: Depth {
+                mode: DepthMode::Unused,
+                plane: DepthPlane::none(),
+            },
+            colour: Colour {
+                mode: ColourMode::Flat(placed.rgba[0]),
+                planes: ColourPlanes::none(),
             },
         }
     }
@@ -83,7 +83,7 @@ impl Interpolants {
         requires { ¬ (doubled_area self.old.tri.a self.old.tri.b self.old.tri.c ≡ pos 0) }
         ensures { self.new ≡ self.old }
     {
-        let placed = self.attributes.placed;
+        let placed = self.placed;
         self.set(&placed, true);
     }
 
@@ -99,17 +99,15 @@ impl Interpolants {
         let merge = &placed.state.merge;
         if !by_plane && !by_planes {
             *self = Interpolants {
+                placed: *placed,
                 mode: DrawMode::of(merge),
-                attributes: Attributes {
-                    placed: *placed,
-                    depth: Depth {
-                        mode: depth,
-                        plane: DepthPlane::none(),
-                    },
-                    colour: Colour {
-                        mode: colour,
-                        planes: ColourPlanes::none(),
-                    },
+                depth: Depth {
+                    mode: depth,
+                    plane: DepthPlane::none(),
+                },
+                colour: Colour {
+                    mode: colour,
+                    planes: ColourPlanes::none(),
                 },
             };
             return;
@@ -122,17 +120,15 @@ impl Interpolants {
             return;
         }
         *self = Interpolants {
+            placed: *placed,
             mode: DrawMode::of(merge),
-            attributes: Attributes {
-                placed: *placed,
-                depth: Depth {
-                    mode: depth,
-                    plane: DepthPlane::of_used(by_plane, &depth_slope, reciprocal, search),
-                },
-                colour: Colour {
-                    mode: colour,
-                    planes: ColourPlanes::of_used(by_planes, &slopes, reciprocal, search),
-                },
+            depth: Depth {
+                mode: depth,
+                plane: DepthPlane::of_used(by_plane, &depth_slope, reciprocal, search),
+            },
+            colour: Colour {
+                mode: colour,
+                planes: ColourPlanes::of_used(by_planes, &slopes, reciprocal, search),
             },
         };
     }
@@ -141,6 +137,6 @@ impl Interpolants {
     pub fn placed(&self) -> &Placed
         ensures { result.now ≡ self.now }
     {
-        &self.attributes.placed
+        &self.placed
     }
 }

@@ -61,14 +61,6 @@ pub(crate) struct Colour {
     pub(crate) planes: ColourPlanes,
 }
 
-/// A triangle, and how its depth and its colour are computed.
-#[derive(Debug, Drop)]
-pub(crate) struct Attributes {
-    pub(crate) placed: Placed,
-    pub(crate) depth: Depth,
-    pub(crate) colour: Colour,
-}
-
 /// Whether a merge writes red, green and blue, and alpha exactly if it is asked for.
 #[inline(always)]
 fn writes_colours(merge: &Merge, alpha: bool) -> bool

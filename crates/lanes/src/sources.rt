@@ -32,28 +32,6 @@ pub(crate) enum ColourSource<'a> {
     Planes(&'a Placed, &'a ColourPlanes),
 }
 
-/// What a triangle is drawn by: the merge of its draw, its depth and its colour.
-#[derive(Clone, Copy, Debug)]
-pub(crate) struct Sources<'a> {
-    pub(crate) merge: Merge,
-    pub(crate) depth: DepthSource<'a>,
-    pub(crate) colour: ColourSource<'a>,
-}
-
-impl<'a> Sources<'a> {
-    /// The sources of a triangle by this merge, depth and colour.
-    #[inline(always)]
-    pub(crate) fn new(merge: Merge, depth: DepthSource<'a>, colour: ColourSource<'a>) -> Sources<'a>
-        ensures { result ≡ record { merge = merge; depth = depth.entry; colour = colour.entry } }
-    {
-        Sources {
-            merge,
-            depth,
-            colour,
-        }
-    }
-}
-
 /// A colour in all lanes.
 #[inline(always)]
 fn flat_colours(rgba: [u8; 4]) -> Colours

@@ -5,22 +5,22 @@ use Rattle.lanes.proofs.block.draw_rows.Goals as goal
 
 pub draw_group-requires-clause-on_screen : goal.draw_group-requires-clause-on_screen
 draw_group-requires-clause-on_screen c =
-    let on = c.requires.plane.on_screen in
-    let x : to_z w32 (of_z w32 c.x-x.result) ≡ c.args.plane.now.first.x = omega (arith, ints, c.x-x.ensures.value, on.left, on.right) in
-    let y : to_z w32 (of_z w32 (to_z w32 (of_z w32 c.y.result) +ℤ to_z w32 (of_z w32 (pos 512 *ℤ to_z w32 c.args.group)))) ≡ c.args.plane.now.first.y +ℤ pos (512 * c.args.group) =
+    let on = c.requires.on_screen in
+    let x : to_z w32 (of_z w32 c.x-x.result) ≡ c.args.p.x = omega (arith, ints, c.x-x.ensures.value, on.left, on.right) in
+    let y : to_z w32 (of_z w32 (to_z w32 (of_z w32 c.y.result) +ℤ to_z w32 (of_z w32 (pos 512 *ℤ to_z w32 c.args.group)))) ≡ c.args.p.y +ℤ pos (512 * c.args.group) =
     omega (arith, ints, c.y.ensures.value, on.top, on.bottom, c.requires.group) in
-    rw (x, y) (group_on_screen c.args.plane.now.first c.args.group c.requires.group on)
+    rw (x, y) (group_on_screen c.args.p c.args.group c.requires.group on)
 
 pub returns-then-not-has_some : goal.returns-then-not-has_some
-returns-then-not-has_some c t sources covers = rows_kept t c.args.plane.now.first c.args.plane.now.bits c.args.group c.args.samples.now (c.has_some.ensures c.if-not-has_some.true)
+returns-then-not-has_some c t sources covers = rows_kept t c.args.p c.args.mask c.args.group c.args.samples.now (c.has_some.ensures c.if-not-has_some.true)
 
 pub returns : goal.returns
 returns c t sources covers =
-    rows_drawn t c.args.plane.now.first c.args.plane.now.bits c.args.group c.lanes_of-covered.result c.args.samples.now c.draw_group.new.samples c.requires.group covers c.lanes_of-covered.ensures
+    rows_drawn t c.args.p c.args.mask c.args.group c.lanes_of-covered.result c.args.samples.now c.draw_group.new.samples c.requires.group covers c.lanes_of-covered.ensures
     (record {
       set = λ i l set.
-          drawn_from t _ _ (group_at c.args.plane.now.first c.args.group) i _ _ (c.draw_group.ensures.set t i sources l set)
-          (omega (arith, ints, c.x-x.ensures.value)) (omega (arith, ints, c.y.ensures.value, c.requires.plane.on_screen));
+          drawn_from t _ _ (group_at c.args.p c.args.group) i _ _ (c.draw_group.ensures.set t i sources.merge_of sources.depth_of sources.colour_of l set)
+          (omega (arith, ints, c.x-x.ensures.value)) (omega (arith, ints, c.y.ensures.value, c.requires.on_screen));
       clear = c.draw_group.ensures.clear;
       elsewhere = c.draw_group.ensures.elsewhere;
     })

@@ -2,7 +2,7 @@ use Rattle.std.proofs.Common.{◌≡◌, subst, sym, arith, IsBitSet}
 use Rattle.std.proofs.lemmas.Bool.Decides.{nat_tests}
 use Rattle.std.proofs.lemmas.Nat.Bits.{bit_at_ones}
 use Rattle.lanes.proofs.LaneNumbers.{is_set}
-use Rattle.lanes.proofs.block_mask.is_whole.Goals as goal
+use Rattle.lanes.proofs.block.is_whole.Goals as goal
 
 pub returns : goal.returns
 returns c whole k l =
