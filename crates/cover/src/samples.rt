@@ -13,22 +13,15 @@ pub(crate) fn reach(side: TileSide, count: SampleCount) -> u32
     256 * (side.pixels() - 1) + count.box_width()
 }
 
-/// How far sample `s` of a pixel lies to the right of the first position of the box round a block's samples.
+/// How far sample `s` of a pixel lies to the right of the first position of the box round a block's samples, and how far
+/// below it.
 #[inline(always)]
-pub(crate) fn offset_x(s: u32, count: SampleCount) -> u32
+pub(crate) fn offset(s: u32, count: SampleCount) -> (u32, u32)
     requires { s < count_of count }
-    ensures value { result ≡ slice_index (offsets_x count) s - box_start count }
-    ensures small { result < 2 ^ 8 }
+    ensures right { result.0 ≡ slice_index (offsets_x count) s - box_start count }
+    ensures below { result.1 ≡ slice_index (offsets_y count) s - box_start count }
+    ensures small { (result.0 < 2 ^ 8) × (result.1 < 2 ^ 8) }
 {
-    sample_at(0, 0, s, count).x() as u32 - count.box_start()
-}
-
-/// How far it lies below that position.
-#[inline(always)]
-pub(crate) fn offset_y(s: u32, count: SampleCount) -> u32
-    requires { s < count_of count }
-    ensures value { result ≡ slice_index (offsets_y count) s - box_start count }
-    ensures small { result < 2 ^ 8 }
-{
-    sample_at(0, 0, s, count).y() as u32 - count.box_start()
+    let (sample, start) = (sample_at(0, 0, s, count), count.box_start());
+    (sample.x() as u32 - start, sample.y() as u32 - start)
 }

@@ -11,7 +11,6 @@ use Rattle.grid.specs.declared.cull.Cull.{Cull}
 use Rattle.grid.specs.declared.cull.Cull.TheVariants as cull
 use Rattle.grid.specs.declared.pixels.PixelBox.{PixelBox}
 use Rattle.grid.specs.declared.sample_count.SampleCount.{SampleCount}
-use Rattle.grid.specs.declared.sample_count.SampleCount.TheVariants as samples
 use Rattle.shade.specs.declared.depth.DepthTest.{DepthTest}
 use Rattle.shade.specs.declared.depth.DepthTest.TheVariants as test
 use Rattle.shade.specs.declared.blend.Blend.{Blend}
@@ -68,11 +67,8 @@ sample_mask_passes : (v : Data) (n : ℕ) → IsSampleMaskNumber (Some v) n → 
 sample_mask_passes v n is = number_passes _ _ _ (Some v) (pos n) is
 
 sample_count_passes : (v : Data) (n : SampleCount) → IsSampleCount (Some v) n → first_fault (sample_count_checks (Some v)) ≡ None
-sample_count_passes v samples.One is = rw is.0 refl
-sample_count_passes v samples.Two is = absurd is.1
-sample_count_passes v samples.Four is = rw is.0 refl
-sample_count_passes v samples.Eight is = absurd is.1
-sample_count_passes v samples.Sixteen is = absurd is.1
+sample_count_passes v n (found, inl one) = rw (found, one) refl
+sample_count_passes v n (found, inr four) = rw (found, four) refl
 
 truth_passes : (v : Data) (b : Bool) → IsTruth (Some v) b → first_fault (truth_checks (Some v)) ≡ None
 truth_passes v b is = rw is refl

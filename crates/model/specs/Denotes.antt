@@ -1,5 +1,5 @@
 -- Which draw list a JSON value denotes: this project's format.
-use Rattle.std.specs.Prelude.{◌≡◌, ℕ, ◌<◌, ◌≤◌, ℤ, pos, ◌≤ℤ◌, List, [], ◌∷◌, length, slice_index, slice_index_or, Bool, true, false, codes, sum_by, IsSome, Option, Some, None}
+use Rattle.std.specs.Prelude.{◌≡◌, ◌⊎◌, ℕ, ◌<◌, ◌≤◌, ℤ, pos, ◌≤ℤ◌, List, [], ◌∷◌, length, slice_index, slice_index_or, Bool, true, false, codes, sum_by, IsSome, Option, Some, None}
 use Rattle.serde_json.specs.Data.{Data, Items, no_items, item}
 use Rattle.serde_json.specs.Find.{get, at, as_object}
 use Rattle.grid.specs.Position.{IsInBand}
@@ -184,17 +184,9 @@ pub record IsDraw (picture : PixelBox) (value : Data) (draw : DrawListing) : Typ
 abbrev pub IsOutput : Option Data → Output → Type 0
 IsOutput value output = text value ≡ Some (output_word output)
 
--- A draw list may have this number of samples of a pixel: 1 or 4.
-abbrev pub IsOneOrFour : SampleCount → Type 0
-IsOneOrFour samples.One = Unit {0}
-IsOneOrFour samples.Two = ⊥
-IsOneOrFour samples.Four = Unit {0}
-IsOneOrFour samples.Eight = ⊥
-IsOneOrFour samples.Sixteen = ⊥
-
 -- The value is this number of samples of a pixel: 1 or 4.
 abbrev pub IsSampleCount : Option Data → SampleCount → Type 0
-IsSampleCount value n = (whole value ≡ Some (pos (count_of n))) × IsOneOrFour n
+IsSampleCount value n = (whole value ≡ Some (pos (count_of n))) × ((n ≡ samples.One) ⊎ (n ≡ samples.Four))
 
 -- The value is this clear colour: [red, green, blue], each from 0 to 255.
 pub record IsClearColour (value : Option Data) (colour : List ℕ) : Type 0 where

@@ -206,7 +206,6 @@
 --   IsState: The state of the draw that the value is, on a picture of these pixels.
 --   IsDraw: The value is this draw, on a picture of these pixels.
 --   IsOutput: The value is the word for what the picture shows.
---   IsOneOrFour: A draw list may have this number of samples of a pixel: 1 or 4.
 --   IsSampleCount: The value is this number of samples of a pixel: 1 or 4.
 --   IsClearColour: The value is this clear colour: [red, green, blue], each from 0 to 255.
 --   picture_box: All pixels of a picture of this size.

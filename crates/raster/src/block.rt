@@ -2,10 +2,9 @@
 ghost use Rattle.std.specs.Prelude.{◌≡◌, ◌↔◌, ℕ, ◌+◌, ◌-◌, ◌*◌, ◌/◌, ◌%◌, ◌^◌, ◌<◌, length, slice_index, IsBitSet, IsTrue};
 ghost use Rattle.grid.specs.Pixels.{IsInBox};
 ghost use Rattle.grid.specs.Samples.{IsPart};
-ghost use Rattle.cover.specs.Rasterized.{IsRasterized};
 ghost use Rattle.raster.specs.Samples.{planes_of};
 ghost use Rattle.raster.specs.Region.{HoldsTile};
-ghost use Rattle.raster.specs.Drawing.{DrawsPart, IsInSquarePart, LiesIn, ArePlanesOf, AreAllowed, CoversMasks, DrawsMasks};
+ghost use Rattle.raster.specs.Drawing.{LiesIn, AreAllowed, CoversMasks, DrawsMasks};
 
 use crate::scissor::in_scissor_of_tile;
 use crate::tile::Tile;
@@ -90,45 +89,6 @@ pub fn draw_masks(
     triangle.draw(
         &mask,
         &mut samples[first..first + count.part_size() as usize],
-        corrections,
-    );
-}
-
-/// Draws the triangle at the samples of block (bx, by), of the part that begins with sample `from`. The bits of
-/// `covered` say which of them it covers; `whole` says that all pixels of the tile are in the scissor. A pixel has
-/// `count` samples. Each `N` has code of its own.
-#[inline(always)]
-pub(crate) fn draw_block<const N: u32>(
-    triangle: &Interpolants,
-    tile: &Tile,
-    count: SampleCount,
-    bx: u32,
-    by: u32,
-    from: u32,
-    covered: &[u64; 4],
-    whole: bool,
-    samples: &mut [BlockSamples],
-    corrections: &mut Corrections,
-)
-    requires samples { length samples.old ≡ planes_of tile.now.side tile.now.count }
-    requires count { count ≡ tile.now.count }
-    requires block { LiesIn tile.now bx by 8 }
-    requires drawn { IsRasterized triangle.now.tri triangle.now.state.cull }
-    requires part { IsPart count from }
-    requires covered { ArePlanesOf triangle.now.tri bx by count from covered.now }
-    requires whole { IsTrue whole → HoldsTile triangle.now.state.scissor tile.now }
-    ensures { DrawsPart triangle.now tile.now (IsInSquarePart tile.now bx by 8 from) samples.old samples.new }
-{
-    draw_masks(
-        triangle,
-        tile,
-        count,
-        bx,
-        by,
-        from,
-        covered,
-        whole,
-        samples,
         corrections,
     );
 }

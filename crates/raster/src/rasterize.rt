@@ -8,7 +8,7 @@ ghost use Rattle.raster.specs.Samples.{planes_of};
 ghost use Rattle.raster.specs.Region.{HoldsTile};
 ghost use Rattle.raster.specs.Drawing.{DrawsTile, DrawsPart, IsInSquare, IsInSquarePart, ArePlanesOf, CoversNoneOf, LiesIn, square_of};
 
-use crate::block::draw_block;
+use crate::block::draw_masks;
 use crate::region::Region;
 use crate::scissor::holds_tile;
 use crate::tile::Tile;
@@ -121,7 +121,7 @@ fn draw_part<const N: u32>(
 {
     if let Some(covered) = planes::<N>(block, class, from) {
         make_once(triangle, interpolants, is_made);
-        draw_block::<N>(
+        draw_masks(
             interpolants,
             tile,
             count,
