@@ -97,45 +97,41 @@ fn over_lanes(o: &LaneOperands) -> u16x16
     nearest_small_sum(source, stored)
 }
 
-/// A channel by any equation. Those of blend states with names have code of their own.
-#[inline(always)]
-fn blended_by_name(equation: &Equation, channel: Channel, o: &LaneOperands) -> u16x16
-    requires { AreByteOperands o.now }
-    ensures { AreBlended equation.now channel o.now result }
-{
-    match (equation.source, equation.stored, equation.operation) {
-        (BlendFactor::One, BlendFactor::InverseSourceAlpha, BlendOperation::Add) => {
-            blended_lanes(&Equation::PREMULTIPLIED_OVER, channel, o)
-        }
-        (BlendFactor::One, BlendFactor::Zero, BlendOperation::Add) => {
-            blended_lanes(&Equation::REPLACE, channel, o)
-        }
-        (BlendFactor::SourceAlpha, BlendFactor::One, BlendOperation::Add) => {
-            blended_lanes(&Equation::ADD_BY_ALPHA, channel, o)
-        }
-        (BlendFactor::StoredColour, BlendFactor::Zero, BlendOperation::Add) => {
-            blended_lanes(&Equation::MULTIPLY, channel, o)
-        }
-        _ => blended_lanes(equation, channel, o),
-    }
-}
-
-/// Colours by any equation, not in line.
+/// Colours by any equation, not in line. Those of blend states with names have code of their own.
 #[inline(never)]
 fn blended_otherwise(equation: &Equation, o: &LaneOperands) -> u16x16
     requires { AreByteOperands o.now }
     ensures { AreBlended equation.now Colour o.now result }
 {
-    blended_by_name(equation, Channel::Colour, o)
+    match (equation.source, equation.stored, equation.operation) {
+        (BlendFactor::One, BlendFactor::InverseSourceAlpha, BlendOperation::Add) => {
+            blended_lanes(&Equation::PREMULTIPLIED_OVER, Channel::Colour, o)
+        }
+        (BlendFactor::SourceAlpha, BlendFactor::One, BlendOperation::Add) => {
+            blended_lanes(&Equation::ADD_BY_ALPHA, Channel::Colour, o)
+        }
+        (BlendFactor::StoredColour, BlendFactor::Zero, BlendOperation::Add) => {
+            blended_lanes(&Equation::MULTIPLY, Channel::Colour, o)
+        }
+        _ => blended_lanes(equation, Channel::Colour, o),
+    }
 }
 
-/// Alpha by any equation.
+/// Alpha by any equation. Those of the presets that draw over what is stored, or replace it, have code of their own.
 #[inline(always)]
 pub(crate) fn blended_alpha(equation: &Equation, o: &LaneOperands) -> u16x16
     requires { AreByteOperands o.now }
     ensures { AreBlended equation.now Alpha o.now result }
 {
-    blended_by_name(equation, Channel::Alpha, o)
+    match (equation.source, equation.stored, equation.operation) {
+        (BlendFactor::One, BlendFactor::InverseSourceAlpha, BlendOperation::Add) => {
+            blended_lanes(&Equation::PREMULTIPLIED_OVER, Channel::Alpha, o)
+        }
+        (BlendFactor::One, BlendFactor::Zero, BlendOperation::Add) => {
+            blended_lanes(&Equation::REPLACE, Channel::Alpha, o)
+        }
+        _ => blended_lanes(equation, Channel::Alpha, o),
+    }
 }
 
 /// Colours by any equation. Those of draw lists are in line.
