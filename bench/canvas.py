@@ -1,4 +1,4 @@
-"""Times canvases on the scenes of bench/scenes.py, and prints five tables.
+"""Times canvases on the scenes of bench/scenes.py, and prints six tables.
 
     python3 -m bench.canvas [--runs 5] [--scenes tiny mesh ..] [--tables parts batches samples ..] [--threads 1 4] [--small-pages]
 
@@ -8,6 +8,8 @@ parts: the least time of clearing, of drawing and of resolving each scene on a c
 batches: the processor time of a batch of two triangles of 8 pixels, of 10,000.
 samples: the instructions of a sample with 2, 8 and 16 samples a pixel by those of one with four, and its time so; clear and draw.
 Instructions need valgrind.
+blends: the instructions and the time of blend equations on canvases without and with alpha by those of over, four samples a pixel,
+one thread, and those with alpha by those without.
 frames: the processor time of a frame by examples/cpp/frames.cpp, one batch, beside one by crates/frames. Needs `make frames` and g++.
 scattered: the same of scenes of scattered triangles, cut into batches of fewer triangles, on one thread.
 
@@ -35,7 +37,7 @@ SCENES = tuple(name for name in run.SCENES if name not in run.REFUSED)
 SIDES = (1024, 4096)
 PROGRAM = os.path.join(BENCH_OUT, "canvas")
 FRAMES_EXAMPLE = os.path.join(BENCH_OUT, "canvas_frames")
-TABLES = ("parts", "batches", "samples", "frames", "scattered")
+TABLES = ("parts", "batches", "samples", "blends", "frames", "scattered")
 # The time of a frame is that of further frames by their number, so that reading the list does not count. The least number of these,
 # and the seconds that they take at least.
 FRAMES = 6
@@ -46,6 +48,9 @@ SCATTERED = ("small", "slivers")
 # Scenes that are drawn with each number of samples a pixel, and these numbers beside four.
 SAMPLED = ("smooth", "mesh", "flat", "small", "dust")
 COUNTS = (1, 2, 8, 16)
+# Scenes that are drawn by each blend, and the blends, of which bench/canvas.c has the equations.
+BLENDED = ("small", "dust", "mesh", "smooth", "blended")
+BLENDS = ("over", "none", "premultiplied", "add", "constant", "subtract")
 BATCH_SIZES = (1, 16, 64, 256, 1024, 4096)
 
 
@@ -93,33 +98,58 @@ def print_batches(rounds: int) -> None:
         print(report.row([f"{side} by {side}", *cells]), flush=True)
 
 
-def instructions(path: str, count: int) -> int:
-    """What one more draw takes, by callgrind."""
+# What is drawn, by the words that bench/canvas.c takes behind the rounds.
+Drawn = tuple[str, ...]
 
-    def of_draws(draws: int) -> int:
-        command = ["valgrind", "--tool=callgrind", "--callgrind-out-file=/dev/null", PROGRAM, "samples", path, str(draws), str(count)]
-        done = subprocess.run(command, check=True, capture_output=True, text=True)
-        return int(done.stderr.rsplit("Collected :", 1)[1].split()[0])
 
-    return of_draws(2) - of_draws(1)
+def instructions(table: str, path: str, drawn: Drawn) -> int:
+    """What clearing and drawing once takes, by callgrind."""
+    calls = [f"--toggle-collect=trirast_proved_canvas_{call}" for call in ("clear", "draw")]
+    command = ["valgrind", "--tool=callgrind", "--callgrind-out-file=/dev/null", *calls, PROGRAM, table, path, "1", *drawn]
+    done = subprocess.run(command, check=True, capture_output=True, text=True)
+    return int(done.stderr.rsplit("Collected :", 1)[1].split()[0])
+
+
+def has_instructions() -> bool:
+    return shutil.which("valgrind") is not None
+
+
+def costs(table: str, name: str, each: Sequence[Drawn], rounds: int) -> list[dict[Drawn, float]]:
+    """The instructions of each way to draw a scene, if they can be counted, and the least times in microseconds, in turns."""
+    path = arrays_path(name)
+    least = {drawn: float("inf") for drawn in each}
+    for _ in range(rounds):
+        for drawn in each:
+            least[drawn] = min(least[drawn], timed(table, path, "3", *drawn)[0])
+    return [*([{drawn: float(instructions(table, path, drawn)) for drawn in each}] if has_instructions() else []), least]
 
 
 def print_samples(rounds: int) -> None:
-    has_valgrind = shutil.which("valgrind") is not None
-    what = "instructions, and time" if has_valgrind else "time"
+    what = "instructions, and time" if has_instructions() else "time"
     print(f"\nA sample by a sample of four a pixel: {what}.\n")
     report.print_head(["scene", *(f"{count} samples" for count in COUNTS)])
     for name in SAMPLED:
-        path = arrays_path(name)
-        least = {count: float("inf") for count in (4, *COUNTS)}
-        for _ in range(rounds):
-            for count in least:
-                least[count] = min(least[count], timed("samples", path, "3", str(count))[0] / count)
-        each = [least]
-        if has_valgrind:
-            each.insert(0, {count: instructions(path, count) / count for count in least})
-        cells = [", ".join(f"{by[count] / by[4]:.2f}" for by in each) for count in COUNTS]
+        found = costs("samples", name, [(str(count),) for count in (4, *COUNTS)], rounds)
+        cells = [", ".join(f"{4 * by[str(count),] / (count * by['4',]):.2f}" for by in found) for count in COUNTS]
         print(report.row([name, *cells]), flush=True)
+
+
+def print_blends(rounds: int) -> None:
+    """Blends by over on as many channels, of which the column has the numbers, and with alpha by those without."""
+    what = "instructions (millions), and time (milliseconds)" if has_instructions() else "time (milliseconds)"
+    print(f"\nClear and draw: {what} of over; other blends by over, and RGBA by RGB.\n")
+    report.print_head(["scene", "channels", *BLENDS])
+    for name in BLENDED:
+        found = costs("blend", name, [(blend, channels) for channels in "34" for blend in BLENDS], rounds)
+
+        def ratio(one: Drawn, other: Drawn) -> str:
+            return ", ".join(f"{by[one] / by[other]:.2f}" for by in found)
+
+        for kind, channels in (("RGB", "3"), ("RGBA", "4")):
+            over = ", ".join(f"{by['over', channels] / unit:.0f}" for by, unit in zip(found, (1e6, 1e3)[-len(found) :]))
+            cells = [ratio((blend, channels), ("over", channels)) for blend in BLENDS if blend != "over"]
+            print(report.row([name, kind, over, *cells]), flush=True)
+        print(report.row([name, "RGBA by RGB", *(ratio((blend, "4"), (blend, "3")) for blend in BLENDS)]), flush=True)
 
 
 # ---- Frames beside crates/frames
@@ -195,7 +225,7 @@ def refuse_large_pages() -> None:
 
 def print_tables(options: argparse.Namespace) -> bool:
     """Prints the tables that are asked for. Returns whether their programs could be built."""
-    if {"parts", "batches", "samples"} & set(options.tables):
+    if {"parts", "batches", "samples", "blends"} & set(options.tables):
         if not built():
             return False
         print(f"Least of {options.runs} rounds, one thread, milliseconds of processor time.\n")
@@ -205,6 +235,8 @@ def print_tables(options: argparse.Namespace) -> bool:
             print_batches(options.runs)
         if "samples" in options.tables:
             print_samples(options.runs)
+        if "blends" in options.tables:
+            print_blends(options.runs)
     if "frames" in options.tables or "scattered" in options.tables:
         if not built_frames():
             return False
@@ -229,7 +261,7 @@ def main() -> int:
     if not os.path.isfile(STATIC_LIBRARY):
         print(f"there is no library at {STATIC_LIBRARY}; run make library first", file=sys.stderr)
         return 1
-    more = {"scattered": SCATTERED, "samples": SAMPLED}
+    more = {"scattered": SCATTERED, "samples": SAMPLED, "blends": BLENDED}
     scenes.write_all([*options.scenes, *(name for table in options.tables for name in more.get(table, ()))])
     print(report.machine())
     if not print_tables(options):

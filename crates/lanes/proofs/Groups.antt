@@ -49,10 +49,6 @@ pub record IsMasked (m : Merge) (k lane s a e old new : ℕ) : Type 0 where
   pub set : lane ≡ 65535 → IsChannelMerged m k s a e old new
   pub clear : lane ≡ 0 → new ≡ old
 
--- by the stored alpha that was read
-pub masked_by : (m : Merge) (k lane s a e read old new : ℕ) → read ≡ e → (lane ≡ 65535 → IsChannelMerged m k s a read old new) → (lane ≡ 0 → new ≡ old) → IsMasked m k lane s a e old new
-masked_by m k lane s a e read old new same set clear = record { set = λ full. subst (λ v. IsChannelMerged m k s a v old new) same (set full); clear = clear }
-
 pub record IsAlphaMasked (m : Merge) (lane a : ℕ) (old new : ℕ) : Type 0 where
   pub set : lane ≡ 65535 → IsAlphaMerged m a old new
   pub clear : lane ≡ 0 → new ≡ old

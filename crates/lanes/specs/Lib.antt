@@ -19,11 +19,17 @@
 -- Operands.antt
 --   AreByteLanes: v has sixteen lanes of at most 255.
 --   AreTerms: v has sixteen lanes, each at most the product of two bytes.
---   AreByteOperands: The operands of sixteen lanes are bytes.
---   lane_of: The operands of lane i.
+--   AreAlphaBytes: The operands of alpha are bytes.
+--   alpha_of: The operands of alpha in lane i.
 --   AreNearest: v has sixteen lanes, and lane i is the byte nearest to x i / 255.
 --   AreBlended: v has sixteen lanes, and each is the blended channel of its operands, a byte.
---   HasSmallSum: The two terms of bytes with these factors add up to at most 255 * 255.
+--   red_of: The operands of red in lane i.
+--   green_of: The operands of green in lane i.
+--   blue_of: The operands of blue in lane i.
+--   AreByteColours: The three channels have sixteen lanes of at most 255.
+--   AreColourBytes: The operands of colours are bytes.
+--   InEach: P holds for the lanes of each colour and its operands.
+--   HasSmallSum: Two terms of at most 255 * 255 each, of bytes with these factors, add up to at most 255 * 255.
 --
 -- Sources.antt
 --   IsFlat: The three vertices have the same value v.
@@ -39,6 +45,7 @@
 --   IsColourMode: What has to hold so that a triangle's colour can be computed in this mode, in the channels that the draw reads.
 --   IsByPlanes: The mode takes the colour from planes.
 --   IsColourBy: The triangle's colour can be computed in this mode, by these planes if the mode needs them.
+--   IsAlphaKnown: Where alpha is written, the equation of alpha is that of the blend state `over`, or of `none`.
 --   WritesColours: The merge writes red, green and blue, and alpha or not.
 --   IsMergeMode: Samples can be merged in this mode: one after another always, and sixteen at once by the equation of the merge.
 --   IsDrawnBy: The triangle can be drawn sixteen samples at once by this depth and this colour, and its draw blends by the known equation.
@@ -48,6 +55,13 @@
 --
 -- Merging.antt
 --   IsTested: What the depth test makes of a stored depth, and the lane of its result: all ones if it passed, else 0.
+--   AreByteFragments: The fragments have sixteen lanes of at most 255 in each channel.
+--   ReadsColours: Lane i of the operands is what is read of fragment i and of stored sample k.
+--   IsStored: The colour of a sample takes a value with each of these in the channels of the write mask.
+--   IsColoured: The colour of a sample is merged with a fragment's.
+--   AreMasked: Of the sixteen samples from k on P holds where the mask is set, and no other changes, nor any alpha or depth.
+--   AreStored: Sixteen samples take these colours where the mask is set.
+--   AreColoured: The colours of sixteen samples are merged with those of fragments where the mask is set.
 --
 -- Sums.antt
 --   AreSums: Lane i is the sum of what f is of n samples at pixel i.

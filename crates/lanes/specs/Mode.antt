@@ -2,6 +2,7 @@
 use Rattle.std.specs.Prelude.{◌≡◌, Bool, true, false, [], ◌∷◌}
 use Rattle.shade.specs.declared.placed.Placed.{Placed}
 use Rattle.shade.specs.declared.sample.Merge.{Merge}
+use Rattle.shade.specs.declared.equation.Equation.{Equation}
 use Rattle.shade.specs.declared.known.KnownEquation.{KnownEquation}
 use Rattle.shade.specs.declared.known.KnownEquation.TheVariants.{Replace, Over}
 use Rattle.lanes.specs.declared.sources.DepthSource.{DepthSource}
@@ -14,7 +15,7 @@ use Rattle.lanes.specs.declared.mode.DrawMode.{DrawMode}
 use Rattle.lanes.specs.declared.mode.DrawMode.TheVariants as draw
 use Rattle.lanes.specs.declared.mode.Depth.{Depth}
 use Rattle.lanes.specs.declared.mode.Colour.{Colour}
-use Rattle.shade.specs.Presets.{IsKnown}
+use Rattle.shade.specs.Presets.{AreAlike, IsKnown, replace, premultiplied_over}
 use Rattle.planes.specs.AttributePlane.{IsDepthPlane, AreColourPlanes}
 use Rattle.lanes.specs.Sources.{NeedsNoDepth, IsFlat, IsFlatColour, IsDepthOf, IsColourOf}
 
@@ -47,19 +48,27 @@ pub record IsColourBy (t : Placed) (c : Colour) : Type 0 where
   pub is_mode : IsColourMode t c.mode
   pub are_planes : IsByPlanes c.mode → AreColourPlanes t c.planes
 
+-- Where alpha is written, the equation of alpha is that of the blend state `over`, or of `none`.
+abbrev pub IsAlphaKnown : Bool → Bool → Equation → Type 0
+IsAlphaKnown over false e = Unit {0}
+IsAlphaKnown false true e = AreAlike e replace
+IsAlphaKnown true true e = AreAlike e premultiplied_over
+
 -- The merge writes red, green and blue, and alpha or not.
-pub record WritesColours (alpha : Bool) (m : Merge) : Type 0 where
+pub record WritesColours (over alpha : Bool) (m : Merge) : Type 0 where
   pub colours : m.write ≡ true ∷ true ∷ true ∷ []
   pub with_alpha : m.blend.write_alpha ≡ alpha
+  pub alpha_known : IsAlphaKnown over alpha m.blend.alpha
 
 -- Samples can be merged in this mode: one after another always, and sixteen at once by the equation of the merge. The two
--- equations of draw lists have modes of their own, in which red, green and blue are written, with alpha or without.
+-- equations of draw lists have modes of their own, in which red, green and blue are written, and alpha is not, or by the blend state
+-- of this equation.
 abbrev pub IsMergeMode : Merge → DrawMode → Type 0
 IsMergeMode m draw.Each = Unit {0}
-IsMergeMode m draw.Replace = IsKnown Replace m.blend.colour × WritesColours false m
-IsMergeMode m draw.Over = IsKnown Over m.blend.colour × WritesColours false m
-IsMergeMode m draw.ReplaceWithAlpha = IsKnown Replace m.blend.colour × WritesColours true m
-IsMergeMode m draw.OverWithAlpha = IsKnown Over m.blend.colour × WritesColours true m
+IsMergeMode m draw.Replace = IsKnown Replace m.blend.colour × WritesColours false false m
+IsMergeMode m draw.Over = IsKnown Over m.blend.colour × WritesColours true false m
+IsMergeMode m draw.ReplaceWithAlpha = IsKnown Replace m.blend.colour × WritesColours false true m
+IsMergeMode m draw.OverWithAlpha = IsKnown Over m.blend.colour × WritesColours true true m
 IsMergeMode m (draw.Otherwise known) = IsKnown known m.blend.colour
 
 -- The triangle can be drawn sixteen samples at once by this depth and this colour, and its draw blends by the known equation.
@@ -71,10 +80,10 @@ pub record IsDrawnBy (t : Placed) (known : KnownEquation) (depth : Depth) (colou
 -- The triangle can be drawn in this mode, by this depth and this colour if sixteen samples are drawn at once.
 abbrev pub IsDrawModeOf : Placed → DrawMode → Depth → Colour → Type 0
 IsDrawModeOf t draw.Each depth colour = Unit {0}
-IsDrawModeOf t draw.Replace depth colour = IsDrawnBy t Replace depth colour × WritesColours false t.state.merge
-IsDrawModeOf t draw.Over depth colour = IsDrawnBy t Over depth colour × WritesColours false t.state.merge
-IsDrawModeOf t draw.ReplaceWithAlpha depth colour = IsDrawnBy t Replace depth colour × WritesColours true t.state.merge
-IsDrawModeOf t draw.OverWithAlpha depth colour = IsDrawnBy t Over depth colour × WritesColours true t.state.merge
+IsDrawModeOf t draw.Replace depth colour = IsDrawnBy t Replace depth colour × WritesColours false false t.state.merge
+IsDrawModeOf t draw.Over depth colour = IsDrawnBy t Over depth colour × WritesColours true false t.state.merge
+IsDrawModeOf t draw.ReplaceWithAlpha depth colour = IsDrawnBy t Replace depth colour × WritesColours false true t.state.merge
+IsDrawModeOf t draw.OverWithAlpha depth colour = IsDrawnBy t Over depth colour × WritesColours true true t.state.merge
 IsDrawModeOf t (draw.Otherwise known) depth colour = IsDrawnBy t known depth colour
 
 -- What a triangle is drawn by: the merge of its draw, its depth and its colour.

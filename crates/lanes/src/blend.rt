@@ -1,17 +1,18 @@
-ghost use Rattle.std.specs.Prelude.{◌*◌, IsTrue, pos, ◌+ℤ◌, slice_index};
+ghost use Rattle.std.specs.Prelude.{◌*◌, ◌-◌, IsTrue, pos, ◌+ℤ◌, ◌-ℤ◌, slice_index};
 ghost use Rattle.planes.specs.Lanes.{HasLanes};
 ghost use Rattle.shade.specs.declared.operands.Channel.TheVariants.{Colour, Alpha};
 ghost use Rattle.shade.specs.Blend.{factor};
-ghost use Rattle.shade.specs.Presets.{over, replace};
-ghost use Rattle.lanes.specs.Operands.{AreByteOperands, AreTerms, AreNearest, AreBlended, HasSmallSum, lane_of};
+ghost use Rattle.shade.specs.Presets.{over, replace, IsKnown};
+ghost use Rattle.lanes.specs.Mode.{known_of};
+ghost use Rattle.lanes.specs.Operands.{AreByteLanes, AreByteColours, AreAlphaBytes, AreColourBytes, AreTerms, AreNearest, AreBlended, HasSmallSum, InEach, alpha_of};
 
 use crate::arithmetic::{
     greatest, inverse, least, nearest_difference, nearest_small_sum, nearest_sum,
     nearest_with_whole, product,
 };
-use crate::factors::factor_lanes;
-use crate::operands::LaneOperands;
-use shade::{BlendFactor, BlendOperation, Channel, Equation, KnownEquation};
+use crate::factors::{alpha_factor, colour_factors};
+use crate::operands::{AlphaOperands, ColourLanes, ColourOperands};
+use shade::{BlendFactor, BlendOperation, Equation};
 use std::simd::prelude::*;
 
 /// Whether the sum of the two terms is at most 255 * 255: one factor is zero, or the two add up to one.
@@ -26,123 +27,211 @@ fn has_small_sum(source: BlendFactor, stored: BlendFactor) -> bool
     }
 }
 
-/// The nearest bytes to the sum of the two terms `p` and `r`. A channel with the factor one is a term of its own,
-/// without a product.
+/// The source over the stored channel in each lane.
 #[inline(always)]
-fn added(
-    source: BlendFactor,
-    stored: BlendFactor,
-    channel: Channel,
-    o: &LaneOperands,
-    p: u16x16,
-    r: u16x16,
-) -> u16x16
-    requires bytes { AreByteOperands o.now }
-    requires source { AreTerms p × HasLanes p
-        (λ i. slice_index o.now.source i * factor source channel (lane_of o.now i)) }
-    requires stored { AreTerms r × HasLanes r
-        (λ i. slice_index o.now.stored i * factor stored channel (lane_of o.now i)) }
-    ensures { AreNearest (λ i. pos (slice_index o.now.source i * factor source channel (lane_of o.now i)) +ℤ pos
-        (slice_index o.now.stored i * factor stored channel (lane_of o.now i))) result }
+fn over_lanes(source: u16x16, alpha: u16x16, stored: u16x16) -> u16x16
+    requires { AreByteLanes source × AreByteLanes alpha × AreByteLanes stored }
+    ensures { AreNearest (λ i. pos (slice_index source i * slice_index alpha i) +ℤ pos
+        (slice_index stored i * (255 - slice_index alpha i))) result }
 {
-    match (source, stored) {
-        (BlendFactor::One, _) => nearest_with_whole(o.source, r),
-        (_, BlendFactor::One) => nearest_with_whole(o.stored, p),
-        _ => {
-            if has_small_sum(source, stored) {
-                nearest_small_sum(p, r)
-            } else {
-                nearest_sum(p, r)
-            }
-        }
+    let p = product(source, alpha);
+    let r = product(stored, inverse(alpha));
+    nearest_small_sum(p, r)
+}
+
+/// The source over the stored colours: the equation `OVER`.
+#[inline(always)]
+fn over_colours(o: &ColourOperands) -> ColourLanes
+    requires { AreColourBytes o.now }
+    ensures { InEach o.now result (AreBlended over Colour) }
+{
+    ColourLanes {
+        red: over_lanes(o.source.red, o.source_alpha, o.stored.red),
+        green: over_lanes(o.source.green, o.source_alpha, o.stored.green),
+        blue: over_lanes(o.source.blue, o.source_alpha, o.stored.blue),
     }
 }
 
-/// `Equation::blended` in each lane. The equation is the same for all lanes: if it is a constant of the caller, nothing
-/// of the choice is left in the machine code.
+/// The source colours: the equation `REPLACE`.
 #[inline(always)]
-fn blended_lanes(equation: &Equation, channel: Channel, o: &LaneOperands) -> u16x16
-    requires { AreByteOperands o.now }
-    ensures { AreBlended equation.now channel o.now result }
-{
-    let (source, stored) = (equation.source, equation.stored);
-    let p = product(o.source, factor_lanes(source, channel, o));
-    let r = product(o.stored, factor_lanes(stored, channel, o));
-    match equation.operation {
-        BlendOperation::Add => added(source, stored, channel, o, p, r),
-        BlendOperation::Subtract => nearest_difference(p, r),
-        BlendOperation::ReverseSubtract => nearest_difference(r, p),
-        BlendOperation::Min => least(o.source, o.stored),
-        BlendOperation::Max => greatest(o.source, o.stored),
-    }
-}
-
-/// The source in each lane: the equation `REPLACE` of colours.
-#[inline(always)]
-fn replaced_lanes(o: &LaneOperands) -> u16x16
-    requires { AreByteOperands o.now }
-    ensures { AreBlended replace Colour o.now result }
+fn replaced_colours(o: &ColourOperands) -> ColourLanes
+    requires { AreColourBytes o.now }
+    ensures { InEach o.now result (AreBlended replace Colour) }
 {
     o.source
 }
 
-/// The source over the stored channel in each lane: the equation `OVER` of colours.
+/// Colours by an equation of draw lists.
 #[inline(always)]
-fn over_lanes(o: &LaneOperands) -> u16x16
-    requires { AreByteOperands o.now }
-    ensures { AreBlended over Colour o.now result }
+pub(crate) fn listed_colours(is_over: bool, equation: &Equation, o: &ColourOperands) -> ColourLanes
+    requires bytes { AreColourBytes o.now }
+    requires known { IsKnown (known_of is_over) equation.now }
+    ensures { InEach o.now result (AreBlended equation.now Colour) }
 {
-    let source = product(o.source, o.source_alpha);
-    let stored = product(o.stored, inverse(o.source_alpha));
-    nearest_small_sum(source, stored)
+    if is_over {
+        over_colours(o)
+    } else {
+        replaced_colours(o)
+    }
 }
 
-/// Colours by any equation, not in line. Those of blend states with names have code of their own.
+/// The products of each colour and its factor.
+#[inline(always)]
+fn products(of: &ColourLanes, factors: &ColourLanes) -> ColourLanes
+    requires { AreByteColours of.now × AreByteColours factors.now }
+    ensures red { AreTerms result.red × HasLanes result.red (λ i. slice_index of.now.red i * slice_index factors.now.red i) }
+    ensures green { AreTerms result.green × HasLanes result.green (λ i. slice_index of.now.green i * slice_index factors.now.green i) }
+    ensures blue { AreTerms result.blue × HasLanes result.blue (λ i. slice_index of.now.blue i * slice_index factors.now.blue i) }
+{
+    ColourLanes {
+        red: product(of.red, factors.red),
+        green: product(of.green, factors.green),
+        blue: product(of.blue, factors.blue),
+    }
+}
+
+/// `added` for each colour.
+#[inline(always)]
+fn added_colours(
+    source: BlendFactor,
+    stored: BlendFactor,
+    o: &ColourOperands,
+    p: &ColourLanes,
+    r: &ColourLanes,
+) -> ColourLanes
+    requires bytes { AreColourBytes o.now }
+    requires source { InEach o.now p.now (λ lane v. AreTerms v × HasLanes v (λ i. (lane i).source * factor source Colour (lane i))) }
+    requires stored { InEach o.now r.now (λ lane v. AreTerms v × HasLanes v (λ i. (lane i).stored * factor stored Colour (lane i))) }
+    ensures { InEach o.now result (λ lane v. AreNearest (λ i. pos ((lane i).source * factor source Colour (lane i)) +ℤ
+        pos ((lane i).stored * factor stored Colour (lane i))) v) }
+{
+    if source == BlendFactor::One {
+        ColourLanes {
+            red: nearest_with_whole(o.source.red, r.red),
+            green: nearest_with_whole(o.source.green, r.green),
+            blue: nearest_with_whole(o.source.blue, r.blue),
+        }
+    } else if stored == BlendFactor::One {
+        ColourLanes {
+            red: nearest_with_whole(o.stored.red, p.red),
+            green: nearest_with_whole(o.stored.green, p.green),
+            blue: nearest_with_whole(o.stored.blue, p.blue),
+        }
+    } else if has_small_sum(source, stored) {
+        ColourLanes {
+            red: nearest_small_sum(p.red, r.red),
+            green: nearest_small_sum(p.green, r.green),
+            blue: nearest_small_sum(p.blue, r.blue),
+        }
+    } else {
+        ColourLanes {
+            red: nearest_sum(p.red, r.red),
+            green: nearest_sum(p.green, r.green),
+            blue: nearest_sum(p.blue, r.blue),
+        }
+    }
+}
+
+/// `nearest_difference` for each colour.
+#[inline(always)]
+fn differences(p: &ColourLanes, r: &ColourLanes) -> ColourLanes
+    requires { AreTerms p.now.red × AreTerms p.now.green × AreTerms p.now.blue }
+    ensures red { AreNearest (λ i. pos (slice_index p.now.red i) -ℤ pos (slice_index r.now.red i)) result.red }
+    ensures green { AreNearest (λ i. pos (slice_index p.now.green i) -ℤ pos (slice_index r.now.green i)) result.green }
+    ensures blue { AreNearest (λ i. pos (slice_index p.now.blue i) -ℤ pos (slice_index r.now.blue i)) result.blue }
+{
+    ColourLanes {
+        red: nearest_difference(p.red, r.red),
+        green: nearest_difference(p.green, r.green),
+        blue: nearest_difference(p.blue, r.blue),
+    }
+}
+
+/// Colours by any equation. What it says is looked at once for red, green and blue.
+#[inline(always)]
+pub(crate) fn blended_colours(equation: &Equation, o: &ColourOperands) -> ColourLanes
+    requires { AreColourBytes o.now }
+    ensures { InEach o.now result (AreBlended equation.now Colour) }
+{
+    let (source, stored) = (equation.source, equation.stored);
+    let p = products(&o.source, &colour_factors(source, o));
+    let r = products(&o.stored, &colour_factors(stored, o));
+    match equation.operation {
+        BlendOperation::Add => added_colours(source, stored, o, &p, &r),
+        BlendOperation::Subtract => differences(&p, &r),
+        BlendOperation::ReverseSubtract => differences(&r, &p),
+        BlendOperation::Min => ColourLanes {
+            red: least(o.source.red, o.stored.red),
+            green: least(o.source.green, o.stored.green),
+            blue: least(o.source.blue, o.stored.blue),
+        },
+        BlendOperation::Max => ColourLanes {
+            red: greatest(o.source.red, o.stored.red),
+            green: greatest(o.source.green, o.stored.green),
+            blue: greatest(o.source.blue, o.stored.blue),
+        },
+    }
+}
+
+/// The nearest bytes to the sum of the two terms `p` and `r` of alpha. A channel with the factor one is a term of its
+/// own, without a product.
+#[inline(always)]
+fn added(
+    source: BlendFactor,
+    stored: BlendFactor,
+    o: &AlphaOperands,
+    p: u16x16,
+    r: u16x16,
+) -> u16x16
+    requires bytes { AreAlphaBytes o.now }
+    requires source { AreTerms p × HasLanes p (λ i. slice_index o.now.source i * factor source Alpha (alpha_of o.now i)) }
+    requires stored { AreTerms r × HasLanes r (λ i. slice_index o.now.stored i * factor stored Alpha (alpha_of o.now i)) }
+    ensures { AreNearest (λ i. pos (slice_index o.now.source i * factor source Alpha (alpha_of o.now i)) +ℤ pos
+        (slice_index o.now.stored i * factor stored Alpha (alpha_of o.now i))) result }
+{
+    if source == BlendFactor::One {
+        nearest_with_whole(o.source, r)
+    } else if stored == BlendFactor::One {
+        nearest_with_whole(o.stored, p)
+    } else {
+        nearest_sum(p, r)
+    }
+}
+
+/// Alpha by any equation, not in line.
 #[inline(never)]
-fn blended_otherwise(equation: &Equation, o: &LaneOperands) -> u16x16
-    requires { AreByteOperands o.now }
-    ensures { AreBlended equation.now Colour o.now result }
+fn blended_alpha(equation: &Equation, source: u16x16, stored: u16x16, constant: u8) -> u16x16
+    requires { AreByteLanes source × AreByteLanes stored }
+    ensures { AreBlended equation.now Alpha (alpha_of (record { source = source; stored = stored; constant = constant }))
+        result }
 {
-    match (equation.source, equation.stored, equation.operation) {
-        (BlendFactor::One, BlendFactor::InverseSourceAlpha, BlendOperation::Add) => {
-            blended_lanes(&Equation::PREMULTIPLIED_OVER, Channel::Colour, o)
-        }
-        (BlendFactor::SourceAlpha, BlendFactor::One, BlendOperation::Add) => {
-            blended_lanes(&Equation::ADD_BY_ALPHA, Channel::Colour, o)
-        }
-        (BlendFactor::StoredColour, BlendFactor::Zero, BlendOperation::Add) => {
-            blended_lanes(&Equation::MULTIPLY, Channel::Colour, o)
-        }
-        _ => blended_lanes(equation, Channel::Colour, o),
+    let o = &AlphaOperands {
+        source,
+        stored,
+        constant,
+    };
+    let p = product(source, alpha_factor(equation.source, o));
+    let r = product(stored, alpha_factor(equation.stored, o));
+    match equation.operation {
+        BlendOperation::Add => added(equation.source, equation.stored, o, p, r),
+        BlendOperation::Subtract => nearest_difference(p, r),
+        BlendOperation::ReverseSubtract => nearest_difference(r, p),
+        BlendOperation::Min => least(source, stored),
+        BlendOperation::Max => greatest(source, stored),
     }
 }
 
-/// Alpha by any equation. Those of the presets that draw over what is stored, or replace it, have code of their own.
+/// Alpha by any equation. Those of `Blend::NONE` and `Blend::OVER` are in line.
 #[inline(always)]
-pub(crate) fn blended_alpha(equation: &Equation, o: &LaneOperands) -> u16x16
-    requires { AreByteOperands o.now }
-    ensures { AreBlended equation.now Alpha o.now result }
+pub(crate) fn alpha_lanes(equation: &Equation, o: &AlphaOperands) -> u16x16
+    requires { AreAlphaBytes o.now }
+    ensures { AreBlended equation.now Alpha (alpha_of o.now) result }
 {
-    match (equation.source, equation.stored, equation.operation) {
-        (BlendFactor::One, BlendFactor::InverseSourceAlpha, BlendOperation::Add) => {
-            blended_lanes(&Equation::PREMULTIPLIED_OVER, Channel::Alpha, o)
-        }
-        (BlendFactor::One, BlendFactor::Zero, BlendOperation::Add) => {
-            blended_lanes(&Equation::REPLACE, Channel::Alpha, o)
-        }
-        _ => blended_lanes(equation, Channel::Alpha, o),
-    }
-}
-
-/// Colours by any equation. Those of draw lists are in line.
-#[inline(always)]
-pub(crate) fn coloured_lanes(equation: &Equation, o: &LaneOperands) -> u16x16
-    requires { AreByteOperands o.now }
-    ensures { AreBlended equation.now Colour o.now result }
-{
-    match KnownEquation::of(equation) {
-        KnownEquation::Replace => replaced_lanes(o),
-        KnownEquation::Over => over_lanes(o),
-        KnownEquation::Other => blended_otherwise(equation, o),
+    if *equation == Equation::REPLACE {
+        o.source
+    } else if *equation == Equation::PREMULTIPLIED_OVER {
+        nearest_with_whole(o.source, product(o.stored, inverse(o.source)))
+    } else {
+        blended_alpha(equation, o.source, o.stored, o.constant)
     }
 }

@@ -188,7 +188,7 @@ fn draw_by_sources<const OVER: bool, const ALPHA: bool>(
     corrections: &mut Corrections,
 )
     requires by { IsDrawnBy placed.now (known_of OVER) depth.now colour.now }
-    requires all { WritesColours ALPHA placed.now.state.merge }
+    requires all { WritesColours OVER ALPHA placed.now.state.merge }
     requires samples { length samples.old ≡ part_size mask.now.count }
     ensures drawn { CoversBlock placed.now mask.now → IsBlockDrawn placed.now mask.now samples.old samples.new }
     ensures samples { length samples.new ≡ length samples.old }

@@ -2,110 +2,28 @@
 ghost use Rattle.std.specs.Prelude.{◌≡◌, ◌⊎◌, ℕ, if◌then◌else◌, ◌+◌, ◌<◌, ◌≤◌, length, slice_index};
 ghost use Rattle.std.specs.Simd.Lanes.{Each1};
 ghost use Rattle.grid.specs.Triangle.{Covers};
-ghost use Rattle.shade.specs.declared.operands.Channel.TheVariants.{Colour, Alpha};
-ghost use Rattle.shade.specs.Blend.{IsBlended};
-ghost use Rattle.shade.specs.Merging.{operands_of, IsChannelMerged};
-ghost use Rattle.lanes.specs.Merging.{IsTested};
+ghost use Rattle.shade.specs.Merging.{IsWritten};
+ghost use Rattle.shade.specs.Presets.{IsKnown};
+ghost use Rattle.lanes.specs.Merging.{IsTested, AreByteFragments, ReadsColours, AreStored, AreColoured};
+ghost use Rattle.lanes.specs.Mode.{known_of};
 ghost use Rattle.shade.specs.declared.placed.Placed.{Placed as Triangle};
 ghost use Rattle.shade.specs.Placed.{IsInterpolated};
-ghost use Rattle.shade.specs.Canvas.{alpha_operands, IsAlphaMerged, IsCanvasDrawnAt};
+ghost use Rattle.shade.specs.Canvas.{IsAlphaMerged, IsCanvasDrawnAt};
 ghost use Rattle.planes.specs.Group.{position_in, IsGroupOnScreen};
 ghost use Rattle.lanes.specs.Block.{stored_at};
-ghost use Rattle.lanes.specs.Operands.{AreByteLanes, AreByteOperands, lane_of};
+ghost use Rattle.lanes.specs.Operands.{AreByteLanes, AreByteColours, AreColourBytes};
 ghost use Rattle.lanes.specs.Sources.{IsDepthOf, IsColourOf};
 
-use crate::blend::{blended_alpha, coloured_lanes};
+use crate::blend::{alpha_lanes, blended_colours, listed_colours};
 use crate::block_samples::BlockSamples;
 use crate::lane_bytes::{narrow, widen};
 use crate::lane_mask::{both, choose, choose_bytes, is_clear};
 use crate::merging::passes_lanes;
-use crate::operands::LaneOperands;
+use crate::operands::{AlphaOperands, ColourLanes, ColourOperands};
 use crate::sources::{ColourSource, DepthSource};
-use planes::Corrections;
-use shade::{Merge, Placed};
+use planes::{Colours, Corrections};
+use shade::{KnownEquation, Merge, Placed};
 use std::simd::prelude::*;
-
-/// A byte in all lanes.
-#[inline(always)]
-fn same_lanes(byte: u8) -> u16x16
-    ensures bytes { AreByteLanes result }
-    ensures value { (i : ℕ) → i < 16 → slice_index result i ≡ byte }
-{
-    u16x16::splat(u16::from(byte))
-}
-
-/// What the blend equation of a channel reads of a fragment's channel and alpha, of the stored alpha and of the stored
-/// channel.
-#[inline(always)]
-fn operands(merge: &Merge, number: usize, s: u16x16, a: u16x16, e: u16x16, d: u8x16) -> LaneOperands
-    requires number { number < 4 }
-    requires bytes { Each1 (λ n. n ≤ 255) s × Each1 (λ n. n ≤ 255) a × AreByteLanes e }
-    ensures bytes { AreByteOperands result }
-    ensures each { (i : ℕ) → i < 16 → lane_of result i ≡
-        operands_of merge.now number (slice_index s i) (slice_index a i) (slice_index e i) (slice_index d i) }
-{
-    LaneOperands {
-        source: s,
-        source_alpha: a,
-        stored: widen(d),
-        stored_alpha: e,
-        constant: same_lanes(merge.blend.constant[number]),
-    }
-}
-
-/// A written channel, where the mask is set.
-#[inline(always)]
-fn drawn_lanes(
-    merge: &Merge,
-    number: usize,
-    mask: u16x16,
-    s: u16x16,
-    a: u16x16,
-    e: u16x16,
-    d: u8x16,
-) -> u8x16
-    requires number { number < 3 }
-    requires bytes { Each1 (λ n. n ≤ 255) s × Each1 (λ n. n ≤ 255) a × AreByteLanes e }
-    ensures whole { length result ≡ 16 }
-    ensures set { (i : ℕ) → i < 16 → slice_index mask i ≡ 65535
-        → IsBlended merge.now.blend.colour Colour
-        (operands_of merge.now number (slice_index s i) (slice_index a i) (slice_index e i) (slice_index d i))
-        (slice_index result i) }
-    ensures clear { (i : ℕ) → i < 16 → slice_index mask i ≡ 0 → slice_index result i ≡ slice_index d i }
-{
-    let o = operands(merge, number, s, a, e, d);
-    let new = narrow(coloured_lanes(&merge.blend.colour, &o));
-    choose_bytes(mask, new, d)
-}
-
-/// Red, green or blue of stored samples, where the mask is set.
-#[inline(always)]
-fn draw_channel(
-    merge: &Merge,
-    number: usize,
-    mask: u16x16,
-    s: u16x16,
-    a: u16x16,
-    e: u16x16,
-    stored: &mut [u8],
-    at: usize,
-)
-    requires number { number < 3 }
-    requires room { at + 16 ≤ length stored.old }
-    requires bytes { Each1 (λ n. n ≤ 255) s × Each1 (λ n. n ≤ 255) a × AreByteLanes e }
-    ensures set { (i : ℕ) → i < 16 → slice_index mask i ≡ 65535
-        → IsChannelMerged merge.now number (slice_index s i) (slice_index a i) (slice_index e i)
-        (slice_index stored.old (at + i)) (slice_index stored.new (at + i)) }
-    ensures clear { (i : ℕ) → i < 16 → slice_index mask i ≡ 0 →
-        slice_index stored.new (at + i) ≡ slice_index stored.old (at + i) }
-    ensures elsewhere { (k : ℕ) → (k < at) ⊎ (at + 16 ≤ k) → slice_index stored.new k ≡ slice_index stored.old k }
-    ensures room { length stored.new ≡ length stored.old }
-{
-    if merge.write[number] {
-        let old = u8x16::from_slice(&stored[at..]);
-        drawn_lanes(merge, number, mask, s, a, e, old).copy_to_slice(&mut stored[at..]);
-    }
-}
 
 /// Sixteen bytes as lanes.
 #[inline(always)]
@@ -126,44 +44,122 @@ fn stored_lanes(stored: &[u8], at: usize) -> u16x16
     byte_lanes(u8x16::from_slice(&stored[at..]))
 }
 
-/// Written alpha, where the mask is set.
+/// What the equation of colours reads of fragments and of the sixteen stored samples from a place on.
 #[inline(always)]
-fn drawn_alphas(merge: &Merge, mask: u16x16, a: u16x16, d: u8x16) -> u8x16
-    requires { Each1 (λ n. n ≤ 255) a }
-    ensures whole { length result ≡ 16 }
-    ensures set { (i : ℕ) → i < 16 → slice_index mask i ≡ 65535
-        → IsBlended merge.now.blend.alpha Alpha (alpha_operands merge.now (slice_index a i) (slice_index d i))
-        (slice_index result i) }
-    ensures clear { (i : ℕ) → i < 16 → slice_index mask i ≡ 0 → slice_index result i ≡ slice_index d i }
+fn colour_operands(merge: &Merge, c: &Colours, samples: &BlockSamples, at: usize) -> ColourOperands
+    requires room { at + 16 ≤ 64 }
+    requires bytes { AreByteFragments c.now }
+    ensures bytes { AreColourBytes result }
+    ensures each { (i : ℕ) → i < 16 → ReadsColours merge.now c.now samples.now (at + i) i result }
 {
-    let o = operands(merge, 3, a, a, widen(d), d);
-    let new = narrow(blended_alpha(&merge.blend.alpha, &o));
-    choose_bytes(mask, new, d)
+    ColourOperands {
+        source: ColourLanes {
+            red: c.r,
+            green: c.g,
+            blue: c.b,
+        },
+        source_alpha: c.a,
+        stored: ColourLanes {
+            red: stored_lanes(&samples.r, at),
+            green: stored_lanes(&samples.g, at),
+            blue: stored_lanes(&samples.b, at),
+        },
+        stored_alpha: stored_lanes(&samples.alpha, at),
+        constant: merge.blend.constant,
+    }
 }
 
-/// Stored alpha that is written, where the mask is set, not in line.
-#[inline(never)]
-fn blend_alpha(merge: &Merge, mask: u16x16, a: u16x16, stored: &mut [u8], at: usize)
+/// A channel of stored samples if it is written, where the mask is set.
+#[inline(always)]
+fn store_channel(written: bool, mask: u16x16, new: u16x16, stored: &mut [u8], at: usize)
     requires room { at + 16 ≤ length stored.old }
-    requires bytes { Each1 (λ n. n ≤ 255) a }
+    requires bytes { AreByteLanes new }
     ensures set { (i : ℕ) → i < 16 → slice_index mask i ≡ 65535
-        → IsBlended merge.now.blend.alpha Alpha
-        (alpha_operands merge.now (slice_index a i) (slice_index stored.old (at + i)))
-        (slice_index stored.new (at + i)) }
+        → IsWritten written (λ n. n ≡ slice_index new i) (slice_index stored.old (at + i)) (slice_index stored.new (at + i)) }
     ensures clear { (i : ℕ) → i < 16 → slice_index mask i ≡ 0 →
         slice_index stored.new (at + i) ≡ slice_index stored.old (at + i) }
     ensures elsewhere { (k : ℕ) → (k < at) ⊎ (at + 16 ≤ k) → slice_index stored.new k ≡ slice_index stored.old k }
     ensures room { length stored.new ≡ length stored.old }
 {
-    let old = u8x16::from_slice(&stored[at..]);
-    drawn_alphas(merge, mask, a, old).copy_to_slice(&mut stored[at..]);
+    if written {
+        let old = u8x16::from_slice(&stored[at..]);
+        choose_bytes(mask, narrow(new), old).copy_to_slice(&mut stored[at..]);
+    }
+}
+
+/// Red, green and blue of stored samples, those that are written, where the mask is set.
+#[inline(always)]
+fn store_colours(
+    write: [bool; 3],
+    mask: u16x16,
+    new: &ColourLanes,
+    samples: &mut BlockSamples,
+    at: usize,
+)
+    requires room { at + 16 ≤ 64 }
+    requires bytes { AreByteColours new.now }
+    ensures { AreStored write mask new.now samples.old samples.new at }
+{
+    let [red, green, blue] = write;
+    store_channel(red, mask, new.red, &mut samples.r, at);
+    store_channel(green, mask, new.green, &mut samples.g, at);
+    store_channel(blue, mask, new.blue, &mut samples.b, at);
+}
+
+/// Red, green and blue of stored samples by an equation of draw lists, where the mask is set.
+#[inline(always)]
+fn draw_listed(
+    is_over: bool,
+    merge: &Merge,
+    mask: u16x16,
+    c: &Colours,
+    samples: &mut BlockSamples,
+    at: usize,
+)
+    requires known { IsKnown (known_of is_over) merge.now.blend.colour }
+    requires room { at + 16 ≤ 64 }
+    requires bytes { AreByteFragments c.now }
+    ensures { AreColoured merge.now mask c.now samples.old samples.new at }
+{
+    let new = listed_colours(
+        is_over,
+        &merge.blend.colour,
+        &colour_operands(merge, c, samples, at),
+    );
+    store_colours(merge.write, mask, &new, samples, at);
+}
+
+/// Red, green and blue of stored samples by any equation, where the mask is set, not in line.
+#[inline(never)]
+fn draw_blended(merge: &Merge, mask: u16x16, c: &Colours, samples: &mut BlockSamples, at: usize)
+    requires room { at + 16 ≤ 64 }
+    requires bytes { AreByteFragments c.now }
+    ensures { AreColoured merge.now mask c.now samples.old samples.new at }
+{
+    let new = blended_colours(&merge.blend.colour, &colour_operands(merge, c, samples, at));
+    store_colours(merge.write, mask, &new, samples, at);
+}
+
+/// Red, green and blue of stored samples, where the mask is set. The equations of draw lists are in line.
+#[inline(always)]
+fn draw_colours(merge: &Merge, mask: u16x16, c: &Colours, samples: &mut BlockSamples, at: usize)
+    requires room { at + 16 ≤ 64 }
+    requires bytes { AreByteFragments c.now }
+    ensures { AreColoured merge.now mask c.now samples.old samples.new at }
+{
+    let known = KnownEquation::of(&merge.blend.colour);
+    if known == KnownEquation::Other {
+        draw_blended(merge, mask, c, samples, at);
+    } else {
+        draw_listed(known == KnownEquation::Over, merge, mask, c, samples, at);
+    }
 }
 
 /// Alpha of stored samples, where the mask is set, if it is written.
 #[inline(always)]
 fn draw_alpha(merge: &Merge, mask: u16x16, a: u16x16, stored: &mut [u8], at: usize)
     requires room { at + 16 ≤ length stored.old }
-    requires bytes { Each1 (λ n. n ≤ 255) a }
+    requires bytes { AreByteLanes a }
     ensures set { (i : ℕ) → i < 16 → slice_index mask i ≡ 65535
         → IsAlphaMerged merge.now (slice_index a i) (slice_index stored.old (at + i)) (slice_index stored.new (at + i)) }
     ensures clear { (i : ℕ) → i < 16 → slice_index mask i ≡ 0 →
@@ -172,7 +168,12 @@ fn draw_alpha(merge: &Merge, mask: u16x16, a: u16x16, stored: &mut [u8], at: usi
     ensures room { length stored.new ≡ length stored.old }
 {
     if merge.blend.write_alpha {
-        blend_alpha(merge, mask, a, stored, at);
+        let o = AlphaOperands {
+            source: a,
+            stored: stored_lanes(stored, at),
+            constant: merge.blend.constant[3],
+        };
+        store_channel(true, mask, alpha_lanes(&merge.blend.alpha, &o), stored, at);
     }
 }
 
@@ -280,9 +281,6 @@ pub(crate) fn draw_group(
         return;
     }
     let c = colour.values(merge, x, y, corrections);
-    let e = stored_lanes(&samples.alpha, at);
-    draw_channel(merge, 0, drawn, c.r, c.a, e, &mut samples.r, at);
-    draw_channel(merge, 1, drawn, c.g, c.a, e, &mut samples.g, at);
-    draw_channel(merge, 2, drawn, c.b, c.a, e, &mut samples.b, at);
+    draw_colours(merge, drawn, &c, samples, at);
     draw_alpha(merge, drawn, c.a, &mut samples.alpha, at);
 }

@@ -1,7 +1,7 @@
 //! A merge made again, so that its colour equation is known if the code is inlined.
 ghost use Rattle.std.specs.Prelude.{◌≡◌};
 ghost use Rattle.shade.specs.Presets.{IsKnown};
-ghost use Rattle.lanes.specs.Mode.{WritesColours, known_of};
+ghost use Rattle.lanes.specs.Mode.{IsAlphaKnown, WritesColours, known_of};
 
 use shade::{Blend, Equation, KnownEquation, Merge};
 
@@ -18,10 +18,18 @@ fn again(known: KnownEquation, e: &Equation) -> Equation
     }
 }
 
-/// The merge made again by the same write mask, so that its equation and its mask are known if the code is inlined.
+/// The merge made again by the same equation of alpha and the same write mask, so that these and its equation of colours
+/// are known if the code is inlined.
 #[inline(always)]
-fn remade(known: KnownEquation, m: &Merge, write: [bool; 3], write_alpha: bool) -> Merge
+fn remade(
+    known: KnownEquation,
+    m: &Merge,
+    alpha: Equation,
+    write: [bool; 3],
+    write_alpha: bool,
+) -> Merge
     requires known { IsKnown known m.now.blend.colour }
+    requires alpha { alpha ≡ m.now.blend.alpha }
     requires write { write ≡ m.now.write }
     requires write_alpha { write_alpha ≡ m.now.blend.write_alpha }
     ensures { result ≡ m.now }
@@ -32,7 +40,7 @@ fn remade(known: KnownEquation, m: &Merge, write: [bool; 3], write_alpha: bool) 
         write,
         blend: Blend {
             colour: again(known, &m.blend.colour),
-            alpha: m.blend.alpha,
+            alpha,
             constant: m.blend.constant,
             write_alpha,
         },
@@ -45,15 +53,30 @@ pub(crate) fn with_known(known: KnownEquation, m: &Merge) -> Merge
     requires { IsKnown known m.now.blend.colour }
     ensures { result ≡ m.now }
 {
-    remade(known, m, m.write, m.blend.write_alpha)
+    remade(known, m, m.blend.alpha, m.write, m.blend.write_alpha)
 }
 
-/// A merge that writes red, green and blue by an equation of draw lists, made again so that its equation and what it
+/// The equation of alpha made again, so that it is known if alpha is written and the code is inlined.
+#[inline(always)]
+fn alpha_again<const OVER: bool, const ALPHA: bool>(e: &Equation) -> Equation
+    requires { IsAlphaKnown OVER ALPHA e.now }
+    ensures { result ≡ e.now }
+{
+    if !ALPHA {
+        *e
+    } else if OVER {
+        Equation::PREMULTIPLIED_OVER
+    } else {
+        Equation::REPLACE
+    }
+}
+
+/// A merge that writes red, green and blue by an equation of draw lists, made again so that its equations and what it
 /// writes are known if the code is inlined. With `ALPHA` it writes alpha.
 #[inline(always)]
 pub(crate) fn whole<const OVER: bool, const ALPHA: bool>(merge: &Merge) -> Merge
     requires known { IsKnown (known_of OVER) merge.now.blend.colour }
-    requires all { WritesColours ALPHA merge.now }
+    requires all { WritesColours OVER ALPHA merge.now }
     ensures { result ≡ merge.now }
 {
     let known = if OVER {
@@ -61,5 +84,6 @@ pub(crate) fn whole<const OVER: bool, const ALPHA: bool>(merge: &Merge) -> Merge
     } else {
         KnownEquation::Replace
     };
-    remade(known, merge, [true; 3], ALPHA)
+    let alpha = alpha_again::<OVER, ALPHA>(&merge.blend.alpha);
+    remade(known, merge, alpha, [true; 3], ALPHA)
 }

@@ -1,12 +1,12 @@
 //! The mode in which a triangle is drawn, which is chosen once for all its samples.
-ghost use Rattle.std.specs.Prelude.{◌≡◌, ◌<◌, IsTrue, slice_index};
+ghost use Rattle.std.specs.Prelude.{◌≡◌, ◌<◌, IsTrue, true, slice_index};
 ghost use Rattle.shade.specs.Placed.{channel, rgba_of};
-ghost use Rattle.lanes.specs.Mode.{IsDepthBy, IsColourBy, IsMergeMode, WritesColours};
+ghost use Rattle.lanes.specs.Mode.{IsDepthBy, IsColourBy, IsAlphaKnown, IsMergeMode, WritesColours};
 ghost use Rattle.lanes.specs.Sources.{IsDepthOf, IsColourOf, IsFlat};
 
 use crate::sources::{ColourSource, DepthSource};
 use planes::{ColourPlanes, DepthPlane};
-use shade::{DepthTest, KnownEquation, Merge, Placed};
+use shade::{DepthTest, Equation, KnownEquation, Merge, Placed};
 
 /// How the depth is computed.
 #[derive(Clone, Copy, Debug)]
@@ -37,11 +37,11 @@ pub(crate) enum DrawMode {
     Replace,
     /// Sixteen samples at once; the colour is laid over the stored one.
     Over,
-    /// Sixteen samples at once; the colour takes the place of the stored one, and alpha is written too.
+    /// Sixteen samples at once; the colour takes the place of the stored one, and so does alpha.
     ReplaceWithAlpha,
-    /// Sixteen samples at once; the colour is laid over the stored one, and alpha is written too.
+    /// Sixteen samples at once; the colour is laid over the stored one, and so is alpha.
     OverWithAlpha,
-    /// Sixteen samples at once, by a merge that leaves a colour channel, or blends by another equation.
+    /// Sixteen samples at once, by a merge that leaves a colour channel, or blends by other equations.
     Otherwise(KnownEquation),
 }
 
@@ -61,13 +61,28 @@ pub(crate) struct Colour {
     pub(crate) planes: ColourPlanes,
 }
 
-/// Whether a merge writes red, green and blue, and alpha exactly if it is asked for.
+/// Whether an equation of alpha is that of `Blend::OVER`, or of `Blend::NONE`.
 #[inline(always)]
-fn writes_colours(merge: &Merge, alpha: bool) -> bool
-    ensures { IsTrue result → WritesColours alpha merge.now }
+fn is_alpha_known(over: bool, equation: &Equation) -> bool
+    ensures { IsTrue result → IsAlphaKnown over true equation.now }
+{
+    if over {
+        *equation == Equation::PREMULTIPLIED_OVER
+    } else {
+        *equation == Equation::REPLACE
+    }
+}
+
+/// Whether a merge writes red, green and blue, and alpha exactly if it is asked for, then by a known equation.
+#[inline(always)]
+fn writes_colours(merge: &Merge, over: bool, alpha: bool) -> bool
+    ensures { IsTrue result → WritesColours over alpha merge.now }
 {
     let [red, green, blue] = merge.write;
-    red && green && blue && merge.blend.write_alpha == alpha
+    red && green
+        && blue
+        && merge.blend.write_alpha == alpha
+        && (!alpha || is_alpha_known(over, &merge.blend.alpha))
 }
 
 impl DrawMode {
@@ -78,10 +93,11 @@ impl DrawMode {
     {
         let known = KnownEquation::of(&merge.blend.colour);
         match known {
-            KnownEquation::Replace if writes_colours(merge, false) => DrawMode::Replace,
-            KnownEquation::Over if writes_colours(merge, false) => DrawMode::Over,
-            KnownEquation::Replace if writes_colours(merge, true) => DrawMode::ReplaceWithAlpha,
-            KnownEquation::Over if writes_colours(merge, true) => DrawMode::OverWithAlpha,
+            KnownEquation::Replace if writes_colours(merge, false, false) => DrawMode::Replace,
+            KnownEquation::Over if writes_colours(merge, true, false) => DrawMode::Over,
+            KnownEquation::Replace if writes_colours(merge, false, true) =>
+                DrawMode::ReplaceWithAlpha,
+            KnownEquation::Over if writes_colours(merge, true, true) => DrawMode::OverWithAlpha,
             _ => DrawMode::Otherwise(known),
         }
     }
