@@ -1,5 +1,5 @@
 -- The draws of a batch, one at a time.
-use Rattle.std.proofs.Common.{◌≡◌, ◌∙◌, refl, sym, ap, subst, Bool, ℕ, ℤ, ◌+◌, ◌<◌, ◌≤◌, Option, List, [], ◌∷◌, ◌++◌, length, map, take, drop, get_or, drop-cons, add-one, arith}
+use Rattle.std.proofs.Common.{◌≡◌, ◌≢◌, ◌∙◌, refl, sym, ap, subst, Bool, ℕ, ℤ, ◌+◌, ◌<◌, ◌≤◌, Option, List, [], ◌∷◌, ◌++◌, length, map, take, drop, get_or, drop-cons, add-one, arith}
 use Rattle.std.proofs.lemmas.List.{map-append, drop_all, length-map}
 use Rattle.shade.specs.declared.placed.Placed.{Placed}
 use Rattle.lanes.specs.declared.block_samples.BlockSamples.{BlockSamples}
@@ -12,7 +12,7 @@ use Rattle.model.proofs.Checking.{pass_both, pass_each, passes_as, passed_as, fa
 use Rattle.model.proofs.Triangulated.{length-triangles_of}
 use Rattle.batch.specs.declared.draw.BatchDraw.{BatchDraw}
 use Rattle.batch.specs.declared.vertex.BatchVertex.{BatchVertex}
-use Rattle.batch.specs.Listed.{draw_listed, primitives_listed}
+use Rattle.batch.specs.Listed.{draw_listed, draws_of, primitives_listed}
 use Rattle.batch.specs.OwnIndices.{indices_behind, own_indices}
 use Rattle.canvas.specs.declared.canvas.Canvas.{Canvas}
 use Rattle.canvas.specs.Window.{moved}
@@ -97,6 +97,10 @@ module _ (x y : ℤ) (ds : List BatchDraw) (i : ℕ) (past : length ds ≤ i) (i
 
   pub end_drawn : (has_alpha : Bool) (c : Canvas) (first end : ℕ) (xs : List BlockSamples) → HaveEnds (drawn_as ids (draws_seen has_alpha x y (drop i ds) vs is)) c first end xs xs
   end_drawn has_alpha c first end xs = subst (λ rest. HaveEnds (drawn_as ids (draws_seen has_alpha x y rest vs is)) c first end xs xs) (sym nothing_left) (nothing_drawn ids c first end xs)
+
+pub draws_given : (ds : List BatchDraw) (vs : List BatchVertex) (is : Option (List ℕ)) → length ds ≢ 0 → ds ≡ draws_of ds vs is
+draws_given [] vs is some = absurd (some refl)
+draws_given (d ∷ ds) vs is some = refl
 
 pub none_of_none : {X : Type 0} (xs : List X) → length xs ≡ 0 → xs ≡ []
 none_of_none [] e = refl

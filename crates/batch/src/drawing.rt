@@ -1,16 +1,17 @@
 //! A batch, drawn.
-ghost use Rattle.std.specs.Prelude.{◌≡◌, ◌≤◌, length, map, OnOk, OnErr, ⊤};
+ghost use Rattle.std.specs.Prelude.{◌≡◌, ◌≤◌, ℕ, Option, List, [], ◌∷◌, length, map, OnOk, OnErr, ⊤};
 ghost use Rattle.model.specs.Listing.{placed_all};
-ghost use Rattle.batch.specs.Listed.{state_listed, draw_listed};
-ghost use Rattle.batch.specs.OwnIndices.{indices_given};
+ghost use Rattle.batch.specs.declared.vertex.BatchVertex.{BatchVertex};
+ghost use Rattle.batch.specs.Listed.{state_listed, draw_listed, whole_draw, draws_of};
+ghost use Rattle.batch.specs.OwnIndices.{indices_given, count_of_indices};
 ghost use Rattle.batch.specs.Vertices.{vertices_given};
 ghost use Rattle.batch.specs.Parts.{all_seen};
 ghost use Rattle.model.specs.Checking.{IsJudged, Pass};
 ghost use Rattle.canvas.specs.Window.{moved, moved_state};
 ghost use Rattle.canvas.specs.Drawing.{HaveEnds};
-ghost use Rattle.batch.specs.Seen.{draws_seen, triangles_seen};
+ghost use Rattle.batch.specs.Seen.{triangles_seen};
 ghost use Rattle.batch.specs.Ids.{drawn_as};
-ghost use Rattle.batch.specs.Checks.{primitives_checks, draw_checks, draws_checks, batch_checks};
+ghost use Rattle.batch.specs.Checks.{primitives_checks, draw_checks, batch_checks};
 
 use crate::checking::check_draws;
 use crate::draw::BatchDraw;
@@ -90,45 +91,19 @@ fn draw_one<V: Vertices>(
     }
 }
 
-/// Draws draws at the samples of tile rows, in the colours of their vertices or by ids from the given one on.
-fn draw_draws<V: Vertices>(
-    piece: &mut Piece<'_>,
-    draws: &[BatchDraw],
-    vertices: &V,
-    indices: &BatchIndices<'_>,
-    origin: &Origin,
-    ids: Option<u32>,
-    has_alpha: bool,
-) -> Result<(), BatchFault>
-    ensures judged { IsJudged (draws_checks origin.now.x origin.now.y 0 ids draws.now (V.listed vertices.now)
-        (indices_given indices.now)) (λ done. ⊤) result }
-    ensures drawn { OnOk result (HaveEnds (drawn_as ids (draws_seen has_alpha origin.now.x origin.now.y draws.now (V.listed vertices.now) (indices_given indices.now)))
-        piece.old.rows.canvas piece.old.rows.first piece.old.rows.end piece.old.planes.now piece.new.planes.now) }
-    ensures kept { OnErr result (piece.new.planes.now ≡ piece.old.planes.now) }
-    ensures rows { piece.new.rows ≡ piece.old.rows }
-    ensures same { piece.new.planes.ghost_name ≡ piece.old.planes.ghost_name }
+/// The draws of a batch: those of the caller, or if there are none, the one of all vertices and indices.
+fn draws_or<'a>(draws: &'a [BatchDraw], whole: &'a [BatchDraw]) -> &'a [BatchDraw]
+    ensures { (vertices : List BatchVertex) (indices : Option (List ℕ)) →
+        whole.now ≡ whole_draw (length vertices) (count_of_indices indices) ∷ [] →
+        result.now ≡ draws_of draws.now vertices indices }
 {
-    check_draws(draws, vertices, indices, origin, ids)?;
-    let mut next_ids = ids;
-    let (mut vertices_left, mut indices_left) = (*vertices, *indices);
-    for draw in draws {
-        draw_one(
-            piece,
-            draw,
-            &vertices_left,
-            &indices_left,
-            origin,
-            next_ids,
-            has_alpha,
-        );
-        next_ids = after(next_ids, triangles_of_draw(draw, &indices_left));
-        indices_left = indices_left.behind(draw.indices);
-        vertices_left = vertices_left.behind(draw.vertices);
+    match draws {
+        [] => whole,
+        _ => draws,
     }
-    Ok(())
 }
 
-/// Draws a batch. One without draws is one draw of all vertices and indices.
+/// Draws a batch, in the colours of its vertices or by ids from the given one on.
 fn draw_all<V: Vertices>(
     piece: &mut Piece<'_>,
     draws: &[BatchDraw],
@@ -146,13 +121,26 @@ fn draw_all<V: Vertices>(
     ensures rows { piece.new.rows ≡ piece.old.rows }
     ensures same { piece.new.planes.ghost_name ≡ piece.old.planes.ghost_name }
 {
-    match draws {
-        [] => {
-            let whole = [BatchDraw::whole(vertices.count(), indices.count())];
-            draw_draws(piece, &whole, vertices, indices, origin, ids, has_alpha)
-        }
-        _ => draw_draws(piece, draws, vertices, indices, origin, ids, has_alpha),
+    let whole = [BatchDraw::whole(vertices.count(), indices.count())];
+    let listed = draws_or(draws, &whole);
+    check_draws(listed, vertices, indices, origin, ids)?;
+    let mut next_ids = ids;
+    let (mut vertices_left, mut indices_left) = (*vertices, *indices);
+    for draw in listed {
+        draw_one(
+            piece,
+            draw,
+            &vertices_left,
+            &indices_left,
+            origin,
+            next_ids,
+            has_alpha,
+        );
+        next_ids = after(next_ids, triangles_of_draw(draw, &indices_left));
+        indices_left = indices_left.behind(draw.indices);
+        vertices_left = vertices_left.behind(draw.vertices);
     }
+    Ok(())
 }
 
 /// Draws a batch at the samples of tile rows of a canvas whose upper left pixel is `origin` on the screen: in the

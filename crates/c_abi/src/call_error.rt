@@ -2,7 +2,6 @@ use crate::fault::Fault;
 use crate::status::Status;
 use grid::OutOfMemory;
 use model::{ReadFault, ReadKind};
-use std::alloc::AllocError;
 
 /// Why a call failed: its status, and of what is no draw list or no batch the first error in it.
 #[derive(Clone, Copy, Debug, PartialEq, Eq)]
@@ -73,18 +72,6 @@ impl From<OutOfMemory> for CallError {
     ghost from_gives = { λ _ error. error ≡ of_status OutOfMemory };
 
     fn from(_refused: OutOfMemory) -> CallError {
-        CallError::from(Status::OutOfMemory)
-    }
-}
-
-impl From<AllocError> for CallError {
-    ghost use Rattle.std.specs.Prelude.{◌≡◌};
-    ghost use Rattle.c_abi.specs.declared.status.Status.TheVariants.{OutOfMemory};
-    ghost use Rattle.c_abi.specs.Errors.{of_status};
-
-    ghost from_gives = { λ _ error. error ≡ of_status OutOfMemory };
-
-    fn from(_refused: AllocError) -> CallError {
         CallError::from(Status::OutOfMemory)
     }
 }

@@ -1,20 +1,22 @@
-ghost use Rattle.std.specs.Prelude.{◌≡◌, ◌≤◌, length, Some, IfOk};
+ghost use Rattle.std.specs.Prelude.{◌≡◌, ◌≤◌, true, false, length, Some, IfOk, MatchResult};
+ghost use Rattle.model.specs.declared.fault.ReadKind.TheVariants.{WrongKind};
 ghost use Rattle.serde_json.specs.View.{view, items_view};
 ghost use Rattle.model.specs.Json.{elements, count};
 ghost use Rattle.checking_reader.specs.Answer.{Answers};
-ghost use Rattle.model.specs.Checks.{array_checks, has_length as has_length_of};
+ghost use Rattle.model.specs.Checks.{array_checks, has_length};
 
 use model::ReadKind;
 use serde_json::Value;
 
-/// Whether the value is an array of exactly `count` elements.
+/// An error unless the value is an array of exactly `count` elements.
 #[tactic(auto, using(crate::proofs::ArrayElements::items_len_view))]
-pub(crate) fn has_length(value: &Value, count: usize) -> bool
-    ensures { result ≡ has_length_of count (Some (view value.now)) }
+pub(crate) fn check_length(value: &Value, count: usize) -> Result<(), ReadKind>
+    ensures { let has = has_length count (Some (view value.now)) in
+        MatchResult result (λ done. has ≡ true) (λ kind. (has ≡ false) × (kind ≡ WrongKind)) }
 {
     match value.as_array() {
-        Some(list) => list.len() == count,
-        None => false,
+        Some(list) if list.len() == count => Ok(()),
+        _ => Err(ReadKind::WrongKind),
     }
 }
 

@@ -9,7 +9,7 @@ ghost use Rattle.checking_reader.specs.Given.{given_triangles, given_strip, give
 ghost use Rattle.model.specs.Checks.{array_checks, part_checks, draw_value_checks, checks_before_vertices};
 ghost use Rattle.model.specs.Denotes.{IsVertex, IsPrimitives, IsArrayOf, IsDraw};
 
-use crate::keys::has_other;
+use crate::keys::check_keys;
 use crate::primitives::{PrimitiveArray, primitive_array, read_primitives};
 use crate::state::read_state;
 use crate::vertices::read_vertices;
@@ -57,11 +57,8 @@ pub(crate) fn read_draw(
         → first_fault (checks_before_vertices (view value.now)) ≡ None) }
     ensures room { IfOk result (λ d. earlier + count_of_triangles (primitive_listing d.primitives) ≤ MOST_TRIANGLES) }
 {
-    let Some(object) = value.as_object() else {
-        return Err(ReadKind::WrongKind);
-    };
-    if has_other(
-        object,
+    check_keys(
+        value,
         &[
             "cull",
             "depth_test",
@@ -75,9 +72,7 @@ pub(crate) fn read_draw(
             "strip",
             "quads",
         ],
-    ) {
-        return Err(ReadKind::UnknownKey);
-    }
+    )?;
     let Some(vertex_array) = value.get("vertices") else {
         return Err(ReadKind::MissingKey);
     };

@@ -6,8 +6,8 @@ ghost use Rattle.checking_reader.specs.Answer.{Answers};
 ghost use Rattle.model.specs.Checks.{where_there, size_checks, sample_count_checks, colour_checks, depth_checks, clear_checks, top_checks};
 ghost use Rattle.model.specs.Denotes.{OrDefault, IsSize, IsSampleCount, IsClearColour, IsDepthNumber};
 
-use crate::array::{array_of, has_length};
-use crate::keys::has_other;
+use crate::array::{array_of, check_length};
+use crate::keys::check_keys;
 use crate::number::{channel, depth, whole_number};
 use crate::word::output;
 use grid::SampleCount;
@@ -56,16 +56,11 @@ fn clear_colour(value: Option<&Value>) -> Result<Sample, ReadKind>
     let Some(value) = value else {
         return Ok(DEFAULT_CLEAR);
     };
-    if !has_length(value, 3) {
-        return Err(ReadKind::WrongKind);
-    }
-    let r = channel(value.get(0usize))?;
-    let g = channel(value.get(1usize))?;
-    let b = channel(value.get(2usize))?;
+    check_length(value, 3)?;
     Ok(Sample {
-        r,
-        g,
-        b,
+        r: channel(value.get(0usize))?,
+        g: channel(value.get(1usize))?,
+        b: channel(value.get(2usize))?,
         z: DEFAULT_CLEAR.z,
     })
 }
@@ -103,11 +98,8 @@ impl<'v> Header<'v> {
     pub(crate) fn read(value: &'v Value) -> Result<Header<'v>, ReadKind>
         ensures { Answers (top_checks (view value.now)) (IsHeader (view value.now)) result }
     {
-        let Some(object) = value.as_object() else {
-            return Err(ReadKind::WrongKind);
-        };
-        if has_other(
-            object,
+        check_keys(
+            value,
             &[
                 "width",
                 "height",
@@ -117,9 +109,7 @@ impl<'v> Header<'v> {
                 "output",
                 "draws",
             ],
-        ) {
-            return Err(ReadKind::UnknownKey);
-        }
+        )?;
         if value.get("width").is_none() || value.get("height").is_none() {
             return Err(ReadKind::MissingKey);
         }

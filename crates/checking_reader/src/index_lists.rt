@@ -6,7 +6,7 @@ ghost use Rattle.model.specs.Primitives.{strip_count as count_of_strip, quads_co
 ghost use Rattle.model.specs.Checks.{triangle_checks, triangles_checks, strip_index_checks, strip_checks, quad_checks_over, quads_checks};
 ghost use Rattle.model.specs.Denotes.{IsTriangle, IsStripIndex, IsQuad, IsArrayOf};
 
-use crate::array::{array_of, has_length};
+use crate::array::{array_of, check_length};
 use crate::elements::{ElementReader, elements_of};
 use crate::index::index;
 use model::{
@@ -32,9 +32,7 @@ impl ElementReader for TriangleReader {
 
     /// A triangle, by the indices of three of the vertices.
     fn read(&self, value: &Value) -> Result<[u32; 3], ReadKind> {
-        if !has_length(value, 3) {
-            return Err(ReadKind::WrongKind);
-        }
+        check_length(value, 3)?;
         let first = index(value.get(0usize), self.count)?;
         let second = index(value.get(1usize), self.count)?;
         let third = index(value.get(2usize), self.count)?;
@@ -122,9 +120,7 @@ impl ElementReader for QuadReader<'_> {
 
     /// A strictly convex quad, by the indices of four of the vertices.
     fn read(&self, value: &Value) -> Result<[u32; 4], ReadKind> {
-        if !has_length(value, 4) {
-            return Err(ReadKind::WrongKind);
-        }
+        check_length(value, 4)?;
         let count = self.vertices.len();
         let first = index(value.get(0usize), count)?;
         let second = index(value.get(1usize), count)?;

@@ -1,9 +1,14 @@
-ghost use Rattle.std.specs.Prelude.{◌≡◌, Some, map, not, bytes_eq, string_bytes};
+ghost use Rattle.std.specs.Prelude.{◌≡◌, [], ◌∷◌, false, map, not, is_none, IsSome, bytes_eq, string_bytes};
 ghost use Rattle.std.specs.BTreeMap.{keys};
 ghost use Rattle.std.specs.List.{list_any};
-ghost use Rattle.serde_json.specs.View.{members_view};
+ghost use Rattle.serde_json.specs.Find.{as_object};
+ghost use Rattle.serde_json.specs.View.{view};
+ghost use Rattle.model.specs.declared.fault.ReadKind.TheVariants.{UnknownKey, WrongKind};
+ghost use Rattle.model.specs.FirstFault.{check};
 ghost use Rattle.model.specs.Json.{has_other_key};
+ghost use Rattle.checking_reader.specs.Answer.{Answers};
 
+use model::ReadKind;
 use serde_json::{Map, Value};
 
 fn is_among(names: &[&str], key: &str) -> bool
@@ -19,10 +24,17 @@ fn has_key_beside(object: &Map<String, Value>, names: &[&str]) -> bool
     object.keys().any(|key| !is_among(names, key.as_str()))
 }
 
-/// Whether the object has a key that is not among the names.
-pub(crate) fn has_other(object: &Map<String, Value>, names: &[&str]) -> bool
-    ensures { let known = map (λ name. name.now) names.now in
-        result ≡ has_other_key known (Some (members_view object.now.entries)) }
+/// An error unless the value is an object, each of whose keys is among the names.
+pub(crate) fn check_keys(value: &Value, names: &[&str]) -> Result<(), ReadKind>
+    ensures { let known = map (λ name. name.now) names.now in let seen = as_object (view value.now) in
+        Answers (check (is_none seen) WrongKind ∷ check (has_other_key known seen) UnknownKey ∷ [])
+        (λ done. IsSome seen × (has_other_key known seen ≡ false)) result }
 {
-    has_key_beside(object, names)
+    let Some(object) = value.as_object() else {
+        return Err(ReadKind::WrongKind);
+    };
+    if has_key_beside(object, names) {
+        return Err(ReadKind::UnknownKey);
+    }
+    Ok(())
 }

@@ -4,7 +4,7 @@ ghost use Rattle.checking_reader.specs.Answer.{Answers};
 ghost use Rattle.model.specs.Checks.{where_there, truth_checks, write_mask_checks, sample_mask_checks, scissor_side_checks, scissor_checks, merge_checks, state_value_checks};
 ghost use Rattle.model.specs.Denotes.{OrDefault, IsTruth, IsWriteMask, IsSampleMaskNumber, IsScissorSide, IsScissor, IsMerge, IsState};
 
-use crate::array::has_length;
+use crate::array::check_length;
 use crate::number::whole_number;
 use crate::word::{blend, cull, depth_test};
 use grid::PixelBox;
@@ -41,13 +41,12 @@ fn write_mask(value: Option<&Value>) -> Result<[bool; 3], ReadKind>
     let Some(value) = value else {
         return Ok(DEFAULT_STATE.merge.write);
     };
-    if !has_length(value, 3) {
-        return Err(ReadKind::WrongKind);
-    }
-    let red = truth(value.get(0usize))?;
-    let green = truth(value.get(1usize))?;
-    let blue = truth(value.get(2usize))?;
-    Ok([red, green, blue])
+    check_length(value, 3)?;
+    Ok([
+        truth(value.get(0usize))?,
+        truth(value.get(1usize))?,
+        truth(value.get(2usize))?,
+    ])
 }
 
 /// Which samples a draw writes, bit s for sample s; the default if the key is absent. The number stays as it is read,
@@ -78,18 +77,12 @@ fn scissor(value: Option<&Value>, picture: PixelBox) -> Result<PixelBox, ReadKin
     let Some(value) = value else {
         return Ok(picture);
     };
-    if !has_length(value, 4) {
-        return Err(ReadKind::WrongKind);
-    }
-    let left = scissor_side(value.get(0usize))?;
-    let top = scissor_side(value.get(1usize))?;
-    let right = scissor_side(value.get(2usize))?;
-    let bottom = scissor_side(value.get(3usize))?;
+    check_length(value, 4)?;
     Ok(PixelBox {
-        x0: left,
-        y0: top,
-        x1: right,
-        y1: bottom,
+        x0: scissor_side(value.get(0usize))?,
+        y0: scissor_side(value.get(1usize))?,
+        x1: scissor_side(value.get(2usize))?,
+        y1: scissor_side(value.get(3usize))?,
     })
 }
 

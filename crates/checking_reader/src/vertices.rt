@@ -7,7 +7,7 @@ ghost use Rattle.model.specs.FirstFault.{first_fault};
 ghost use Rattle.model.specs.Checks.{array_checks, rgba_checks, vertex_checks, vertices_checks};
 ghost use Rattle.model.specs.Denotes.{IsChannel, IsVertex, IsArrayOf};
 
-use crate::array::{array_of, has_length};
+use crate::array::{array_of, check_length};
 use crate::elements::{ElementReader, elements_of};
 use crate::number::{channel, coordinate, depth};
 use grid::Point;
@@ -42,9 +42,7 @@ impl ElementReader for VertexReader {
 
     /// A vertex, written as [x, y, z, red, green, blue, alpha].
     fn read(&self, value: &Value) -> Result<Vertex, ReadKind> {
-        if !has_length(value, 7) {
-            return Err(ReadKind::WrongKind);
-        }
+        check_length(value, 7)?;
         let x = coordinate(value.get(0usize))?;
         let y = coordinate(value.get(1usize))?;
         let z = depth(value.get(2usize))?;

@@ -3,14 +3,14 @@ use Rattle.std.proofs.Common.{◌≡◌, ℕ, ◌<◌, List, [], ◌∷◌, drop
 use Rattle.std.proofs.lemmas.Bool.{false≢true}
 use Rattle.std.proofs.lemmas.List.{drop_all}
 use Rattle.json.specs.Token.{Token, begin_array, begin_object, end_array, end_object, key, string, number, boolean}
-use Rattle.json.specs.Lex.{Lexeme, token, comma, colon, between, lex, fresh, after_value, after_comma, begins_colon, punctuate}
+use Rattle.json.specs.Lex.{Lexeme, token, comma, colon, between, lex, fresh, after_value, after_comma, begins_colon, punctuate, class, operator, operator_lexeme}
 use Rattle.json.specs.Json.{after_end_array}
 use Rattle.cursor.specs.declared.place.Place.{Place}
 use Rattle.cursor.specs.declared.place.Place.TheVariants.{Fresh, AfterValue, AfterComma}
 use Rattle.json.specs.Word.{is_operator, is_space}
 use Rattle.cursor.specs.Lexed.{GoesOn, MayEnd}
 use Rattle.cursor.proofs.Lexing.{operator_lexed}
-use Rattle.cursor.specs.Tokens.{tokens_from, begins_at, closes_at}
+use Rattle.cursor.specs.Tokens.{tokens_from, begins_at, closes_at, IsOpening, opened_by}
 
 pub if_some : {A : Type 0} {P Q : A → Type 0} (found : Option A) → ((x : A) → P x → Q x) → IfSome found P → IfSome found Q
 if_some None f h = tt
@@ -32,7 +32,7 @@ opened_array Fresh ls e = refl
 opened_array AfterValue ls e = absurd (false≢true e)
 opened_array AfterComma ls e = refl
 
-pub array_opens : (p : Place) (text : List ℕ) (ls : List Lexeme) → begins_at p ≡ true → lex between text ≡ token begin_array ∷ ls → tokens_from p text ≡ begin_array ∷ punctuate fresh ls
+array_opens : (p : Place) (text : List ℕ) (ls : List Lexeme) → begins_at p ≡ true → lex between text ≡ token begin_array ∷ ls → tokens_from p text ≡ begin_array ∷ punctuate fresh ls
 array_opens p text ls may e = same p text _ e ∙ opened_array p ls may
 
 opened_object : (p : Place) (ls : List Lexeme) → begins_at p ≡ true → tokens_of p (token begin_object ∷ ls) ≡ begin_object ∷ punctuate fresh ls
@@ -41,8 +41,17 @@ opened_object Fresh ls e = refl
 opened_object AfterValue ls e = absurd (false≢true e)
 opened_object AfterComma ls e = refl
 
-pub object_opens : (p : Place) (text : List ℕ) (ls : List Lexeme) → begins_at p ≡ true → lex between text ≡ token begin_object ∷ ls → tokens_from p text ≡ begin_object ∷ punctuate fresh ls
+object_opens : (p : Place) (text : List ℕ) (ls : List Lexeme) → begins_at p ≡ true → lex between text ≡ token begin_object ∷ ls → tokens_from p text ≡ begin_object ∷ punctuate fresh ls
 object_opens p text ls may e = same p text _ e ∙ opened_object p ls may
+
+pub opening_operator : (mark : ℕ) → IsOpening mark → (0 < mark) × (class mark ≡ operator)
+opening_operator mark (inl e) = (omega (arith, e), ap class e)
+opening_operator mark (inr e) = (omega (arith, e), ap class e)
+
+pub opens : (mark : ℕ) (p : Place) (text : List ℕ) (ls : List Lexeme) → IsOpening mark → begins_at p ≡ true → lex between text ≡ operator_lexeme mark ∷ ls
+    → tokens_from p text ≡ opened_by mark ∷ punctuate fresh ls
+opens mark p text ls (inl e) may is = array_opens p text ls may (is ∙ ap (λ m. operator_lexeme m ∷ ls) e) ∙ ap (λ m. opened_by m ∷ punctuate fresh ls) (sym e)
+opens mark p text ls (inr e) may is = object_opens p text ls may (is ∙ ap (λ m. operator_lexeme m ∷ ls) e) ∙ ap (λ m. opened_by m ∷ punctuate fresh ls) (sym e)
 
 closed_array : (p : Place) (ls : List Lexeme) → closes_at p ≡ true → tokens_of p (token end_array ∷ ls) ≡ end_array ∷ punctuate after_value ls
 unfolding punctuate

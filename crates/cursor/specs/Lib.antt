@@ -14,6 +14,8 @@
 --   tokens_from: The tokens of a text from a place on.
 --   begins_at: Whether a value or a key may begin at a place.
 --   closes_at: Whether a closing bracket may stand at a place.
+--   IsOpening: The byte opens an array or an object.
+--   opened_by: The token of a byte that opens an array or an object.
 --
 -- Eight.antt
 --   offset: The byte less `0` of ASCII, modulo 256.

@@ -12,7 +12,7 @@ ghost use Rattle.cursor.specs.Row.{IsAhead, TookRow};
 
 use crate::eight::{number, offsets_at};
 use crate::integer::signed;
-use crate::lexeme::{close_array, open_array};
+use crate::lexeme::{close_array, open};
 use crate::place::Place;
 use std::simd::prelude::*;
 
@@ -231,8 +231,7 @@ pub(crate) fn three(
         (pos row.0.0 ∷ pos row.0.1 ∷ pos row.0.2 ∷ [])
         (tokens_from row.1 (drop row.2 bytes.now)) × (row.2 ≤ length bytes.now)) }
 {
-    let from = open_array(bytes, at, place)?;
-    let ahead = look_ahead(bytes, from)?;
+    let ahead = look_ahead(bytes, open(bytes, at, place, b'[')?)?;
     let (first, ahead) = natural(bytes, ahead, false)?;
     let (has_gap, ahead) = pass_gap(bytes, ahead);
     let (second, ahead) = natural(bytes, ahead, has_gap)?;
@@ -251,8 +250,7 @@ pub(crate) fn seven(bytes: &[u8], at: usize, place: Place) -> Option<(Seven, Pla
         (row.0.0 ∷ row.0.1 ∷ pos row.0.2 ∷ pos row.0.3 ∷ pos row.0.4 ∷ pos row.0.5 ∷ pos row.0.6 ∷ [])
         (tokens_from row.1 (drop row.2 bytes.now)) × (row.2 ≤ length bytes.now)) }
 {
-    let from = open_array(bytes, at, place)?;
-    let ahead = look_ahead(bytes, from)?;
+    let ahead = look_ahead(bytes, open(bytes, at, place, b'[')?)?;
     let (first, ahead) = integer(bytes, ahead, false)?;
     let (has_gap, ahead) = pass_gap(bytes, ahead);
     let (second, ahead) = integer(bytes, ahead, has_gap)?;

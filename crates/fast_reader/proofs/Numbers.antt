@@ -32,7 +32,10 @@ pub took_also : {X Y : Type 0} (levels : ℕ) (Is : Data → X → Type 0) (Also
     → Took levels Is old x new → Took levels Also old y new
 took_also levels Is Also old new x y f t = record { seen = t.seen; is = f t.seen t.is; read = t.read }
 
-pub took_text : (s : List ℕ) (old new : List Token) → old ≡ Token.string s ∷ new → Took 0 (λ d t. text (Some d) ≡ Some t) old s new
+abbrev pub Text : Data → List ℕ → Type 0
+Text d t = text (Some d) ≡ Some t
+
+pub took_text : (s : List ℕ) (old new : List Token) → old ≡ Token.string s ∷ new → Took 0 Text old s new
 took_text s old new first = record {
   seen = string s;
   is = refl;

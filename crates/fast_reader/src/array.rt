@@ -4,7 +4,7 @@ ghost use Rattle.json.specs.Json.{read_key};
 ghost use Rattle.model.specs.Denotes.{IsClearColour, IsWriteMask, IsScissorSide, IsScissor};
 ghost use Rattle.fast_reader.specs.Took.{Took};
 
-use crate::number::{take_between, take_channel};
+use crate::number::{channel, take_between};
 use crate::word::take_truth;
 use cursor::Cursor;
 use grid::PixelBox;
@@ -36,16 +36,8 @@ pub(crate) fn take_key<'a>(reader: &mut Cursor<'a>) -> Option<Option<&'a str>>
 pub(crate) fn take_colour(reader: &mut Cursor<'_>) -> Option<[u8; 3]>
     ensures { IfSome result (λ c. Took 1 (λ d c. IsClearColour (Some d) c) reader.old c reader.new) }
 {
-    if !take_begin_array(reader) {
-        return None;
-    }
-    let red = take_channel(reader)?;
-    let green = take_channel(reader)?;
-    let blue = take_channel(reader)?;
-    if !reader.take_end_array() {
-        return None;
-    }
-    Some([red, green, blue])
+    let (red, green, blue) = reader.take_three()?;
+    Some([channel(red)?, channel(green)?, channel(blue)?])
 }
 
 /// Takes which channels are written, as [red, green, blue].
@@ -55,13 +47,15 @@ pub(crate) fn take_write_mask(reader: &mut Cursor<'_>) -> Option<[bool; 3]>
     if !take_begin_array(reader) {
         return None;
     }
-    let red = take_truth(reader)?;
-    let green = take_truth(reader)?;
-    let blue = take_truth(reader)?;
+    let mask = [
+        take_truth(reader)?,
+        take_truth(reader)?,
+        take_truth(reader)?,
+    ];
     if !reader.take_end_array() {
         return None;
     }
-    Some([red, green, blue])
+    Some(mask)
 }
 
 /// Takes a side of a scissor, in pixels.
@@ -78,17 +72,14 @@ pub(crate) fn take_scissor(reader: &mut Cursor<'_>) -> Option<PixelBox>
     if !take_begin_array(reader) {
         return None;
     }
-    let left = take_scissor_side(reader)?;
-    let top = take_scissor_side(reader)?;
-    let right = take_scissor_side(reader)?;
-    let bottom = take_scissor_side(reader)?;
+    let scissor = PixelBox {
+        x0: take_scissor_side(reader)?,
+        y0: take_scissor_side(reader)?,
+        x1: take_scissor_side(reader)?,
+        y1: take_scissor_side(reader)?,
+    };
     if !reader.take_end_array() {
         return None;
     }
-    Some(PixelBox {
-        x0: left,
-        y0: top,
-        x1: right,
-        y1: bottom,
-    })
+    Some(scissor)
 }

@@ -1,6 +1,5 @@
 //! The arrays of a draw, each element taken as what its array is of.
-ghost use Rattle.std.specs.Prelude.{suc, IfSome, Some, ◌∷◌};
-ghost use Rattle.json.specs.Token.{begin_array};
+ghost use Rattle.std.specs.Prelude.{suc, IfSome, Some};
 ghost use Rattle.model.specs.Denotes.{IsArrayOf};
 ghost use Rattle.fast_reader.specs.Took.{Took};
 
@@ -27,30 +26,6 @@ pub(crate) trait ElementReader {
         ensures { IfSome result (λ found. Took levels (denotes self.now) reader.old found reader.new) };
 }
 
-/// Takes the elements of an array whose bracket was taken, and the bracket that closes it.
-fn take_elements<R: ElementReader>(
-    alloc: Global,
-    reader: &mut Cursor<'_>,
-    most: usize,
-    elements: &R,
-) -> Option<Vec<R::Element>>
-    ensures { IfSome result (λ found. Took (suc R.levels) (λ d xs. IsArrayOf most (R.denotes elements.now) (Some d) xs)
-        (begin_array ∷ reader.old) found.items reader.new) }
-{
-    let mut found = Vec::new(alloc);
-    'elements: while !reader.take_end_array() {
-        if found.len() >= most {
-            return None;
-        }
-        let element = elements.take(reader)?;
-        if found.push(element).is_err() {
-            return None;
-        }
-    }
-    found.shrink_to_fit();
-    Some(found)
-}
-
 /// Takes an array of at most `most` elements.
 pub(crate) fn take_array<R: ElementReader>(
     alloc: Global,
@@ -64,5 +39,16 @@ pub(crate) fn take_array<R: ElementReader>(
     if !take_begin_array(reader) {
         return None;
     }
-    take_elements(alloc, reader, most, elements)
+    let mut found = Vec::new(alloc);
+    'elements: while !reader.take_end_array() {
+        if found.len() >= most {
+            return None;
+        }
+        let element = elements.take(reader)?;
+        if found.push(element).is_err() {
+            return None;
+        }
+    }
+    found.shrink_to_fit();
+    Some(found)
 }

@@ -1,5 +1,5 @@
 ghost use Rattle.std.specs.Prelude.{◌≡◌, ◌≤◌, ◌<◌, IfSome, Some};
-ghost use Rattle.model.specs.Denotes.{IsIntegerWithin, IsDepthNumber, IsChannel, IsIndex, IsSize, IsSampleMaskNumber, IsSampleCount};
+ghost use Rattle.model.specs.Denotes.{IsIntegerWithin, IsDepthNumber, IsIndex, IsSize, IsSampleMaskNumber, IsSampleCount};
 ghost use Rattle.fast_reader.specs.Took.{Took, IsNumber};
 
 use cursor::Cursor;
@@ -82,15 +82,6 @@ pub(super) fn take_depth(reader: &mut Cursor<'_>) -> Option<u16>
 {
     let number = reader.take_natural()?;
     depth(number)
-}
-
-/// Takes a colour channel or an alpha.
-#[inline(always)]
-pub(super) fn take_channel(reader: &mut Cursor<'_>) -> Option<u8>
-    ensures { IfSome result (λ n. Took 0 (λ d n. IsChannel (Some d) n) reader.old n reader.new) }
-{
-    let number = reader.take_natural()?;
-    channel(number)
 }
 
 /// Takes the index of one of `count` vertices.

@@ -6,7 +6,7 @@ ghost use Rattle.painting.specs.Batches.{HasColours, shape_in, shapes_of};
 ghost use Rattle.painting.specs.Painting.{ArePainted, IsOriginInBand, shape_of};
 
 use crate::polygon::Polygon;
-use crate::rows::draw_by_runs;
+use crate::rows::paint_rows;
 use canvas::{Origin, Piece, colour_of_id, replacing};
 use polygons::{Counters, Flags, Polygons, Rule, Runs};
 use shade::State;
@@ -85,6 +85,14 @@ pub fn draw_polygons(
     let mut runs = Runs::none();
     for number in 0..polygons.count() {
         let polygon = paints.polygon(polygons, number);
-        draw_by_runs(piece, &polygon, origin, &mut runs, flags, counters);
+        paint_rows(
+            &piece.rows,
+            &polygon,
+            origin,
+            &mut runs,
+            flags,
+            counters,
+            piece.planes,
+        );
     }
 }

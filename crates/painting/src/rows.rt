@@ -11,8 +11,8 @@ use canvas::{Origin, Piece, TileRows};
 use lanes::{BlockSamples, Interpolants};
 use polygons::{Counters, Flags, Runs};
 
-/// Draws the polygon at each sample of these tile rows.
-fn paint_rows(
+/// Draws the polygon at each sample of these tile rows, with memory for the boxes of runs of corners, whatever is in it.
+pub(crate) fn paint_rows(
     rows: &TileRows,
     polygon: &Polygon<'_>,
     origin: &Origin,
@@ -81,35 +81,11 @@ pub fn draw_polygon(
     ensures counters { AreZeros counters.new }
 {
     let mut runs = Runs::none();
-    draw_by_runs(piece, polygon, origin, &mut runs, flags, counters);
-}
-
-/// Draws the polygon as `draw_polygon` does, with memory for the boxes of runs of corners, whatever is in it.
-pub(crate) fn draw_by_runs(
-    piece: &mut Piece<'_>,
-    polygon: &Polygon<'_>,
-    origin: &Origin,
-    runs: &mut Runs,
-    flags: &mut [Flags],
-    counters: &mut [Counters],
-)
-    requires origin { IsOriginInBand origin.now }
-    requires columns { 8 * columns_of piece.old.rows.canvas ≤ length flags.old }
-    requires flags { AreZeros flags.old }
-    requires counters { AreZeros counters.old }
-    requires counted { HasCounters polygon.now.rule flags.old counters.old }
-    ensures painted { ArePainted (shape_of polygon.now ∷ []) origin.now piece.old.rows.canvas piece.old.rows.first
-        piece.old.rows.end piece.old.planes.now piece.new.planes.now }
-    ensures rows { piece.new.rows ≡ piece.old.rows }
-    ensures same { piece.new.planes.ghost_name ≡ piece.old.planes.ghost_name }
-    ensures flags { AreZeros flags.new }
-    ensures counters { AreZeros counters.new }
-{
     paint_rows(
         &piece.rows,
         polygon,
         origin,
-        runs,
+        &mut runs,
         flags,
         counters,
         piece.planes,

@@ -1,7 +1,6 @@
 //! The samples of a tile row, in columns of blocks.
-ghost use Rattle.std.specs.Prelude.{◌≡◌, ◌+◌, ◌*◌, ◌<◌, ◌≤◌, List, length};
+ghost use Rattle.std.specs.Prelude.{◌≡◌, ◌+◌, ◌*◌, ◌<◌, ◌≤◌, length};
 ghost use Rattle.grid.specs.Samples.{IsPart};
-ghost use Rattle.lanes.specs.declared.block_samples.BlockSamples.{BlockSamples as BlockPlanes};
 ghost use Rattle.canvas.specs.Layout.{columns_of, rows_of, planes_of_row};
 ghost use Rattle.painting.specs.Parts.{CoversScreen, IsAlikeOverScreen, IsFlagged, RowsPaint};
 
@@ -12,62 +11,8 @@ use lanes::{BlockSamples, Interpolants};
 use polygons::Flags;
 
 /// Draws a triangle that covers the screen, in one colour and at one depth, at those samples of a tile row whose bits
-/// are set in column `k` of its bits, or in the eight columns of a tile from there on that is drawn whole. Returns the
-/// column behind.
-fn paint_some(
-    canvas: &Canvas,
-    row: u32,
-    first: u32,
-    from: u32,
-    triangle: &Interpolants,
-    flags: &[Flags],
-    k: usize,
-    samples: &mut [BlockSamples],
-) -> usize
-    requires row { row < rows_of canvas.now }
-    requires columns { first + length flags.now ≤ 8 * columns_of canvas.now }
-    requires part { IsPart canvas.now.count from }
-    requires covers { CoversScreen triangle.now }
-    requires alike { IsAlikeOverScreen triangle.now }
-    requires column { k < length flags.now }
-    requires samples { length samples.old ≡ planes_of_row canvas.now }
-    ensures moves { k < result }
-    ensures within { result ≤ length flags.now }
-    ensures painted { (start : List BlockPlanes) → RowsPaint triangle.now canvas.now row (row + 1)
-        (IsFlagged triangle.now.state canvas.now.count first from k flags.now) start samples.old →
-        RowsPaint triangle.now canvas.now row (row + 1)
-        (IsFlagged triangle.now.state canvas.now.count first from result flags.now) start samples.new }
-{
-    let each = canvas.planes_of_tile();
-    let bx = first + k as u32;
-    let tile = canvas.tile(bx / 8, row);
-    let at = (bx / 8) as usize * each;
-    if is_whole(
-        triangle,
-        &tile,
-        bx,
-        k,
-        flags,
-        canvas.count,
-        &samples[at..at + each],
-    ) {
-        paint_whole(triangle, &tile, from, &mut samples[at..at + each]);
-        k + 8
-    } else {
-        paint_column(
-            triangle,
-            &tile,
-            bx,
-            from,
-            &flags[k],
-            &mut samples[at..at + each],
-        );
-        k + 1
-    }
-}
-
-/// Draws a triangle that covers the screen, in one colour and at one depth, at those samples of a tile row whose bits
-/// are set, of the part that begins with sample `from`. There are bits of columns of blocks from column `first` on.
+/// are set, of the part that begins with sample `from`. There are bits of columns of blocks from column `first` on. The
+/// eight columns of a tile that is drawn whole are drawn at once.
 pub(crate) fn paint_strip(
     canvas: &Canvas,
     row: u32,
@@ -86,8 +31,33 @@ pub(crate) fn paint_strip(
     ensures { RowsPaint triangle.now canvas.now row (row + 1)
         (IsFlagged triangle.now.state canvas.now.count first from (length flags.now) flags.now) samples.old samples.new }
 {
+    let each = canvas.planes_of_tile();
     let mut k = 0;
     while k < flags.len() {
-        k = paint_some(canvas, row, first, from, triangle, flags, k, samples);
+        let bx = first + k as u32;
+        let tile = canvas.tile(bx / 8, row);
+        let at = (bx / 8) as usize * each;
+        if is_whole(
+            triangle,
+            &tile,
+            bx,
+            k,
+            flags,
+            canvas.count,
+            &samples[at..at + each],
+        ) {
+            paint_whole(triangle, &tile, from, &mut samples[at..at + each]);
+            k += 8;
+        } else {
+            paint_column(
+                triangle,
+                &tile,
+                bx,
+                from,
+                &flags[k],
+                &mut samples[at..at + each],
+            );
+            k += 1;
+        }
     }
 }

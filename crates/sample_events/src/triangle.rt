@@ -5,6 +5,7 @@ ghost use Rattle.sample_events.specs.Triangles.{HoldsCounts, samples_checks};
 
 use crate::text::list_of;
 use c_abi::{CallError, Status};
+use grid::OutOfMemory;
 use list_history::{counts_of, number_of as number_in};
 use model::TrianglePlace;
 use std::alloc::Global;
@@ -37,7 +38,7 @@ pub fn write_triangle_samples(
     let Some(number) = number_in(&list, place) else {
         return Err(CallError::from(Status::BadTriangle));
     };
-    let counts = counts_of(alloc, &list, number)?;
+    let counts = counts_of(alloc, &list, number).map_err(OutOfMemory::from)?;
     *samples = TriangleSamples {
         covered: counts.covered,
         changed: counts.changed,

@@ -13,6 +13,7 @@ use grid::TileSide;
 use list::DrawList;
 use sample_events::list_of;
 use std::alloc::Global;
+use std::ops::Range;
 use tiling::Tiling;
 use trirast::draw_rows;
 
@@ -35,15 +36,15 @@ fn draw_rows_into(
     alloc: Global,
     json: &[u8],
     tile_size: u32,
-    first: u32,
-    end: u32,
+    rows: Range<u32>,
     buffer: &mut [u8],
 ) -> Result<(), CallError>
-    ensures drawn { OnOk result (DrawsRows (Denotes json.now) tile_size first end buffer.old buffer.new) }
+    ensures drawn { OnOk result (DrawsRows (Denotes json.now) tile_size rows.start rows.end buffer.old buffer.new) }
     ensures kept { OnErr result (buffer.new ≡ buffer.old) }
-    ensures judged { IsCall (rows_checks json.now tile_size first end (length buffer.old)) (IsFirstOfText json.now)
-        (λ done. ⊤) result }
+    ensures judged { IsCall (rows_checks json.now tile_size rows.start rows.end (length buffer.old))
+        (IsFirstOfText json.now) (λ done. ⊤) result }
 {
+    let Range { start: first, end } = rows;
     let side = side_of(tile_size)?;
     let list = list_of(alloc, json)?;
     if first >= end || end > Tiling::new(list.width(), list.height(), side).rows() {
@@ -76,7 +77,7 @@ pub extern "C" fn trirast_proved_list_draw_rows(
         result error.new }
 {
     report(
-        draw_rows_into(alloc, json, tile_size, first, end, buffer),
+        draw_rows_into(alloc, json, tile_size, first..end, buffer),
         error,
     )
 }

@@ -9,7 +9,7 @@ use Rattle.cursor.proofs.row.three.Goals as goal
 pub returns : goal.returns
 returns c =
     let text = c.args.bytes.now in
-    let opens = c.in_ok-from.ensures.0 ∙ ap (λ k. begin_array ∷ tokens_from Fresh (drop k text)) (sym c.in_ok-ahead.ensures.0) in
+    let opens = c.in_ok-open.ensures.0 ∙ ap (λ k. begin_array ∷ tokens_from Fresh (drop k text)) (sym c.in_ok-ahead.ensures.0) in
     let gap = ap (punctuate after_comma) (sym c.pass_gap-has_gap.ensures.same) in
     let last = c.in_ok-third.ensures.0 AfterComma refl in (
       record {

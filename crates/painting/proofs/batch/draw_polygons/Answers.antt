@@ -12,16 +12,16 @@ loop-number-preserved c =
     let rows = c.args.piece.now.rows in
     let origin = c.args.origin.now in
     let mid = c.loop-number.piece.planes.now in
-    let new = c.draw_by_runs.new.piece.planes.now in
-    let there = subst (λ (p : Shape). ArePainted (p ∷ []) origin c.loop-number.piece.rows.canvas c.loop-number.piece.rows.first c.loop-number.piece.rows.end mid new) c.polygon-polygon.ensures c.draw_by_runs.ensures.painted in
+    let new = c.paint_rows.new.samples in
+    let there = subst (λ (p : Shape). ArePainted (p ∷ []) origin c.loop-number.piece.rows.canvas c.loop-number.piece.rows.first c.loop-number.piece.rows.end mid new) c.polygon-polygon.ensures c.paint_rows.ensures.painted in
     let shape = shape_in c.args.polygons.now c.args.paints.now c.loop-number.number in
     let one = subst (λ (r : TileRows). ArePainted (shape ∷ []) origin r.canvas r.first r.end mid new) v.rows there in
     record {
-      rows = c.draw_by_runs.ensures.rows ∙ v.rows;
-      same = c.draw_by_runs.ensures.same ∙ v.same;
+      rows = v.rows;
+      same = v.same;
       painted = painted_more (shape_in c.args.polygons.now c.args.paints.now) c.loop-number.number origin rows.canvas rows.first rows.end c.args.piece.now.planes.now mid new v.painted one;
-      flags = c.draw_by_runs.ensures.flags;
-      counters = c.draw_by_runs.ensures.counters;
+      flags = c.paint_rows.ensures.flags;
+      counters = c.paint_rows.ensures.counters;
     }
 
 pub returns-clause-painted : goal.returns-clause-painted

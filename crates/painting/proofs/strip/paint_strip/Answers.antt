@@ -1,6 +1,10 @@
-use Rattle.std.proofs.Common.{◌≡◌, ℕ, ◌+◌, subst, length, arith}
+use Rattle.std.proofs.Common.{rules, ◌≡◌, refl, ℕ, ◌+◌, ◌-◌, ◌*◌, ◌/◌, ◌<◌, ap, subst, length, arith}
+use Rattle.canvas.specs.Layout.{columns_of, planes_of_tile}
+use Rattle.canvas.proofs.Places.{part_within}
 use Rattle.painting.specs.Parts.{IsFlagged, RowsPaint}
 use Rattle.painting.proofs.Joined.{rows_none}
+use Rattle.painting.proofs.Strips.{one_column_more}
+use Rattle.painting.proofs.WholeTiles.{one_tile_more}
 use Rattle.painting.proofs.strip.paint_strip.Goals as goal
 
 pub loop-k-init : goal.loop-k-init
@@ -9,14 +13,64 @@ loop-k-init c =
     let canvas = c.args.canvas.now in
     record {
       within = omega arith;
+      samples = refl;
       painted = rows_none t canvas c.args.row (c.args.row + 1) (IsFlagged t.state canvas.count c.args.first c.args.from 0 c.args.flags.now) c.args.samples.now (λ i j s h p. omega (arith, p.left, p.right));
     }
 
+pub paint_whole-requires-clause-scissor : goal.paint_whole-requires-clause-scissor
+paint_whole-requires-clause-scissor c = c.if-is_whole.ensures.scissor refl
+
+pub slice_bounds-is_whole-end : goal.slice_bounds-is_whole-end
+slice_bounds-is_whole-end c =
+    let v = c.loop-k.invariant in
+    let canvas = c.args.canvas.now in
+    let k : ℕ = c.loop-k.k in
+    let bx : ℕ = c.args.first + k in
+    let each : ℕ = c.planes_of_tile-each.result in
+    let a : ℕ = bx / 8 * each in
+    let column : bx / 8 < columns_of canvas = omega (arith, c.loop-k-test.true, c.requires.columns) in
+    let at : a ≡ bx / 8 * planes_of_tile canvas.count = ap (λ n. bx / 8 * n) c.planes_of_tile-each.ensures.value in
+    let room = part_within (bx / 8) (columns_of canvas) (planes_of_tile canvas.count) column in
+    omega (arith, room, at, c.planes_of_tile-each.ensures.value, v.samples, c.requires.samples)
+
+pub loop-k-preserved-then-is_whole : goal.loop-k-preserved-then-is_whole
+loop-k-preserved-then-is_whole c =
+    let v = c.loop-k.invariant in
+    let canvas = c.args.canvas.now in
+    let k : ℕ = c.loop-k.k in
+    let bx : ℕ = c.args.first + k in
+    let each : ℕ = c.planes_of_tile-each.result in
+    let a : ℕ = bx / 8 * each in
+    let column : bx / 8 < columns_of canvas = omega (arith, c.loop-k-test.true, c.requires.columns) in
+    let many : a + each - a ≡ planes_of_tile canvas.count = omega (arith, c.planes_of_tile-each.ensures.value) in
+    let at : a ≡ bx / 8 * planes_of_tile canvas.count = ap (λ n. bx / 8 * n) c.planes_of_tile-each.ensures.value in
+    let room = part_within (bx / 8) (columns_of canvas) (planes_of_tile canvas.count) column in
+    let whole = c.if-is_whole.ensures in
+    record {
+      within = whole.columns refl;
+      samples = search rules;
+      painted = one_tile_more c.args.triangle.now canvas c.args.row c.args.first c.args.from k c.args.flags.now c.tile-tile.result c.tile-tile.ensures (whole.begins refl) (whole.full refl) c.args.samples.now c.loop-k.samples c.paint_whole.new.samples (a + each - a) a
+          (omega (arith, room, many, at, v.samples, c.requires.samples)) (omega (arith, c.paint_whole.auto.samples, room, many, at, v.samples, c.requires.samples)) many at v.painted c.paint_whole.ensures;
+    }
+
 pub loop-k-preserved : goal.loop-k-preserved
-loop-k-preserved c = record {
-  within = c.paint_some-k.ensures.within;
-  painted = c.paint_some-k.ensures.painted c.args.samples.now c.loop-k.invariant.painted;
-}
+loop-k-preserved c =
+    let v = c.loop-k.invariant in
+    let canvas = c.args.canvas.now in
+    let k : ℕ = c.loop-k.k in
+    let bx : ℕ = c.args.first + k in
+    let each : ℕ = c.planes_of_tile-each.result in
+    let a : ℕ = bx / 8 * each in
+    let column : bx / 8 < columns_of canvas = omega (arith, c.loop-k-test.true, c.requires.columns) in
+    let many : a + each - a ≡ planes_of_tile canvas.count = omega (arith, c.planes_of_tile-each.ensures.value) in
+    let at : a ≡ bx / 8 * planes_of_tile canvas.count = ap (λ n. bx / 8 * n) c.planes_of_tile-each.ensures.value in
+    let room = part_within (bx / 8) (columns_of canvas) (planes_of_tile canvas.count) column in
+    record {
+      within = omega (arith, c.loop-k-test.true);
+      samples = search rules;
+      painted = one_column_more c.args.triangle.now canvas c.args.row c.args.first c.args.from k c.args.flags.now c.tile-tile.result c.tile-tile.ensures c.args.samples.now c.loop-k.samples c.paint_column.new.samples (a + each - a) a
+          (omega (arith, room, many, at, v.samples, c.requires.samples)) (omega (arith, c.paint_column.auto.samples, room, many, at, v.samples, c.requires.samples)) many at v.painted c.paint_column.ensures;
+    }
 
 pub returns : goal.returns
 returns c =

@@ -1,10 +1,11 @@
-use Rattle.std.proofs.Common.{◌+◌, ◌-◌, ◌≤◌, length}
+use Rattle.std.proofs.Common.{◌≡◌, ◌+◌, ◌-◌, ◌≤◌, length}
 use Rattle.painting.specs.Parts.{IsFlagged, RowsPaint}
 use Rattle.painting.proofs.strip.paint_strip.Given as goal
 
 abbrev pub invariant-loop-k : goal.invariant-loop-k
 invariant-loop-k l = record {
   within : l.k ≤ length l.flags;
+  samples : length l.samples ≡ length l.fn.samples;
   painted : RowsPaint l.triangle l.canvas l.row (l.row + 1) (IsFlagged l.triangle.state l.canvas.count l.first l.from l.k l.flags) l.fn.samples l.samples;
 }
 

@@ -11,7 +11,7 @@ pub returns-then-first-end-clause-judged : goal.returns-then-first-end-clause-ju
 returns-then-first-end-clause-judged c =
     let side = c.in_ok-side.ensures in
     let read = c.in_ok-list.ensures in
-    let lacks : ¬ HasTileRows c.in_ok-list.list c.in_ok-side.side c.args.first c.args.end = elim c.then-first-end.branch [
+    let lacks : ¬ HasTileRows c.in_ok-list.list c.in_ok-side.side c.args.rows.start c.args.rows.end = elim c.then-first-end.branch [
       | then-first-end-via-then-first-end w ↦ λ has. omega (arith, has.0, w.if-first-end.true)
       | then-first-end-via-else-first-end+then-end-rows w ↦ λ has. omega (arith, has.1, w.if-end-rows.true, rw (w.new.ensures, w.height.ensures.value) at w.rows.ensures.value)
     ] in
@@ -25,10 +25,10 @@ returns-then-bytes_of_rows-buffer-clause-judged c =
     let side = c.in_ok-side.ensures in
     let read = c.in_ok-list.ensures in
     let list = c.in_ok-list.list in
-    let has : HasTileRows list c.in_ok-side.side c.args.first c.args.end = search rules in
-    let each : (l : Scene) (s : TileSide) → Denotes c.args.json.now l → side_of s ≡ c.args.tile_size → HasTileRows l s c.args.first c.args.end =
-    λ l s means is. (has.0, subst (λ n. c.args.end ≤ (l.height + n - 1) / n) (side.1 ∙ sym is) (subst (λ (m : Scene). c.args.end ≤ (m.height + side_of c.in_ok-side.side - 1) / side_of c.in_ok-side.side) (read.only l means) has.1)) in
-    let longer : ¬ (rows_length list c.in_ok-side.side c.args.first c.args.end ≤ length c.args.buffer.now) = λ fits.
+    let has : HasTileRows list c.in_ok-side.side c.args.rows.start c.args.rows.end = search rules in
+    let each : (l : Scene) (s : TileSide) → Denotes c.args.json.now l → side_of s ≡ c.args.tile_size → HasTileRows l s c.args.rows.start c.args.rows.end =
+    λ l s means is. (has.0, subst (λ n. c.args.rows.end ≤ (l.height + n - 1) / n) (side.1 ∙ sym is) (subst (λ (m : Scene). c.args.rows.end ≤ (m.height + side_of c.in_ok-side.side - 1) / side_of c.in_ok-side.side) (read.only l means) has.1)) in
+    let longer : ¬ (rows_length list c.in_ok-side.side c.args.rows.start c.args.rows.end ≤ length c.args.buffer.now) = λ fits.
     let small : c.bytes_of_rows.result ≤ length c.args.buffer.now = rw c.bytes_of_rows.ensures.length fits in
     omega (arith, small, c.if-bytes_of_rows-buffer.true) in
     rw c.from-then-bytes_of_rows-buffer.ensures (record {

@@ -1,6 +1,6 @@
 use Rattle.std.proofs.Common.{◌≤◌, length, vec_len}
 use Rattle.fast_reader.specs.Took.{TookEach}
-use Rattle.fast_reader.proofs.elements.take_elements.Given as goal
+use Rattle.fast_reader.proofs.elements.take_array.Given as goal
 
 abbrev pub invariant-elements : goal.invariant-elements
 invariant-elements g l = record {
