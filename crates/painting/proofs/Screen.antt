@@ -1,5 +1,7 @@
 -- The triangle that covers the screen, and what it makes of a sample.
-use Rattle.std.proofs.Common.{◌≡◌, inl, refl, subst, arith, ℕ, ◌+◌, ◌*◌, ◌<◌, slice_index, ℤ, pos, negsuc, ◌-ℤ◌, ◌*ℤ◌, ◌<ℤ◌}
+use Rattle.std.proofs.Common.{◌≡◌, ◌∙◌, inl, inr, refl, sym, ap, subst, arith, Bool, false, true, ℕ, ◌+◌, ◌*◌, ◌<◌, slice_index, ℤ, pos, negsuc, ◌-ℤ◌, ◌*ℤ◌, ◌<ℤ◌}
+use Rattle.std.specs.Prelude.{if◌then◌else◌, slice_index_or}
+use Rattle.std.proofs.lemmas.Bool.Decides.{eqb_tells}
 use Rattle.std.proofs.lemmas.Int.{ints}
 use Rattle.grid.specs.Edge.{side}
 use Rattle.grid.specs.Position.{Position}
@@ -7,6 +9,15 @@ use Rattle.grid.specs.Samples.{offsets_x, offsets_y, sample_position}
 use Rattle.grid.specs.Triangle.{Covers}
 use Rattle.grid.specs.declared.sample_count.SampleCount.{SampleCount}
 use Rattle.grid.proofs.Sign.{mul_positive}
+use Rattle.shade.specs.declared.equation.Equation.{Equation}
+use Rattle.shade.specs.declared.equation.BlendOperation.{BlendOperation}
+use Rattle.shade.specs.declared.factor.BlendFactor.{BlendFactor}
+use Rattle.shade.specs.declared.factor.BlendFactor.TheVariants.{Zero, One, SourceColour, InverseSourceColour, SourceAlpha, InverseSourceAlpha, StoredAlpha, InverseStoredAlpha, StoredColour, InverseStoredColour, SourceAlphaSaturated, Constant, InverseConstant}
+use Rattle.shade.specs.declared.operands.Channel.TheVariants.{Colour}
+use Rattle.shade.specs.declared.operands.Operands.{Operands}
+use Rattle.shade.specs.declared.sample.Merge.{Merge}
+use Rattle.shade.specs.Blend.{factor, IsBlended, IsCombined}
+use Rattle.shade.specs.Merging.{operands_of, IsWritten, IsChannelMerged}
 use Rattle.shade.specs.declared.sample.CanvasSample.{CanvasSample}
 use Rattle.shade.specs.declared.sample.Shaded.{Shaded}
 use Rattle.shade.specs.Canvas.{IsCanvasApplied}
@@ -18,7 +29,7 @@ use Rattle.canvas.specs.declared.window.Origin.{Origin}
 use Rattle.polygons.proofs.Samples.{offset_x, offset_y}
 use Rattle.painting.specs.declared.polygon.Polygon.{Polygon}
 use Rattle.painting.specs.Painting.{fragment_of, shape_of}
-use Rattle.painting.specs.Parts.{over_screen, CoversScreen, IsAlikeOverScreen}
+use Rattle.painting.specs.Parts.{opaque_factor, factor_by, equation_by, merge_by, over_screen, CoversScreen, IsAlikeOverScreen}
 
 abbrev a : Position
 a = record { x = negsuc 0; y = negsuc 0 }
@@ -89,13 +100,62 @@ fragment_there polygon origin p h =
       alpha = flat_value t p (channel t 3) (slice_index polygon.rgba 3) (record { first = refl; second = refl; third = refl }) h;
     }
 
+-- ---- by the equation for its alpha
+opaque_is : (f : BlendFactor) (o : Operands) → o.source_alpha ≡ 255 → factor (opaque_factor f) Colour o ≡ factor f Colour o
+opaque_is Zero o e = refl
+opaque_is One o e = refl
+opaque_is SourceColour o e = refl
+opaque_is InverseSourceColour o e = refl
+opaque_is SourceAlpha o e = sym e
+opaque_is InverseSourceAlpha o e = omega (arith, e)
+opaque_is StoredAlpha o e = refl
+opaque_is InverseStoredAlpha o e = refl
+opaque_is StoredColour o e = refl
+opaque_is InverseStoredColour o e = refl
+opaque_is SourceAlphaSaturated o e = refl
+opaque_is Constant o e = refl
+opaque_is InverseConstant o e = refl
+
+factor_is : (alpha : ℕ) (f : BlendFactor) (o : Operands) → o.source_alpha ≡ alpha → factor (factor_by alpha f) Colour o ≡ factor f Colour o
+factor_is alpha f o e = elim (eqb_tells alpha 255) [
+  | inl same ↦ ap (λ b. factor (if b then opaque_factor f else f) Colour o) same.0 ∙ opaque_is f o (e ∙ same.1)
+  | inr other ↦ ap (λ b. factor (if b then opaque_factor f else f) Colour o) other.0
+]
+
+combined : (op : BlendOperation) (s f g d h k n : ℕ) → f ≡ g → h ≡ k → IsCombined op s f d h n → IsCombined op s g d k n
+combined op s f g d h k n e i c = rw (← e, ← i) c
+
+blended : (alpha : ℕ) (e : Equation) (o : Operands) (n : ℕ) → o.source_alpha ≡ alpha → IsBlended (equation_by alpha e) Colour o n → IsBlended e Colour o n
+blended alpha e o n is b = combined e.operation o.source _ _ o.stored _ _ n (factor_is alpha e.source o is) (factor_is alpha e.stored o is) b
+
+written : (w : Bool) (P Q : ℕ → Type 0) (old new : ℕ) → ((n : ℕ) → P n → Q n) → IsWritten w P old new → IsWritten w Q old new
+written false P Q old new h k = k
+written true P Q old new h k = h new k
+
+channel_is : (m : Merge) (k source alpha stored_alpha stored new : ℕ) → IsChannelMerged (merge_by alpha m) k source alpha stored_alpha stored new
+    → IsChannelMerged m k source alpha stored_alpha stored new
+channel_is m k source alpha stored_alpha stored new h =
+    written (slice_index_or m.write k false) _ _ stored new (λ n. blended alpha m.blend.colour (operands_of m k source alpha stored_alpha stored) n refl) h
+
+by_alpha : (m : Merge) (f : Shaded) (old new : CanvasSample) → IsCanvasApplied (merge_by f.a m) f old new → IsCanvasApplied m f old new
+by_alpha m f old new h = record {
+  passed = λ p. let d = h.passed p in record {
+    red = channel_is m 0 f.r f.a old.alpha old.r new.r d.red;
+    green = channel_is m 1 f.g f.a old.alpha old.g new.g d.green;
+    blue = channel_is m 2 f.b f.a old.alpha old.b new.b d.blue;
+    alpha = d.alpha;
+    depth = d.depth;
+  };
+  failed = h.failed;
+}
+
 pub applied : (polygon : Polygon) (origin : Origin) (count : SampleCount) (i j s : ℕ) (old new : CanvasSample) → i < 4096 → j < 4096
     → IsCanvasDrawnAt (over_screen polygon origin) (sample_position i j s count) old new → IsCanvasApplied polygon.state.merge (fragment_of (shape_of polygon)) old new
 applied polygon origin count i j s old new h l drawn =
     let t = over_screen polygon origin in
     let p = sample_position i j s count in
     let same = fragment-unique t p drawn.0 (fragment_of (shape_of polygon)) drawn.1 (fragment_there polygon origin p (covers_screen polygon origin count i j s h l)) in
-    subst (λ (f : Shaded). IsCanvasApplied polygon.state.merge f old new) same drawn.2
+    by_alpha polygon.state.merge (fragment_of (shape_of polygon)) old new (subst (λ (f : Shaded). IsCanvasApplied t.state.merge f old new) same drawn.2)
 
 pub alike_over_screen : (polygon : Polygon) (origin : Origin) → IsAlikeOverScreen (over_screen polygon origin)
 alike_over_screen polygon origin count i j k l s old new hi hj hk hl drawn =

@@ -12,6 +12,10 @@
 --   shape_of: The polygon as it is drawn, by its corners.
 --
 -- Parts.antt
+--   opaque_factor: A factor of colours that are opaque, without alpha: what is multiplied by alpha stays, and nothing is left beside it.
+--   factor_by: A factor of colours with this alpha, without alpha if it is opaque.
+--   equation_by: The equation of colours with this alpha.
+--   merge_by: How the samples of a polygon are merged, by an equation for its alpha.
 --   over_screen: A triangle that covers the screen, in the colour, at the depth and in the state of the polygon.
 --   CoversScreen: The triangle covers each sample of the screen, which is 4096 by 4096 pixels.
 --   IsAlikeOverScreen: The triangle makes the same of a sample wherever on the screen its pixel lies.

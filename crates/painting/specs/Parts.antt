@@ -1,11 +1,15 @@
 -- Parts of a canvas that are painted one after another, by masks.
-use Rattle.std.specs.Prelude.{◌≡◌, ℕ, ◌+◌, ◌-◌, ◌*◌, ◌/◌, ◌%◌, ◌<◌, ◌≤◌, pos, negsuc, ◌+ℤ◌, List, [], ◌∷◌, slice_index, IsBitSet}
+use Rattle.std.specs.Prelude.{◌≡◌, ℕ, ◌+◌, ◌-◌, ◌*◌, ◌/◌, ◌%◌, ◌<◌, ◌≤◌, ◌==◌, if◌then◌else◌, pos, negsuc, ◌+ℤ◌, List, [], ◌∷◌, slice_index, IsBitSet}
 use Rattle.grid.specs.Samples.{sample_position}
 use Rattle.grid.specs.Triangle.{Covers}
 use Rattle.grid.specs.declared.cull.Cull.TheVariants.{None as NoCulling}
 use Rattle.grid.specs.declared.sample_count.SampleCount.{SampleCount}
+use Rattle.shade.specs.declared.equation.Equation.{Equation}
+use Rattle.shade.specs.declared.factor.BlendFactor.{BlendFactor}
+use Rattle.shade.specs.declared.factor.BlendFactor.TheVariants.{Zero, One, SourceColour, InverseSourceColour, SourceAlpha, InverseSourceAlpha, StoredAlpha, InverseStoredAlpha, StoredColour, InverseStoredColour, SourceAlphaSaturated, Constant, InverseConstant}
 use Rattle.shade.specs.declared.placed.Placed.{Placed}
 use Rattle.shade.specs.declared.sample.CanvasSample.{CanvasSample}
+use Rattle.shade.specs.declared.sample.Merge.{Merge}
 use Rattle.shade.specs.declared.state.State.{State}
 use Rattle.shade.specs.Canvas.{IsCanvasDrawnAt}
 use Rattle.lanes.specs.declared.block_samples.BlockSamples.{BlockSamples}
@@ -24,13 +28,42 @@ use Rattle.painting.specs.declared.polygon.Polygon.{Polygon}
 use Rattle.painting.specs.declared.window.Window.{Window}
 use Rattle.painting.specs.Painting.{MeetsSample, shape_of}
 
--- A triangle that covers the screen, in the colour, at the depth and in the state of the polygon. Its scissor is as seen from the origin.
+-- A factor of colours that are opaque, without alpha: what is multiplied by alpha stays, and nothing is left beside it.
+abbrev pub opaque_factor : BlendFactor → BlendFactor
+opaque_factor Zero = Zero
+opaque_factor One = One
+opaque_factor SourceColour = SourceColour
+opaque_factor InverseSourceColour = InverseSourceColour
+opaque_factor SourceAlpha = One
+opaque_factor InverseSourceAlpha = Zero
+opaque_factor StoredAlpha = StoredAlpha
+opaque_factor InverseStoredAlpha = InverseStoredAlpha
+opaque_factor StoredColour = StoredColour
+opaque_factor InverseStoredColour = InverseStoredColour
+opaque_factor SourceAlphaSaturated = SourceAlphaSaturated
+opaque_factor Constant = Constant
+opaque_factor InverseConstant = InverseConstant
+
+-- A factor of colours with this alpha, without alpha if it is opaque.
+abbrev pub factor_by : ℕ → BlendFactor → BlendFactor
+factor_by alpha f = if alpha == 255 then opaque_factor f else f
+
+-- The equation of colours with this alpha.
+abbrev pub equation_by : ℕ → Equation → Equation
+equation_by alpha e = record { source = factor_by alpha e.source; stored = factor_by alpha e.stored; operation = e.operation }
+
+-- How the samples of a polygon are merged, by an equation for its alpha.
+abbrev pub merge_by : ℕ → Merge → Merge
+merge_by alpha m = record m { blend = record m.blend { colour = equation_by alpha m.blend.colour } }
+
+-- A triangle that covers the screen, in the colour, at the depth and in the state of the polygon. Its scissor is as seen from the origin,
+-- and its merge is that for its alpha.
 abbrev pub over_screen : Polygon → Origin → Placed
 over_screen polygon origin = record {
   tri = record { a = record { x = negsuc 0; y = negsuc 0 }; b = record { x = pos 8388607; y = negsuc 0 }; c = record { x = negsuc 0; y = pos 8388607 } };
   z = polygon.z ∷ polygon.z ∷ polygon.z ∷ [];
   rgba = polygon.rgba ∷ polygon.rgba ∷ polygon.rgba ∷ [];
-  state = record (moved_state origin.x origin.y polygon.state) { cull = NoCulling };
+  state = record (moved_state origin.x origin.y polygon.state) { cull = NoCulling; merge = merge_by (slice_index polygon.rgba 3) polygon.state.merge };
 }
 
 -- The triangle covers each sample of the screen, which is 4096 by 4096 pixels.

@@ -1,11 +1,12 @@
 //! A polygon as it is drawn.
 ghost use Rattle.std.specs.Prelude.{◌≡◌, pos, negsuc};
 ghost use Rattle.grid.specs.Position.{IsInBand};
+ghost use Rattle.painting.specs.Parts.{factor_by as blend_factor, equation_by as blend_equation};
 
 use canvas::Origin;
 use grid::{Cull, Point, Tri};
 use polygons::{Rings, Rule};
-use shade::{Placed, State};
+use shade::{BlendFactor, Equation, Placed, State};
 
 /// A polygon as it is drawn: its rings, its rule, one colour and one depth for all of its samples, and its draw's
 /// state.
@@ -34,12 +35,36 @@ impl Polygon<'_> {
     {
         let mut state = origin.seen_state(&self.state);
         state.cull = Cull::None;
+        state.merge.blend.colour = equation_by(self.rgba[3], state.merge.blend.colour);
         Placed {
             tri: screen(),
             z: [self.z; 3],
             rgba: [self.rgba; 3],
             state,
         }
+    }
+}
+
+/// A factor of colours with this alpha, without alpha if it is opaque.
+fn factor_by(alpha: u8, factor: BlendFactor) -> BlendFactor
+    ensures { result ≡ blend_factor alpha factor }
+{
+    match factor {
+        BlendFactor::SourceAlpha if alpha == 255 => BlendFactor::One,
+        BlendFactor::InverseSourceAlpha if alpha == 255 => BlendFactor::Zero,
+        _ => factor,
+    }
+}
+
+/// The equation of colours with this alpha. An opaque colour that is laid over others takes their place, which is drawn
+/// in less time.
+fn equation_by(alpha: u8, equation: Equation) -> Equation
+    ensures { result ≡ blend_equation alpha equation }
+{
+    Equation {
+        source: factor_by(alpha, equation.source),
+        stored: factor_by(alpha, equation.stored),
+        operation: equation.operation,
     }
 }
 

@@ -1,10 +1,10 @@
 //! The first crossed sample of an edge in each row that it runs through.
-ghost use Rattle.std.specs.Prelude.{◌≡◌, ◌^◌, pos, ◌+ℤ◌, ◌<ℤ◌};
+ghost use Rattle.std.specs.Prelude.{◌≡◌, ◌^◌, pos, ◌+ℤ◌, ◌<ℤ◌, ◌≤ℤ◌};
 ghost use Rattle.grid.specs.Bounds.{IsWithin};
 ghost use Rattle.grid.specs.Position.{IsInBand};
 ghost use Rattle.polygons.specs.Columns.{HasHeight, IsFirstColumn};
 
-use crate::divide::{divide, divide_near};
+use crate::divide::{divide, divide_near, divide_short};
 use crate::edge::Edge;
 use grid::{Point, side};
 use std::marker::Model;
@@ -31,6 +31,28 @@ pub(crate) fn first_column(edge: &Edge, start: Point) -> i64
     let near = column_at(edge.a.x().min(edge.b.x()), start.x());
     let (left, _) = divide_near(-side(edge.a, edge.b, start), 256 * height, -near);
     -left
+}
+
+/// How many columns left of `start` an edge is first crossed there, by how many it goes right in a row, rounded down. It
+/// is right or one too large less than a pixel below the upper end.
+#[inline(always)]
+fn guess_left(edge: &Edge, start: Point, columns: i64) -> i64
+    requires { IsWithin (2 ^ 25) columns }
+    ensures { IsWithin (2 ^ 25) result }
+{
+    let down = i64::from(start.y() - edge.a.y());
+    let right = i64::from(start.x() - edge.a.x());
+    let (left, _) = divide(right - down * columns, 256);
+    left.clamp(-33_554_432, 33_554_432)
+}
+
+/// The number if `rest` is below 0, else 0. The compiler makes no jump of it, which would be foreseen half of the time.
+#[inline(always)]
+fn if_negative(rest: i64, number: i64) -> i64
+    ensures below { rest <ℤ pos 0 → result ≡ number }
+    ensures other { pos 0 ≤ℤ rest → result ≡ pos 0 }
+{
+    if rest < 0 { number } else { 0 }
 }
 
 /// An edge that runs downwards, at one row of samples. It goes from row to row by a quotient and a remainder, with no
@@ -65,10 +87,11 @@ impl EdgeWalk {
         requires { HasHeight edge start.y }
         ensures { result ≡ record { edge = edge; row = start } }
     {
-        let height = i64::from(edge.b.y() - edge.a.y());
-        let width = i64::from(edge.b.x() - edge.a.x());
-        let (columns, part) = divide(width, height);
-        let (left, above) = divide(-side(edge.a, edge.b, start), 256 * height);
+        let height = edge.b.y() - edge.a.y();
+        let (columns, part) = divide_short(edge.b.x() - edge.a.x(), height);
+        let height = i64::from(height);
+        let near = guess_left(&edge, start, columns);
+        let (left, above) = divide_near(-side(edge.a, edge.b, start), 256 * height, near);
         let (rest, _) = divide(above, 256);
         EdgeWalk {
             edge,
@@ -97,12 +120,9 @@ impl EdgeWalk {
         let column = self.column + self.columns;
         let rest = self.rest - self.part;
         self.y += 256;
-        if rest < 0 {
-            self.column = column + 1;
-            self.rest = rest + self.height;
-        } else {
-            self.column = column;
-            self.rest = rest;
-        }
+        let more = if_negative(rest, 1);
+        let height = if_negative(rest, self.height);
+        self.column = column + more;
+        self.rest = rest + height;
     }
 }

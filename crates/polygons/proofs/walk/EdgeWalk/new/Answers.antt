@@ -3,10 +3,10 @@ use Rattle.std.proofs.lemmas.Int.{ints}
 use Rattle.grid.specs.Bounds.{IsWithin}
 use Rattle.grid.specs.Position.{Position, IsInBand}
 use Rattle.grid.proofs.Bounds.{passed}
-use Rattle.polygons.proofs.Exact.{within64, wider, negated64, difference64, times_256}
+use Rattle.polygons.proofs.Exact.{within64, wider, negated64, difference32, difference64, times_256}
 use Rattle.grid.specs.Edge.{side}
 use Rattle.polygons.specs.declared.edge.Edge.{Edge}
-use Rattle.polygons.specs.Columns.{HasHeight, IsWalkInBand, IsWalking}
+use Rattle.polygons.specs.Columns.{HasHeight, IsEdgeStep, IsWalkInBand, IsWalking}
 use Rattle.polygons.proofs.Columns.{first_row}
 use Rattle.polygons.proofs.walk.EdgeWalk.new.Goals as goal
 
@@ -15,37 +15,61 @@ overflow_mul-height c =
     let h : IsWithin (2 ^ 25) c.from-height.result = let a = c.y.ensures.in_band in let b = c.y-2.ensures.in_band in record { low = omega (arith, ints); high = omega (arith, ints) } in
     omega (arith, ints)
 
-pub divide-left-requires-clause-by : goal.divide-left-requires-clause-by
-divide-left-requires-clause-by c =
+pub divide_short-columns-requires-clause-by : goal.divide_short-columns-requires-clause-by
+divide_short-columns-requires-clause-by c =
+    let a = c.y.ensures in let b = c.y-2.ensures in let top = c.requires.top in let bottom = c.requires.bottom in
+    let a' = a.in_band in let b' = b.in_band in
+    omega (arith, ints, a.value, b.value)
+
+pub divide_short-columns-requires-clause-small : goal.divide_short-columns-requires-clause-small
+divide_short-columns-requires-clause-small c =
+    let a' = c.y.ensures.in_band in let b' = c.y-2.ensures.in_band in
+    omega (arith, ints)
+
+pub divide_short-columns-requires-clause-number : goal.divide_short-columns-requires-clause-number
+divide_short-columns-requires-clause-number c =
+    let a' = c.x.ensures.in_band in let b' = c.x-2.ensures.in_band in
+    record { low = omega (arith, ints); high = omega (arith, ints) }
+
+pub overflow_sub-side : goal.overflow_sub-side
+overflow_sub-side c = let s = c.side.ensures.size in omega (arith, ints)
+
+pub divide_near-left-requires-clause-by : goal.divide_near-left-requires-clause-by
+divide_near-left-requires-clause-by c =
     let a = c.y.ensures in let b = c.y-2.ensures in let top = c.requires.top in let bottom = c.requires.bottom in
     let h : pos 0 <ℤ c.from-height.result = let a' = a.in_band in let b' = b.in_band in omega (arith, ints, a.value, b.value) in
     let h' : c.from-height.result <ℤ pos (2 ^ 26) = let a' = a.in_band in let b' = b.in_band in omega (arith, ints) in
     omega (arith, ints)
 
-pub divide-left-requires-clause-number : goal.divide-left-requires-clause-number
-divide-left-requires-clause-number c =
+pub divide_near-left-requires-clause-small : goal.divide_near-left-requires-clause-small
+divide_near-left-requires-clause-small c =
+    let h : IsWithin (2 ^ 25) c.from-height.result = let a = c.y.ensures.in_band in let b = c.y-2.ensures.in_band in record { low = omega (arith, ints); high = omega (arith, ints) } in
+    omega (arith, ints)
+
+pub divide_near-left-requires-clause-number : goal.divide_near-left-requires-clause-number
+divide_near-left-requires-clause-number c =
     let s = c.side.ensures.size in
     record { low = omega (arith, ints); high = omega (arith, ints) }
 
 pub divide-rest-requires-clause-number : goal.divide-rest-requires-clause-number
 divide-rest-requires-clause-number c =
     let h : IsWithin (2 ^ 25) c.from-height.result = let a = c.y.ensures.in_band in let b = c.y-2.ensures.in_band in record { low = omega (arith, ints); high = omega (arith, ints) } in
-    let l = c.divide-left.ensures.low in let u = c.divide-left.ensures.high in
+    let l = c.divide_near-left.ensures.low in let u = c.divide_near-left.ensures.high in
     record { low = omega (arith, ints); high = omega (arith, ints) }
 
 -- the numbers of a row, from two divisions
 walking : (e : Edge) (p : Position) (h q r n d k m f o : ℤ) → IsWalkInBand e p.x → HasHeight e p.y → h ≡ e.b.y -ℤ e.a.y
-    → e.b.x -ℤ e.a.x ≡ q *ℤ h +ℤ r → pos 0 ≤ℤ r → r <ℤ h → IsWithin (2 ^ 25) q
+    → IsEdgeStep e q r → IsWithin (2 ^ 25) q
     → n ≡ neg_ℤ (side e.a e.b p) → d ≡ pos 256 *ℤ h → n ≡ k *ℤ d +ℤ m → pos 0 ≤ℤ m → m <ℤ d
     → m ≡ f *ℤ pos 256 +ℤ o → pos 0 ≤ℤ o → o <ℤ pos 256
     → IsWalking e p h q r (neg_ℤ k) f
-walking e p h q r n d k m f o band range tall sum low high size is_n is_d sum_n low_n high_n sum_m low_m high_m =
+walking e p h q r n d k m f o band range tall step size is_n is_d sum_n low_n high_n sum_m low_m high_m =
     let by : d ≡ pos 256 *ℤ (e.b.y -ℤ e.a.y) = is_d ∙ ap (λ z. pos 256 *ℤ z) tall in
     record {
       band = band;
       range = range;
       tall = tall;
-      step = record { sum = rw (← tall) sum; part_low = low; part_high = rw (← tall) high };
+      step = step;
       size = size;
       place = first_row e p k m f (rw (← by, ← is_n) sum_n) low_n (rw (← by) high_n) (omega (arith, ints)) (omega (arith, ints));
     }
@@ -73,23 +97,22 @@ invariant_of-result c =
     let by = c.y.ensures in let ay = c.y-2.ensures in let bx = c.x.ensures in let ax = c.x-2.ensures in
     let px = c.x-3.ensures in let py = c.y-3.ensures in
     let h = difference64 _ _ e.b.y e.a.y c.from-height.result by.in_band ay.in_band by.value ay.value c.from-height.ensures in
-    let w = difference64 _ _ e.b.x e.a.x c.from-width.result bx.in_band ax.in_band bx.value ax.value c.from-width.ensures in
     let H : ℤ = to_z w64 (of_z w64 c.from-height.result) in
     let small = small_height H e.b.y e.a.y h (rw by.value at by.in_band) (rw ay.value at ay.in_band) in
     let d = times_256 H small in
-    let W : ℤ = to_z w64 (of_z w64 c.from-width.result) in
-    let small_width = small_height W e.b.x e.a.x w (rw bx.value at bx.in_band) (rw ax.value at ax.in_band) in
-    let cols = c.divide-columns.ensures in
-    let left = c.divide-left.ensures in
+    let wide = difference32 _ _ e.b.x e.a.x bx.in_band ax.in_band bx.value ax.value in
+    let tall = difference32 _ _ e.b.y e.a.y by.in_band ay.in_band by.value ay.value in
+    let cols = c.divide_short-columns.ensures in
+    let left = c.divide_near-left.ensures in
     let rest = c.divide-rest.ensures in
+    let step : IsEdgeStep e c.divide_short-columns.result.0 c.divide_short-columns.result.1 = record { sum = rw (wide, tall) at cols.sum; part_low = cols.low; part_high = rw tall at cols.high } in
     let n = negated64 c.side.result (small_side _ _ c.side.ensures.value c.side.ensures.size) ∙ ap neg_ℤ c.side.ensures.value in
-    let m = within64 c.divide-left.result.1 (small_rest _ _ H d small left.low left.high) in
+    let m = within64 c.divide_near-left.result.1 (small_rest _ _ H d small left.low left.high) in
     let x = passed c.x-3.result p.x px.in_band px.value in
     let y = passed c.y-3.result p.y py.in_band py.value in
-    let cols_size = cols.no_larger (2 ^ 25) small_width in
-    let q = within64 c.divide-columns.result.0 (small_wider _ cols_size) in
-    let r = within64 c.divide-columns.result.1 (small_part _ H small cols.low cols.high) in
-    let k = negated64 c.divide-left.result.0 left.size in
+    let q = within64 c.divide_short-columns.result.0 (small_wider _ cols.size) in
+    let r = within64 c.divide_short-columns.result.1 (small_part _ (e.b.y -ℤ e.a.y) (rw h at small) step.part_low step.part_high) in
+    let k = negated64 c.divide_near-left.result.0 left.size in
     let f = within64 c.divide-rest.result.0 (wider _ rest.size) in
     let band : IsWalkInBand e p.x = record { ax = rw ax.value at ax.in_band; ay = rw ay.value at ay.in_band; bx = rw bx.value at bx.in_band; by = rw by.value at by.in_band; start = rw px.value at px.in_band } in
-    rw (x, y, q, r, k, f) (walking e p H c.divide-columns.result.0 c.divide-columns.result.1 _ _ c.divide-left.result.0 c.divide-left.result.1 c.divide-rest.result.0 c.divide-rest.result.1 band c.requires h (rw w at cols.sum) cols.low cols.high cols_size n d left.sum left.low left.high (rw m at rest.sum) rest.low rest.high)
+    rw (x, y, q, r, k, f) (walking e p H c.divide_short-columns.result.0 c.divide_short-columns.result.1 _ _ c.divide_near-left.result.0 c.divide_near-left.result.1 c.divide-rest.result.0 c.divide-rest.result.1 band c.requires h step cols.size n d left.sum left.low left.high (rw m at rest.sum) rest.low rest.high)
