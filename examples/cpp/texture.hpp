@@ -58,12 +58,15 @@ public:
         const Integers level = ((bits_of(square) + (1 << 23)) >> 24) - 64;
         const Floats x = u - floor(u), y = v - floor(v);
         const Four near = four(x, y, level);
-        out.red = near.channel(0), out.green = near.channel(8), out.blue = near.channel(16);
-        if (!any(square > 1.0f)) return; // of near triangles the largest level is enough
-        const Floats share = 0.5f * logarithm(square) - to_floats(level);
+        if (!any(square > 1.0f)) { // of near triangles the largest level is enough
+            out.red = near.channel(0), out.green = near.channel(8), out.blue = near.channel(16);
+            return;
+        }
         const Four far = four(x, y, level - (level < top_)); // a comparison that holds is -1
-        out.red = between(out.red, far.channel(0), share), out.green = between(out.green, far.channel(8), share);
-        out.blue = between(out.blue, far.channel(16), share);
+        const Floats share = 0.5f * logarithm(square) - to_floats(level);
+        out.red = between(near.channel(0), far.channel(0), share);
+        out.green = between(near.channel(8), far.channel(8), share);
+        out.blue = between(near.channel(16), far.channel(16), share);
     }
 
 private:
