@@ -6,8 +6,8 @@
 // A frame goes from the vertices of the model to resolved pixels in memory: four samples a pixel, textured triangles
 // with a depth test, and panes of glass blended over them. For each rate a line of names and numbers goes to standard
 // output: the least wall and processor times of a frame by both, in milliseconds, and the least processor times of the
-// parts of ours, in frames that do them one after another. `plain` is shading by one colour: reading ids, finding pairs, storing colours. `calls` are
-// trirast_canvas_tile_ids and trirast_canvas_tile_store alone.
+// parts of ours, in frames that do them one after another. `plain` is shading by one colour: reading ids, finding
+// pairs, storing colours. `calls` are trirast_canvas_tile_ids and trirast_canvas_tile_store alone.
 #include <algorithm>
 #include <chrono>
 #include <cstdio>

@@ -111,7 +111,7 @@ private:
         return {above[0], above[1], below[0], below[1], x - to_floats(left), y - to_floats(upper)};
     }
 
-    // Columns of a strip, and texels of its rows. A strip has twice the rows of the largest level, and so many more: one
+    // Columns of a strip, and texels of its rows. A strip has twice the rows of the largest level, and some more: one
     // for each level, since these have their first row once more.
     static constexpr int width_bits = 5, width = 1 << width_bits, row = width + 1, more_rows = 16;
 
