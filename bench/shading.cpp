@@ -6,8 +6,8 @@
 // A frame goes from the vertices of the model to resolved pixels in memory: four samples a pixel, textured triangles
 // with a depth test, and panes of glass blended over them. For each rate a line of names and numbers goes to standard
 // output: the least wall and processor times of a frame by both, in milliseconds, and the least processor times of the
-// parts of ours. `plain` is shading by one colour: reading ids, finding pairs, storing colours. `calls` are
-// trirast_canvas_tile_ids and trirast_canvas_tile_store alone.
+// parts of ours, in frames that do them one after another. `plain` is shading by one colour: reading ids, finding
+// pairs, storing colours. `calls` are trirast_canvas_tile_ids and trirast_canvas_tile_store alone.
 #include <algorithm>
 #include <chrono>
 #include <cstdio>
@@ -38,14 +38,13 @@ double milliseconds(Clock::time_point begin) {
 }
 
 struct Times {
-    double setup = 0, ids = 0, shading = 0, glass = 0, resolve = 0, whole = 0, processor = 0;
+    double setup = 0, ids = 0, shading = 0, glass = 0, resolve = 0;
 };
 
 void keep_least(Times &least, const Times &times, bool first) {
     const auto keep = [&](double &a, double b) { a = first ? b : std::min(a, b); };
     keep(least.setup, times.setup), keep(least.ids, times.ids), keep(least.shading, times.shading),
-        keep(least.glass, times.glass), keep(least.resolve, times.resolve), keep(least.whole, times.whole),
-        keep(least.processor, times.processor);
+        keep(least.glass, times.glass), keep(least.resolve, times.resolve);
 }
 
 trirast::Canvas canvas_of(std::uint32_t width, std::uint32_t height) {
@@ -61,20 +60,16 @@ public:
         : model_(model), canvas_(canvas_of(width, height)), rows_(canvas_, threads), pool_(threads),
           pixels_(4 * std::size_t{width} * height) {}
 
-    Times frame(trirast::Rate rate, bool is_plain) {
+    // The processor times of the parts of a frame, one after another.
+    Times parts(trirast::Rate rate, bool is_plain) {
         Times found;
-        const double spent = processor();
-        const Clock::time_point begin = Clock::now();
-        double last = spent;
+        double last = processor();
         const auto next = [&](double &part) {
             part = processor() - last;
             last += part;
         };
-        const std::int32_t width = static_cast<std::int32_t>(canvas_.width()),
-                           height = static_cast<std::int32_t>(canvas_.height());
         const ByPool by_pool{pool_};
-        seen_.project(model_, model_.scene.matrix, scene::clip_of(width, height), pool_.threads(), by_pool);
-        seen_.prepare(model_, pool_.threads(), by_pool);
+        set_up();
         next(found.setup);
         rows_.draw_ids(seen_, by_pool);
         next(found.ids);
@@ -88,14 +83,30 @@ public:
         next(found.glass);
         rows_.each_part(by_pool, [&](const trirast::TileRows &rows) { resolve(rows); });
         next(found.resolve);
-        found.whole = milliseconds(begin), found.processor = processor() - spent;
         return found;
+    }
+
+    // A frame whose parts are not told apart: wall and processor time.
+    std::pair<double, double> frame(trirast::Rate rate) {
+        const double spent = processor();
+        const Clock::time_point begin = Clock::now();
+        set_up();
+        const scene::Textured shader = seen_.shader(model_);
+        const auto shade = [&](trirast::TileRows &rows, std::uint32_t column, std::uint32_t row, const auto *own) {
+            shade_tile(rows, column, row, own, rate, shader);
+        };
+        rows_.draw(seen_, ByPool{pool_}, shade, [this](trirast::TileRows &rows) {
+            scene::draw_glass(rows, seen_);
+            resolve(rows);
+        });
+        return {milliseconds(begin), processor() - spent};
     }
 
     // The two calls of all tiles, without shading between them.
     double calls() {
         const double begin = processor();
-        each_tile([&](std::uint32_t column, std::uint32_t row, trirast::TileEntries &entries) {
+        each_tile([&](std::uint32_t column, std::uint32_t row) {
+            thread_local trirast::TileEntries entries;
             trirast_canvas canvas = canvas_.in_c();
             std::uint32_t uniform = 0;
             entries.resize(64 * 64 * 4);
@@ -113,18 +124,30 @@ private:
     void each_tile(const Job &job) {
         const std::uint32_t columns = trirast::tile_columns(canvas_);
         pool_.each(std::size_t{columns} * canvas_.end(), [&](std::size_t k) {
-            thread_local trirast::TileEntries entries;
             const std::uint32_t tile = static_cast<std::uint32_t>(k);
-            job(tile % columns, tile / columns, entries);
+            job(tile % columns, tile / columns);
         });
+    }
+
+    void set_up() {
+        const trirast::Clip clip =
+            scene::clip_of(static_cast<std::int32_t>(canvas_.width()), static_cast<std::int32_t>(canvas_.height()));
+        seen_.project(model_, model_.scene.matrix, clip, pool_.threads(), ByPool{pool_});
+        seen_.prepare(model_, pool_.threads(), ByPool{pool_});
+    }
+
+    template <class Shader>
+    void shade_tile(trirast::TileRows &rows, std::uint32_t column, std::uint32_t row, const trirast::RowTriangles *own,
+                    trirast::Rate rate, const Shader &shader) {
+        thread_local trirast::TileEntries entries;
+        trirast::shade_tile(rows, column, row, seen_.triangles, rate, scene::background(model_.scene), shader, entries,
+                            own);
     }
 
     template <class Shader>
     void shade(trirast::Rate rate, const Shader &shader) {
-        const trirast::Color background = scene::background(model_.scene);
-        each_tile([&](std::uint32_t column, std::uint32_t row, trirast::TileEntries &entries) {
-            trirast::shade_tile(canvas_, column, row, seen_.triangles, rate, background, shader, entries,
-                                rows_.own(row));
+        each_tile([&](std::uint32_t column, std::uint32_t row) {
+            shade_tile(canvas_, column, row, rows_.own(row), rate, shader);
         });
     }
 
@@ -339,19 +362,21 @@ Options read_options(int count, char **words) {
 void time_rate(Ours &ours, Theirs &theirs, trirast::Rate rate, const Options &options) {
     const bool each_sample = rate == trirast::Rate::sample;
     Times least, plain;
-    double their_wall = 0, their_processor = 0, calls = 0;
+    double our_wall = 0, our_processor = 0, their_wall = 0, their_processor = 0, calls = 0;
     for (int k = 0; k < options.frames; k++) {
         const auto keep = [k](double &a, double b) { a = k == 0 ? b : std::min(a, b); };
-        keep_least(plain, ours.frame(rate, true), k == 0);
+        keep_least(plain, ours.parts(rate, true), k == 0);
         keep(calls, ours.calls());
-        keep_least(least, ours.frame(rate, false), k == 0);
-        const auto [wall, spent] = theirs.frame(each_sample);
-        keep(their_wall, wall), keep(their_processor, spent);
+        keep_least(least, ours.parts(rate, false), k == 0);
+        const auto [wall, spent] = ours.frame(rate);
+        keep(our_wall, wall), keep(our_processor, spent);
+        const auto [theirs_wall, theirs_spent] = theirs.frame(each_sample);
+        keep(their_wall, theirs_wall), keep(their_processor, theirs_spent);
     }
     std::printf("rate %s wall %.3f processor %.3f their_wall %.3f their_processor %.3f setup %.3f ids %.3f shading "
                 "%.3f plain %.3f calls %.3f "
                 "glass %.3f resolve %.3f far %.3f triangles %zu cuts %zu\n",
-                each_sample ? "sample" : "pixel", least.whole, least.processor, their_wall, their_processor,
+                each_sample ? "sample" : "pixel", our_wall, our_processor, their_wall, their_processor,
                 least.setup, least.ids, least.shading, plain.shading, calls, least.glass, least.resolve,
                 far_pixels(ours.pixels(), theirs.pixels()), ours.seen().mesh.sources.size(),
                 ours.seen().mesh.cuts.size());
@@ -374,7 +399,7 @@ int main(int count, char **words) {
                   options.threads);
         Theirs theirs(model, options.width, options.height);
         std::printf("renderer %s\n", gl::renderer().c_str());
-        ours.frame(trirast::Rate::pixel, false), theirs.frame(false),
+        ours.frame(trirast::Rate::pixel), theirs.frame(false),
             theirs.frame(true); // compiles shaders, touches memory
         for (const trirast::Rate rate : {trirast::Rate::pixel, trirast::Rate::sample})
             time_rate(ours, theirs, rate, options);

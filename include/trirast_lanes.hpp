@@ -564,6 +564,26 @@ TRIRAST_INLINE void take_four_of(const Number *rows, std::size_t stride, const I
 #endif
 }
 
+/* Of each eight bits the numbers of those that are 1, in their order, and the last one again behind them. */
+struct LaneOrders {
+    std::uint8_t of[1 << lane_count][lane_count];
+
+    constexpr LaneOrders() : of() {
+        for (std::size_t bits = 0; bits < 1 << lane_count; bits++)
+            for (std::size_t lane = 0, n = 0; lane < lane_count; lane++)
+                if (bits >> lane & 1)
+                    for (std::size_t k = n++; k < lane_count; k++) of[bits][k] = static_cast<std::uint8_t>(lane);
+    }
+};
+inline constexpr LaneOrders lane_orders;
+
+/* The lanes whose bits are 1, by their numbers: look_up moves what they have to the front. */
+TRIRAST_INLINE Integers lanes_of(unsigned bits) noexcept {
+    std::int32_t found[lane_count];
+    for (std::size_t k = 0; k < lane_count; k++) found[k] = lane_orders.of[bits][k];
+    return Integers::load(found);
+}
+
 } // namespace detail
 
 /* Takes four numbers from each of eight rows: found[k] has number `first + k` of the row of each lane. A row begins

@@ -381,7 +381,7 @@ static inline int32_t trirast_shading_on_screen(uint32_t pixel, int32_t origin) 
 /* ---- Calls ---- */
 
 /* Shades one tile: the id of each sample becomes the colour of its triangle, or the background if there is none of this
- * id. Depths stay.
+ * id. Depths stay, and so does alpha.
  *
  * Threads may shade other tiles of the same canvas at the same time, each with entries of its own. They share the
  * shader and `user`.

@@ -4,7 +4,9 @@
 
 #include <algorithm>
 #include <array>
+#include <atomic>
 #include <cstdint>
+#include <thread>
 #include <utility>
 #include <vector>
 
@@ -140,18 +142,46 @@ inline void draw_glass(trirast::TileRows &rows, const Seen &seen) {
 // has all rows and all triangles at once.
 class SharedRows {
 public:
-    SharedRows(trirast::Canvas &canvas, unsigned threads) : is_shared_(threads > 1) {
-        if (!is_shared_) parts_.push_back({canvas.rows(0, canvas.end()), {}});
-        for (std::uint32_t row = 0; is_shared_ && row < canvas.end(); row++)
-            parts_.push_back({canvas.rows(row, row + 1), {}});
-        for (std::size_t k = 0; k < parts_.size(); k++) order_.push_back(k);
+    SharedRows(trirast::Canvas &canvas, unsigned threads)
+        : threads_(threads), columns_(trirast::tile_columns(canvas)), drawn_(threads > 1 ? canvas.end() : 1),
+          left_(drawn_.size()) {
+        const std::uint32_t rows = canvas.end() / static_cast<std::uint32_t>(drawn_.size());
+        for (std::uint32_t row = 0; row < canvas.end(); row += rows) {
+            order_.push_back(parts_.size());
+            parts_.push_back({canvas.rows(row, row + rows), {}});
+        }
     }
 
-    // The rows that had the most triangles in the frame before are begun first, so that no thread is left with them.
+    // Draws ids, calls shade(rows, column, row, own) for each tile, with what shade_tile takes, and then end(rows) for
+    // the rows whose tiles are all shaded. It is one round of the threads: who finds no rows left to draw shades those
+    // that are drawn.
+    template <class Each, class Shade, class End>
+    void draw(const Seen &seen, const Each &each, const Shade &shade, const End &end) {
+        const std::size_t tiles = columns_ * (parts_[0].rows.end() - parts_[0].rows.first());
+        for (std::atomic<std::int32_t> &number : drawn_) number = none;
+        for (std::atomic<std::size_t> &count : left_) count = tiles;
+        sort();
+        std::atomic<std::size_t> next{0}, next_drawn{0}, next_tile{0};
+        each(threads_, [&](std::size_t) {
+            for (std::size_t k; (k = next++) < parts_.size();) {
+                draw_ids_of(parts_[order_[k]], seen);
+                drawn_[next_drawn++] = static_cast<std::int32_t>(order_[k]);
+            }
+            for (std::size_t k; (k = next_tile++) < tiles * parts_.size();) {
+                std::int32_t number;
+                while ((number = drawn_[k / tiles]) == none) std::this_thread::yield();
+                trirast::TileRows &rows = parts_[static_cast<std::size_t>(number)].rows;
+                const std::uint32_t tile = static_cast<std::uint32_t>(k % tiles), row = rows.first() + tile / columns_;
+                shade(rows, tile % columns_, row, own(row));
+                if (--left_[static_cast<std::size_t>(number)] == 0) end(rows);
+            }
+        });
+    }
+
+    // Draws ids alone.
     template <class Each>
     void draw_ids(const Seen &seen, const Each &each) {
-        std::stable_sort(order_.begin(), order_.end(),
-                         [this](std::size_t a, std::size_t b) { return parts_[a].own.size() > parts_[b].own.size(); });
+        sort();
         each(parts_.size(), [&](std::size_t k) { draw_ids_of(parts_[order_[k]], seen); });
     }
 
@@ -162,7 +192,7 @@ public:
     }
 
     // The triangles of a tile row, for shade_tile; none if they are those of all rows.
-    const trirast::RowTriangles *own(std::uint32_t row) const { return is_shared_ ? &parts_[row].own : nullptr; }
+    const trirast::RowTriangles *own(std::uint32_t row) const { return threads_ > 1 ? &parts_[row].own : nullptr; }
 
 private:
     struct Part {
@@ -170,16 +200,27 @@ private:
         trirast::RowTriangles own;
     };
 
+    static constexpr std::int32_t none = -1;
+
+    // The rows that had the most triangles in the frame before are begun first, so that no thread is left with them.
+    void sort() {
+        std::stable_sort(order_.begin(), order_.end(),
+                         [this](std::size_t a, std::size_t b) { return parts_[a].own.size() > parts_[b].own.size(); });
+    }
+
     void draw_ids_of(Part &part, const Seen &seen) const {
-        if (!is_shared_) return scene::draw_ids(part.rows, seen);
+        if (threads_ == 1) return scene::draw_ids(part.rows, seen);
         part.own.select(part.rows, seen.rows, seen.mesh.indices);
         part.rows.clear({255, 255, 255});
         if (part.own.size() > 0) part.rows.draw_ids(seen.mesh.vertices, part.own.indices(), 0, solid());
     }
 
-    bool is_shared_;
+    unsigned threads_;
+    std::uint32_t columns_;
     std::vector<Part> parts_;
-    std::vector<std::size_t> order_;
+    std::vector<std::size_t> order_;               // of the parts
+    std::vector<std::atomic<std::int32_t>> drawn_; // the parts whose ids are drawn, one after another
+    std::vector<std::atomic<std::size_t>> left_;   // of each part the tiles that are not shaded
 };
 
 } // namespace scene

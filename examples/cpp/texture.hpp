@@ -26,26 +26,27 @@ TRIRAST_INLINE Floats logarithm(const Floats &v) {
     return exponent + (high * (square * t) + low) * t;
 }
 
-// The texels of all levels, one level below another in rows of one length. Each level has its first column once more
-// behind the last and its first row once more below, so that the texture repeats: the four texels round a point are
-// always beside each other.
+// The texels of all levels, one level below another. They stand in strips of 32 columns, so that those above each other
+// are near in memory too. Each strip has the column on its right once more, and each level its first row once more
+// below, so that the texture repeats: the four texels round a point are always beside each other.
 class Texels {
 public:
     explicit Texels(const Texture &texture)
         : top_(static_cast<std::int32_t>(texture.levels.size()) - 1),
           area_(static_cast<float>(texture.side) * static_cast<float>(texture.side)) {
-        const std::size_t row = texture.side + 1;
-        std::uint32_t side = texture.side;
-        for (std::size_t level = 0; level < texture.levels.size(); level++, side /= 2)
-            for (std::uint32_t y = 0; y <= side; y++) {
-                const std::size_t first = texels_.size();
-                texels_.resize(first + row);
-                for (std::uint32_t x = 0; x <= side; x++) {
-                    const std::uint8_t *from = &texture.levels[level][4 * (std::size_t{y % side} * side + x % side)];
-                    texels_[first + x] = from[0] | std::uint32_t{from[1]} << 8 | std::uint32_t{from[2]} << 16;
+        const std::size_t rows = 2 * std::size_t{texture.side} + more_rows;
+        texels_.resize((texture.side + width - 1) / width * rows * row + 2); // four are read where two are used
+        std::size_t first = 0, side = texture.side;
+        for (const std::vector<std::uint8_t> &level : texture.levels) {
+            for (std::size_t y = 0; y <= side; y++)
+                for (std::size_t x = 0; x < (side + width - 1) / width * row; x++) {
+                    const std::size_t strip = x / row, column = x % row;
+                    const std::uint8_t *from = &level[4 * (y % side * side + (strip * width + column) % side)];
+                    texels_[(strip * rows + first + y) * row + column] =
+                        from[0] | std::uint32_t{from[1]} << 8 | std::uint32_t{from[2]} << 16;
                 }
-            }
-        texels_.resize(texels_.size() + 2); // four are read where two are used
+            first += side + 1, side /= 2;
+        }
     }
 
     // The colours at u, v, of which each whole number is a texture. `step` is the square of the distance to the next
@@ -57,12 +58,15 @@ public:
         const Integers level = ((bits_of(square) + (1 << 23)) >> 24) - 64;
         const Floats x = u - floor(u), y = v - floor(v);
         const Four near = four(x, y, level);
-        out.red = near.channel(0), out.green = near.channel(8), out.blue = near.channel(16);
-        if (!any(square > 1.0f)) return; // of near triangles the largest level is enough
-        const Floats share = 0.5f * logarithm(square) - to_floats(level);
+        if (!any(square > 1.0f)) { // of near triangles the largest level is enough
+            out.red = near.channel(0), out.green = near.channel(8), out.blue = near.channel(16);
+            return;
+        }
         const Four far = four(x, y, level - (level < top_)); // a comparison that holds is -1
-        out.red = between(out.red, far.channel(0), share), out.green = between(out.green, far.channel(8), share);
-        out.blue = between(out.blue, far.channel(16), share);
+        const Floats share = 0.5f * logarithm(square) - to_floats(level);
+        out.red = between(near.channel(0), far.channel(0), share);
+        out.green = between(near.channel(8), far.channel(8), share);
+        out.blue = between(near.channel(16), far.channel(16), share);
     }
 
 private:
@@ -96,14 +100,20 @@ private:
         const Floats x = u * side - 0.5f, y = v * side - 0.5f;
         const Integers left = whole(x), upper = whole(y), length = to_integers(side), within = length - 1;
         // Masked, so that no number leads out of the level. Levels before this one have 2 (largest side - side) rows,
-        // and one more each; a row has one texel more than the largest side.
-        const Integers row = (upper & within) - (length << 1) + level + (2 << top_);
-        const Integers first = (row << top_) + row + (left & within);
+        // and one more each.
+        const Integers column = left & within, strip = column >> width_bits;
+        const Integers rows = (strip << (top_ + 1)) + strip * more_rows;
+        const Integers y_of_all = rows + (upper & within) - (length << 1) + level + (2 << top_);
+        const Integers first = (y_of_all << width_bits) + y_of_all + (column & (width - 1));
         Integers above[4], below[4];
         take_four(texels_.data(), 1, first, 0, above);
-        take_four(texels_.data() + (1 << top_) + 1, 1, first, 0, below);
+        take_four(texels_.data() + row, 1, first, 0, below);
         return {above[0], above[1], below[0], below[1], x - to_floats(left), y - to_floats(upper)};
     }
+
+    // Columns of a strip, and texels of its rows. A strip has twice the rows of the largest level, and some more: one
+    // for each level, since these have their first row once more.
+    static constexpr int width_bits = 5, width = 1 << width_bits, row = width + 1, more_rows = 16;
 
     std::int32_t top_;
     float area_;
@@ -129,14 +139,15 @@ public:
 
     TRIRAST_INLINE void operator()(const trirast::Fragments &at, trirast::Colors &out) const {
         const Values::Corners corner = values_.of(at.id);
+        // Before the texels, which are waited for.
+        const Floats x = at.value(corner[2]), y = at.value(corner[3]), z = at.value(corner[4]);
+        const Floats facing = max((x * x_ + y * y_ + z * z_) / sqrt(x * x + y * y + z * z), 0.0f);
+        const Floats light = ambient_ + (1 - ambient_) * facing;
+
         const Floats right_u = at.to_right(corner[0]), right_v = at.to_right(corner[1]);
         const Floats down_u = at.to_below(corner[0]), down_v = at.to_below(corner[1]);
         const Floats step = max(right_u * right_u + right_v * right_v, down_u * down_u + down_v * down_v);
         texels_.colors(at.value(corner[0]), at.value(corner[1]), step, out);
-
-        const Floats x = at.value(corner[2]), y = at.value(corner[3]), z = at.value(corner[4]);
-        const Floats facing = max((x * x_ + y * y_ + z * z_) / sqrt(x * x + y * y + z * z), 0.0f);
-        const Floats light = ambient_ + (1 - ambient_) * facing;
         out.red *= light, out.green *= light, out.blue *= light;
     }
 

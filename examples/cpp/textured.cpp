@@ -56,12 +56,20 @@ public:
         seen_.prepare(model_, pool_.threads(), ByPool{pool_});
     }
 
-    // Each thread draws ids and glass on tile rows, and takes tiles to shade as it is done with others.
+    // Ids, colours and glass.
     void draw() {
-        rows_.draw_ids(seen_, ByPool{pool_});
-        shade();
-        if (show_ == "shaded")
-            rows_.each_part(ByPool{pool_}, [&](trirast::TileRows &rows) { scene::draw_glass(rows, seen_); });
+        if (show_ == "shaded") return draw_by(seen_.shader(model_));
+        if (show_ == "ids") return draw_by(color_of_id);
+        if (show_ == "weights") return draw_by(color_of_weights);
+        if (show_ != "places") throw std::invalid_argument("no picture of " + show_);
+        const scene::Values &values = seen_.values(model_);
+        draw_by([&values](const trirast::Fragments &at, trirast::Colors &out) {
+            const scene::Values::Corners corner = values.of(at.id);
+            const trirast::Floats u = at.value(corner[0]), v = at.value(corner[1]);
+            out.red = 255.0f * (u - to_floats(floor_to_integers(u))),
+            out.green = 255.0f * (v - to_floats(floor_to_integers(v)));
+            out.blue = 90.0f;
+        });
     }
 
     const trirast::Canvas &canvas() const { return canvas_; }
@@ -76,21 +84,6 @@ public:
     }
 
 private:
-    void shade() {
-        if (show_ == "shaded") return shade_by(seen_.shader(model_));
-        if (show_ == "ids") return shade_by(color_of_id);
-        if (show_ == "weights") return shade_by(color_of_weights);
-        if (show_ != "places") throw std::invalid_argument("no picture of " + show_);
-        const scene::Values &values = seen_.values(model_);
-        shade_by([&values](const trirast::Fragments &at, trirast::Colors &out) {
-            const scene::Values::Corners corner = values.of(at.id);
-            const trirast::Floats u = at.value(corner[0]), v = at.value(corner[1]);
-            out.red = 255.0f * (u - to_floats(floor_to_integers(u))),
-            out.green = 255.0f * (v - to_floats(floor_to_integers(v)));
-            out.blue = 90.0f;
-        });
-    }
-
     static void color_of_id(const trirast::Fragments &at, trirast::Colors &out) {
         const auto byte = [&](std::int32_t factor) { return 60.0f + to_floats((at.id * factor) & 127); };
         out.red = byte(37), out.green = byte(73), out.blue = byte(101);
@@ -101,14 +94,14 @@ private:
     }
 
     template <class Shader>
-    void shade_by(const Shader &shader) {
-        const std::uint32_t columns = trirast::tile_columns(canvas_);
+    void draw_by(const Shader &shader) {
         const trirast::Color background = scene::background(model_.scene);
-        pool_.each(std::size_t{columns} * canvas_.end(), [&](std::size_t k) {
+        const auto shade = [&](trirast::TileRows &rows, std::uint32_t column, std::uint32_t row, const auto *own) {
             thread_local trirast::TileEntries entries;
-            const std::uint32_t tile = static_cast<std::uint32_t>(k);
-            trirast::shade_tile(canvas_, tile % columns, tile / columns, seen_.triangles, rate_, background, shader,
-                                entries, rows_.own(tile / columns));
+            trirast::shade_tile(rows, column, row, seen_.triangles, rate_, background, shader, entries, own);
+        };
+        rows_.draw(seen_, ByPool{pool_}, shade, [&](trirast::TileRows &rows) {
+            if (show_ == "shaded") scene::draw_glass(rows, seen_);
         });
     }
 

@@ -215,6 +215,24 @@ class Shaded(unittest.TestCase):
             self.assertTrue(np.array_equal(kept[64:], before[sample][64:]))
             self.assertEqual(set(kept[:64, 64:].ravel().tolist()) - {0, 50 * 0x010101}, set())
 
+    def test_alpha_stays(self) -> None:
+        vertices, triangles, w = scene(16)
+        for samples in (1, 4):
+            whole, tiles = (trirast.Canvas(WIDTH, HEIGHT, samples=samples, alpha=True) for _ in range(2))
+            for canvas in (whole, tiles):
+                canvas.clear((255, 255, 255, 40))
+                canvas.draw(vertices, triangles, depth_test="less", depth_write=True, first_id=0)
+            before = [whole.colors(sample, format="rgba")[..., 3] for sample in range(samples)]
+            self.assertEqual(set(np.unique(before)), {40, 255})
+            for canvas, parts in ((whole, [None]), (tiles, [(0, 0), (1, 0), (0, 1), (1, 1)])):
+                for tile in parts:
+                    at = canvas.fragments(vertices, triangles, w, tile=tile)
+                    canvas.shade(at, np.stack([at.id, at.y % 256, at.x % 256], 1), (9, 8, 7))
+            for sample in range(samples):
+                found = [canvas.colors(sample, format="rgba") for canvas in (whole, tiles)]
+                self.assertTrue(np.array_equal(found[0], found[1]))
+                self.assertTrue(np.array_equal(found[0][..., 3], before[sample]))
+
     def test_a_cleared_tile(self) -> None:
         canvas, vertices, triangles, w = drawn(15, 4)
         canvas.clear((255, 255, 255))

@@ -345,7 +345,8 @@ class Canvas:
         self, fragments: Fragments, colors: Any, background: Any = (0, 0, 0), *, threads: SupportsIndex = 1
     ) -> None:
         """Puts the colours of fragments in place of the ids, a row of 0 to 255 for each, and elsewhere the background:
-        in the tile of the fragments, or in the whole canvas. Depths stay."""
+        in the tile of the fragments, or in the whole canvas. Depths stay, and so does alpha: 255 where ids were drawn,
+        and elsewhere as it was cleared."""
         wanted = (self.samples, *self._sides(fragments.tile))
         if fragments.index.shape != wanted:
             what = "samples, height and width"
@@ -355,6 +356,8 @@ class Canvas:
             self._store_tile(fragments.tile, pictures)
             return
         for sample, image in enumerate(pictures):
+            if self.alpha:
+                image[..., 3] = self.colors(sample, format="rgba", threads=threads)[..., 3]
             self.store(image, sample, threads=threads)
 
     def _sides(self, tile: Optional[Tuple[int, int]]) -> Tuple[int, int]:

@@ -95,6 +95,7 @@ void Frame::shade_tiles(trirast::TileRows &rows, At rate, std::uint32_t part, st
 void Frame::draw_parts(trirast::Canvas &canvas, At rate, unsigned threads) const {
     scene::Seen seen;
     scene::SharedRows rows(canvas, threads);
+    trirast::TileEntries entries;
     const auto last_first = [](std::size_t count, const auto &job) {
         while (count > 0) job(--count);
     };
@@ -104,15 +105,12 @@ void Frame::draw_parts(trirast::Canvas &canvas, At rate, unsigned threads) const
         matrix.rows[3] += static_cast<float>(by.x), matrix.rows[7] += static_cast<float>(by.y);
         seen.project(parts_->model, matrix, clip_, threads, last_first);
         seen.prepare(parts_->model, threads, last_first);
-        rows.draw_ids(seen, last_first);
+        const auto shade = [&](trirast::TileRows &part, std::uint32_t column, std::uint32_t row, const auto *own) {
+            trirast::shade_tile(part, column, row, seen.triangles, rate_of(rate),
+                                scene::background(parts_->model.scene), seen.shader(parts_->model), entries, own);
+        };
+        rows.draw(seen, last_first, shade, [&](trirast::TileRows &part) { scene::draw_glass(part, seen); });
     }
-    trirast::TileEntries entries;
-    for (std::uint32_t row = 0; row < canvas.end(); row++)
-        for (std::uint32_t column = 0; column < trirast::tile_columns(canvas); column++)
-            trirast::shade_tile(canvas, column, row, seen.triangles, rate_of(rate),
-                                scene::background(parts_->model.scene), seen.shader(parts_->model), entries,
-                                rows.own(row));
-    rows.each_part(last_first, [&](trirast::TileRows &part) { scene::draw_glass(part, seen); });
 }
 
 void Frame::shade_normals(trirast::TileRows &rows, int by, float size) const {
