@@ -33,7 +33,10 @@ class Polygons(NamedTuple):
         return Polygons(self.corners[corners], ring_ends, polygon_ends)
 
     def between(self, first: int, end: int) -> Polygons:
-        """The polygons `first` to before `end`."""
+        """The polygons `first` to before `end`, or to the last one."""
+        end = min(end, len(self.polygon_ends))
+        if not first and end == len(self.polygon_ends):
+            return self
         ring, ring_end = (int(self.polygon_ends[n - 1]) if n else 0 for n in (first, end))
         corner, corner_end = (int(self.ring_ends[n - 1]) if n else 0 for n in (ring, ring_end))
         return Polygons(self.corners[corner:corner_end], self.ring_ends[ring:ring_end] - corner, self.polygon_ends[first:end] - ring)
@@ -56,7 +59,8 @@ def turn_once(corners: Any, ring_ends: Any) -> Any:
     steps = np.empty_like(corners)
     steps[:-1] = corners[1:] - corners[:-1]
     steps[ends - 1] = corners[np.concatenate(([0], ends[:-1]))] - corners[ends - 1]
-    found[some] = (turns_of(steps[:, 0], ends) <= 2) | (turns_of(steps[:, 1], ends) <= 2)
+    down = turns_of(steps[:, 1], ends) <= 2
+    found[some] = down if down.all() else down | (turns_of(steps[:, 0], ends) <= 2)
     return found
 
 
