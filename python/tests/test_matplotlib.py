@@ -366,10 +366,7 @@ class Grids(unittest.TestCase):
         holed[3, 5], far[3, 5] = np.nan, 1e5
         for places, corner in ((300 * points, (0, 0)), (holed, (0, 0)), (far, (0, 0)), (40 * points, (32760, 0))):
             mesh = Mesh(places, colors)
-            wanted = vertices_in(mesh.triangles(), corner)
-            for batch in (7, 1000, 1 << 20):
-                with mock.patch.object(_mesh, "BATCH", batch):
-                    self.assertEqual(vertices_in(mesh, corner), wanted)
+            self.assertEqual(vertices_in(mesh, corner), vertices_in(mesh.triangles(), corner))
 
     def test_are_asked_for_by_this_renderer_alone(self) -> None:
         def masked(axes: Any) -> None:

@@ -110,7 +110,7 @@ def faces_have_their_alpha(gc: Any) -> Iterator[None]:
 
 def take_grids(renderer_class: Any, mesh_of: Callable[[Any, Any], Any]) -> None:
     """Has Gouraud meshes that such a renderer draws give what is made of their grid and its colours in place of triangles."""
-    triangles_of = QuadMesh._convert_mesh_to_triangles
+    triangles_of = getattr(QuadMesh, "_convert_mesh_to_triangles", None)
 
     def converted(mesh: Any, coordinates: Any) -> Any:
         frame: Any = inspect.currentframe()
@@ -120,7 +120,8 @@ def take_grids(renderer_class: Any, mesh_of: Callable[[Any, Any], Any]) -> None:
             return triangles_of(mesh, coordinates)
         return mesh_of(np.asarray(coordinates), mesh.get_facecolor().reshape(*coordinates.shape[:2], 4)), None
 
-    QuadMesh._convert_mesh_to_triangles = converted
+    if triangles_of is not None:
+        QuadMesh._convert_mesh_to_triangles = converted
 
 
 def cleaned(path: Any, matrix: Any, snap: Optional[bool], stroke: float, sketch: Any = None) -> Tuple[Any, Any]:

@@ -6,7 +6,7 @@ from typing import Any, Iterator, NamedTuple, Union
 
 import numpy as np
 
-from ._triangles import BATCH, Batch, Colors, Points, Triangles, is_near, vertices_of
+from ._triangles import Batch, Colors, Points, Triangles, is_near, vertices_of
 
 
 class Mesh(NamedTuple):
@@ -17,37 +17,29 @@ class Mesh(NamedTuple):
     points: Points
     colors: Colors
 
-    @property
-    def columns(self) -> int:
-        return self.points.shape[1] // 2
-
     def triangles(self) -> Triangles:
         """The same triangles, in their order."""
-        corners = self._corners(len(self.points) - 1)
+        corners = self._corners()
         return Triangles(self.points.reshape(-1, 2)[corners], self.colors.reshape(-1, 4)[corners])
 
     def moved(self, x: float, y: float) -> Triangles:
         return self.triangles().moved(x, y)
 
     def batches(self, x: int, y: int) -> Iterator[Batch]:
-        """As those of triangles, some rows at a time."""
+        """As those of triangles; the whole mesh at once, if it needs no cut."""
         with np.errstate(invalid="ignore", over="ignore"):
             is_whole = is_near(self.points, x, y) and np.isfinite(self.colors.sum())
-        if not is_whole:
+        if is_whole:
+            yield Batch(vertices_of(self.points.reshape(-1, 2), self.colors.reshape(-1, 4)), self._corners().tobytes())
+        else:
             yield from self.triangles().batches(x, y)
-            return
-        length, rows = 2 * self.columns + 1, max(BATCH // (4 * self.columns), 1)
-        vertices, indices = vertices_of(self.points.reshape(-1, 2), self.colors.reshape(-1, 4)), self._corners(rows).tobytes()
-        for first in range(0, len(self.points) - 1, rows):
-            end = min(first + rows, len(self.points) - 1)
-            yield Batch(vertices[first * length : (end + 1) * length], indices[: (end - first) * self.columns * 48])
 
-    def _corners(self, rows: int) -> Any:
-        """The corners of the triangles of the first rows, of the shape (n, 3)."""
-        wide = self.columns + 1
-        below = wide + self.columns
+    def _corners(self) -> Any:
+        """The corners of the triangles, of the shape (n, 3)."""
+        rows, columns = len(self.points) - 1, self.points.shape[1] // 2
+        wide, below = columns + 1, 2 * columns + 1
         around = np.array((0, 1, wide, 1, below + 1, wide, below + 1, below, wide, below, 0, wide), np.uint32)
-        first = np.arange(rows, dtype=np.uint32)[:, None] * np.uint32(below) + np.arange(self.columns, dtype=np.uint32)
+        first = np.arange(rows, dtype=np.uint32)[:, None] * np.uint32(below) + np.arange(columns, dtype=np.uint32)
         return (first[..., None] + around).reshape(-1, 3)
 
 

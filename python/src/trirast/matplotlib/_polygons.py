@@ -33,10 +33,7 @@ class Polygons(NamedTuple):
         return Polygons(self.corners[corners], ring_ends, polygon_ends)
 
     def between(self, first: int, end: int) -> Polygons:
-        """The polygons `first` to before `end`, or to the last one."""
-        end = min(end, len(self.polygon_ends))
-        if not first and end == len(self.polygon_ends):
-            return self
+        """The polygons `first` to before `end`."""
         ring, ring_end = (int(self.polygon_ends[n - 1]) if n else 0 for n in (first, end))
         corner, corner_end = (int(self.ring_ends[n - 1]) if n else 0 for n in (ring, ring_end))
         return Polygons(self.corners[corner:corner_end], self.ring_ends[ring:ring_end] - corner, self.polygon_ends[first:end] - ring)

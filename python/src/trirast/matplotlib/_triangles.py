@@ -15,8 +15,8 @@ UNIT = 256
 OPAQUE = 255
 # The farthest position from a window's corner that is drawn without a cut, in pixels. The guard band ends at 32,768.
 REACH = 32767.0
-# The triangles of a batch, and the vertices that are made at once: few enough to stay in a processor's caches. They change no pixel.
-BATCH, CHUNK = 16384, 6144
+# The triangles of a batch, and the vertices that are made at once, which stay in a processor's caches. They change no pixel.
+BATCH, CHUNK = 65536, 6144
 # A vertex as it is written: both coordinates as one number, and the colour as another.
 WRITTEN = np.dtype({"names": ["place", "color"], "formats": ["i8", "u4"], "offsets": [0, 10], "itemsize": 16})
 

@@ -16,8 +16,6 @@ from ._triangles import Batch, Box
 # The changed runs of pixels of a tile row that are loaded one by one. More of them are loaded with all of their row.
 MAX_RUNS = 2048
 MAX_DEPTH = 65535
-# Polygons that are drawn at once: few enough to stay in a processor's caches. It changes no pixel.
-PART = 8192
 OPAQUE = 255
 ALPHA = np.array((0, 0, 0, OPAQUE), np.uint8).view(np.uint32)[0]
 
@@ -115,14 +113,12 @@ class Window:
 
     def _draw(self, polygons: Polygons, colors: Any, blend: Any, scissor: Optional[Box], depth: int = 0, **more: Any) -> None:
         state: dict[str, Any] = {"blend": blend, "scissor": scissor, "threads": self._threads, **more}
-        for first in range(0, len(polygons.polygon_ends), PART):
-            some, fills = polygons.between(first, first + PART), colors[first : first + PART]
-            triangles = triangles_of(some) if self._reaches(some.corners) else None
-            if triangles is not None:
-                self._canvas.draw(vertices_of_corners(some.corners, fills, depth), triangles.tobytes(), **state)
-            else:
-                rule: Any = "even-odd" if some.are_simple else "nonzero"
-                self._canvas.draw_polygons(*some, fills, rule=rule, depth=depth, **state)
+        triangles = triangles_of(polygons) if self._reaches(polygons.corners) else None
+        if triangles is not None:
+            self._canvas.draw(vertices_of_corners(polygons.corners, colors, depth), triangles.tobytes(), **state)
+            return
+        rule: Any = "even-odd" if polygons.are_simple else "nonzero"
+        self._canvas.draw_polygons(*polygons, colors, rule=rule, depth=depth, **state)
 
     def _reaches(self, corners: Any) -> bool:
         """Whether corners lie in the guard band as seen from the window, as those of triangles have to."""
