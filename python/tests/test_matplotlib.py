@@ -18,7 +18,8 @@ from matplotlib.patches import Circle
 from matplotlib.tri import Triangulation
 from matplotlib.transforms import IdentityTransform
 
-from trirast.matplotlib import FigureCanvasTrirast, RendererTrirast, _drawing, _renderer, _samples, _triangles
+from trirast.matplotlib import FigureCanvasTrirast, RendererTrirast, _drawing, _mesh, _renderer, _samples, _triangles
+from trirast.matplotlib._mesh import Gouraud, Mesh
 from trirast.matplotlib._triangles import REACH, Box, Triangles
 
 # Its functions have no types.
@@ -322,7 +323,7 @@ class Given(unittest.TestCase):
         for facecolor in ("white", "none"):
             wanted = drawn(tripcolor(slope, alpha=0.5), facecolor=facecolor)
             for changed in (
-                mock.patch.object(_drawing, "MAX_SIDE", 50), mock.patch.object(_drawing, "BATCH", 7), mock.patch.object(RendererTrirast, "threads", 3),
+                mock.patch.object(_drawing, "MAX_SIDE", 50), mock.patch.object(_triangles, "BATCH", 7), mock.patch.object(RendererTrirast, "threads", 3),
             ):
                 with changed:
                     self.assertEqual(drawn(tripcolor(slope, alpha=0.5), facecolor=facecolor).tobytes(), wanted.tobytes())
@@ -342,6 +343,51 @@ class Given(unittest.TestCase):
             wanted = drawn(tripcolor(slope, alpha=0.5))
             with mock.patch.object(_drawing, "MAX_SIDE", 50):
                 self.assertEqual(drawn(tripcolor(slope, alpha=0.5)).tobytes(), wanted.tobytes())
+
+
+class Grids(unittest.TestCase):
+    """Meshes that come as their grid."""
+
+    def mesh(self) -> Tuple[Any, Mesh]:
+        """A mesh of matplotlib and of this package."""
+        found = pcolormesh(slope, alpha=0.5)(Figure().add_subplot())
+        found.update_scalarmappable()
+        return found, _mesh.mesh_of(found._coordinates, found.get_facecolor().reshape(30, 40, 4))
+
+    def test_have_the_triangles_of_matplotlib(self) -> None:
+        given, mesh = self.mesh()
+        triangles, colors = given._convert_mesh_to_triangles(given._coordinates)
+        self.assertEqual(mesh.triangles().points.tobytes(), triangles.tobytes())
+        self.assertEqual(mesh.triangles().colors.tobytes(), colors.tobytes())
+
+    def test_make_the_vertices_of_their_triangles(self) -> None:
+        points, colors = self.mesh()[1]
+        holed, far = np.array(300 * points), np.array(300 * points)
+        holed[3, 5], far[3, 5] = np.nan, 1e5
+        for places, corner in ((300 * points, (0, 0)), (holed, (0, 0)), (far, (0, 0)), (40 * points, (32760, 0))):
+            mesh = Mesh(places, colors)
+            self.assertEqual(vertices_in(mesh, corner), vertices_in(mesh.triangles(), corner))
+
+    def test_are_asked_for_by_this_renderer_alone(self) -> None:
+        def masked(axes: Any) -> None:
+            x, y = bent_grid()
+            axes.pcolormesh(x, y, ma.masked_greater(x, 0.9), shading="gouraud")
+
+        draws: Tuple[Tuple[Draws, int], ...] = ((pcolormesh(slope), 1), (tripcolor(slope), 0), (masked, 0))
+        for draw, count in draws:
+            with mock.patch.object(_renderer, "in_pixels", side_effect=_renderer.in_pixels) as placed:
+                drawn(draw, FigureCanvasAgg)
+                self.assertEqual(placed.call_count, 0)
+                drawn(draw)
+            self.assertEqual([call.args[0].shape == (30, 79, 2) for call in placed.call_args_list], [bool(count)])
+
+
+def vertices_in(triangles: Gouraud, corner: Tuple[int, int]) -> bytes:
+    """The vertices of all batches, three for each triangle."""
+    return b"".join(
+        (each.vertices if each.indices is None else each.vertices[np.frombuffer(each.indices, np.uint32)]).tobytes()
+        for each in triangles.batches(*corner)
+    )
 
 
 class Far(unittest.TestCase):

@@ -29,10 +29,16 @@ def color_bytes(colors: Any) -> Any:
     """Rows of red, green, blue and alpha of 0 to 1 in bytes."""
     rows = rows_of_colors(colors)
     if not np.isfinite(rows.sum()):
-        rows = np.nan_to_num(rows)
-    scaled = np.maximum(rows, 0)
-    np.minimum(scaled, 1, out=scaled)
-    scaled *= 255
+        rows = np.nan_to_num(rows, posinf=1.0, neginf=0.0)
+    return bytes_of(rows)
+
+
+def bytes_of(colors: Any) -> Any:
+    """Numbers of 0 to 1 in bytes."""
+    scaled = np.multiply(colors, 255.0)
+    # It takes less time to see that all are in range than to put them there.
+    if scaled.size and (scaled.min() < 0 or scaled.max() > 255):
+        np.clip(scaled, 0, 255, out=scaled)
     scaled += 0.5
     return scaled.astype(np.uint8)
 

@@ -8,6 +8,8 @@ Names that matplotlib does not document:
 - `GraphicsContextBase._forced_alpha`: whether the context's alpha takes the place of a face's own.
 - `Path._vertices` and `Path._codes`, the members behind the properties, which cost more than what is done with them.
 - `Path.cleaned` and its parameters: a path as Agg fills it, with y downwards if the transform has it so.
+- `QuadMesh._convert_mesh_to_triangles`, by which a Gouraud mesh makes its triangles, and the name `renderer` of what is given to the
+  function that calls it.
 - `FigureCanvasBase._switch_canvas_and_return_print_method`, within which a file of another backend is written, and the
   name `RendererAgg` in `matplotlib.backends.backend_mixed`, by which PDF and SVG rasterize.
 
@@ -26,13 +28,15 @@ What Agg does without saying so, and is done here in the same way:
 
 from __future__ import annotations
 
+import inspect
 from contextlib import contextmanager
 from itertools import repeat
 from operator import attrgetter, is_
-from typing import Any, Iterator, List, Optional, Sequence, Tuple
+from typing import Any, Callable, Iterator, List, Optional, Sequence, Tuple
 
 import matplotlib.backends.backend_mixed as backend_mixed
 import numpy as np
+from matplotlib.collections import QuadMesh
 
 MAX_SNAPPED = 1024
 STRAIGHT = 1e-4
@@ -102,6 +106,22 @@ def faces_have_their_alpha(gc: Any) -> Iterator[None]:
         yield
     finally:
         gc._forced_alpha = forced
+
+
+def take_grids(renderer_class: Any, mesh_of: Callable[[Any, Any], Any]) -> None:
+    """Has Gouraud meshes that such a renderer draws give what is made of their grid and its colours in place of triangles."""
+    triangles_of: Any = getattr(QuadMesh, "_convert_mesh_to_triangles", None)
+
+    def converted(mesh: Any, coordinates: Any) -> Any:
+        frame: Any = inspect.currentframe()
+        is_ours = isinstance(frame.f_back.f_locals.get("renderer"), renderer_class)
+        # What is masked later versions leave out.
+        if not is_ours or min(coordinates.shape[:2]) < 2 or any(map(np.ma.is_masked, (coordinates, mesh.get_array()))):
+            return triangles_of(mesh, coordinates)
+        return mesh_of(np.asarray(coordinates), mesh.get_facecolor().reshape(*coordinates.shape[:2], 4)), None
+
+    if triangles_of is not None:
+        QuadMesh._convert_mesh_to_triangles = converted
 
 
 def cleaned(path: Any, matrix: Any, snap: Optional[bool], stroke: float, sketch: Any = None) -> Tuple[Any, Any]:

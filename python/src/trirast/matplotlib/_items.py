@@ -108,8 +108,9 @@ def equal_faces(items: Items, alike: Alike, snap: Optional[bool], together: bool
 
 def may_be_snapped(items: Items, alike: Alike, together: bool) -> bool:
     """Whether Agg may snap such items: not if they are long, or if all are snapped or none and the first one is slanted."""
-    first = alike.points(items.transforms, slice(0, 1))[:, : alike.corners]
-    return alike.corners <= MAX_SNAPPED and (not together or bool(straight(first, True).any()))
+    if alike.corners > MAX_SNAPPED or not together:
+        return alike.corners <= MAX_SNAPPED
+    return bool(straight(alike.points(items.transforms, slice(0, 1))[:, : alike.corners], True).any())
 
 
 def unsnapped_faces(items: Items, alike: Alike) -> Optional[Faces]:

@@ -56,7 +56,9 @@ def turn_once(corners: Any, ring_ends: Any) -> Any:
     steps = np.empty_like(corners)
     steps[:-1] = corners[1:] - corners[:-1]
     steps[ends - 1] = corners[np.concatenate(([0], ends[:-1]))] - corners[ends - 1]
-    found[some] = (turns_of(steps[:, 0], ends) <= 2) | (turns_of(steps[:, 1], ends) <= 2)
+    # What fills between two curves runs to the right and back.
+    across = turns_of(steps[:, 0], ends) <= 2
+    found[some] = across if across.all() else across | (turns_of(steps[:, 1], ends) <= 2)
     return found
 
 

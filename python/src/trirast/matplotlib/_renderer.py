@@ -14,14 +14,15 @@ from ._clips import Clips, clip_box
 from ._collection import Collection, rounds_in_order
 from ._colors import byte_of, color_bytes, edge_alpha, edges_of, face_bytes
 from ._drawing import Pixels, draw_triangles
-from ._inside import HIDDEN, face_alpha, faces_have_their_alpha
+from ._inside import HIDDEN, face_alpha, faces_have_their_alpha, take_grids
 from ._items import Faces, Items, faces_of, quad_faces
+from ._mesh import Gouraud, Mesh, mesh_of
 from ._paths import has_curve, is_odd, is_snapped, is_snapped_rectangle, path_polygon
 from ._polygons import Polygons
 from ._rounds import have_common_sides, reach_of, rounds_of
 from ._samples import Samples
 from ._transforms import cycled, placed, unmasked
-from ._triangles import Box, Points, Triangles, numbered
+from ._triangles import Box, Points, Triangles
 from ._window import OPAQUE
 
 # Its functions have no types.
@@ -239,13 +240,11 @@ class RendererTrirast(RendererAgg):
 
     def draw_gouraud_triangles(self, gc: Any, triangles_array: Any, colors_array: Any, transform: Any) -> None:
         """Draws triangles in their order, over what the figure shows. One with a position or a colour that is no number is left out."""
-        count, box = len(triangles_array), self._clip_box(gc)
-        if not count or box.is_empty:
+        box = self._clip_box(gc)
+        if box.is_empty or not len(triangles_array):
             return
-        points = in_pixels(triangles_array, transform, int(self.height))
-        triangles = numbered(Triangles(points, np.broadcast_to(ma.filled(colors_array, np.nan), (count, 3, 4))))
-        if not len(triangles.points):
-            return
+        triangles = given_triangles(triangles_array, colors_array)
+        triangles = triangles._replace(points=in_pixels(triangles.points, transform, int(self.height)))
         samples = self._all_samples()
         if samples.can_draw and samples.is_opaque(lambda: box):
             samples.draw_triangles(triangles, box, self._clips.of(gc))
@@ -300,9 +299,21 @@ def is_origin(path: Any, transform: Any) -> bool:
     return len(path.vertices) == 1 and not path.vertices.any() and not np.any(transform.get_matrix()[:2, 2])
 
 
-def in_pixels(triangles: Any, transform: Any, height: int) -> Points:
-    """Positions in pixels of a figure of this height, y downwards. What is masked is no number."""
-    given = ma.filled(ma.asarray(triangles, np.float64), np.nan)
-    points: Points = np.array(transform.transform(given.reshape(-1, 2)), np.float64)
-    points[:, 1] = height - points[:, 1]
-    return points.reshape(-1, 3, 2)
+take_grids(RendererTrirast, mesh_of)
+
+
+def given_triangles(triangles: Any, colors: Any) -> Gouraud:
+    """Triangles as matplotlib gives them, or a mesh. What is masked is no number."""
+    if isinstance(triangles, Mesh):
+        return triangles
+    points = ma.filled(ma.asarray(triangles, np.float64), np.nan)
+    return Triangles(points, np.broadcast_to(ma.filled(colors, np.nan), (len(points), 3, 4)))
+
+
+def in_pixels(given: Points, transform: Any, height: int) -> Points:
+    """Positions in pixels of a figure of this height, y downwards."""
+    points: Points = np.asarray(transform.transform(given.reshape(-1, 2)), np.float64)
+    # A transform that does nothing may return what it was given.
+    points = points.copy() if np.may_share_memory(points, given) else points
+    np.subtract(height, points[:, 1], out=points[:, 1])
+    return points.reshape(given.shape)

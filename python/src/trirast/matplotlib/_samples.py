@@ -8,7 +8,8 @@ from typing import Any, Callable, Dict, List, NamedTuple, Optional, Tuple
 import numpy as np
 
 from ._polygons import UNIT, Polygons, together
-from ._triangles import Box, Triangles, bounds_of, box_around
+from ._mesh import Gouraud
+from ._triangles import Box, bounds_of
 from ._window import OPAQUE, Clip, Window
 
 # A canvas of this side takes up to 340 MB with 16 samples, as far as it is drawn upon.
@@ -107,16 +108,14 @@ class Samples:
                     window.draw(each.polygons, each.colors, each.box, each.clip)
             window.end(box)
 
-    def draw_triangles(self, triangles: Triangles, box: Box, clip: Optional[Clip]) -> None:
+    def draw_triangles(self, triangles: Gouraud, box: Box, clip: Optional[Clip]) -> None:
         """Draws triangles in their order inside of a box of opaque pixels."""
         self.flush()
-        least, greatest = bounds_of(triangles.points)
-        limits = np.array(box[:2])[:, None], np.array(box[2:])[:, None]
-        drawn = common(box_around(least.clip(*limits), greatest.clip(*limits)), box)
+        drawn = bounds_of(triangles.points, box)
         for window in self._met(drawn, False):
             part = common(window.box, drawn)
             window.begin(part)
-            window.draw_triangles(triangles, box, clip)
+            window.draw_batches(triangles.batches(*window.box[:2]), box, clip)
             window.end(part)
 
     @property

@@ -2,17 +2,23 @@
 
 from __future__ import annotations
 
-from typing import Any, NamedTuple
+import math
+from typing import Any, Iterator, NamedTuple, Optional
 
 import numpy as np
 from numpy.typing import NDArray
 
 from .._vertices import VERTEX
+from ._colors import bytes_of
 
 UNIT = 256
-CHANNELS = ("red", "green", "blue", "alpha")
+OPAQUE = 255
 # The farthest position from a window's corner that is drawn without a cut, in pixels. The guard band ends at 32,768.
 REACH = 32767.0
+# The triangles of a batch, and the vertices that are made at once, which stay in a processor's caches. They change no pixel.
+BATCH, CHUNK = 65536, 6144
+# A vertex as it is written: both coordinates as one number, and the colour as another.
+WRITTEN = np.dtype({"names": ["place", "color"], "formats": ["i8", "u4"], "offsets": [0, 10], "itemsize": 16})
 
 Points = NDArray[np.float64]
 Colors = NDArray[np.float64]
@@ -40,6 +46,17 @@ class Box(NamedTuple):
         return self.width <= 0 or self.height <= 0
 
 
+class Batch(NamedTuple):
+    """Vertices at depth 0, and the indices of triangles in 32 bits; without any each three vertices are a triangle."""
+
+    vertices: Vertices
+    indices: Optional[bytes] = None
+
+    @property
+    def is_opaque(self) -> bool:
+        return bool(self.vertices["alpha"].min() == OPAQUE)
+
+
 class Triangles(NamedTuple):
     """Triangles in their order. `points` are of the shape (n, 3, 2): x to the right and y downwards, in pixels. `colors` are of the
     shape (n, 3, 4): red, green, blue and alpha, 0 to 1, not multiplied by alpha."""
@@ -51,6 +68,19 @@ class Triangles(NamedTuple):
         """Some of the triangles, by a mask, a slice or indices."""
         return Triangles(self.points[chosen], self.colors[chosen])
 
+    def moved(self, x: float, y: float) -> Triangles:
+        return Triangles(self.points + (x, y), self.colors)
+
+    def batches(self, x: int, y: int) -> Iterator[Batch]:
+        """Some triangles at a time, cut to the guard band of the figure and of a canvas whose upper left corner lies at x and y. One
+        with a position or a colour that is no number is left out."""
+        for first in range(0, len(self.points), BATCH):
+            some = numbered(self.of(slice(first, first + BATCH)))
+            if len(some.points) and not is_near(some.points, x, y):
+                some = within_reach(within_reach(some).moved(-x, -y)).moved(x, y)
+            if len(some.points):
+                yield Batch(vertices_of(some.points.reshape(-1, 2), some.colors.reshape(-1, 4)))
+
 
 def numbered(triangles: Triangles) -> Triangles:
     """The triangles whose positions and colours are all finite numbers."""
@@ -61,31 +91,30 @@ def numbered(triangles: Triangles) -> Triangles:
     return triangles.of(np.isfinite(triangles.points).all((1, 2)) & np.isfinite(triangles.colors).all((1, 2)))
 
 
-def bounds_of(points: Points) -> tuple[Points, Points]:
-    """The least and the greatest position of each triangle, of the shape (2, n)."""
-    a, b, c = (points[:, corner].T for corner in range(3))
-    return np.minimum(np.minimum(a, b), c), np.maximum(np.maximum(a, b), c)
+def is_near(points: Points, x: int, y: int) -> bool:
+    """Whether positions are at most REACH from the figure's corner, and from a corner of it at x and y."""
+    return bool(max(x, y) - REACH <= points.min() and points.max() <= REACH)
 
 
-def meets(least: Points, greatest: Points, box: Box) -> NDArray[np.bool_]:
-    """Which triangles have bounds that meet a box."""
-    found: NDArray[np.bool_] = (greatest[0] >= box.left) & (least[0] <= box.right)
-    found &= (greatest[1] >= box.top) & (least[1] <= box.bottom)
-    return found
+def bounds_of(points: Points, box: Box) -> Box:
+    """The pixels of a box between the least and the greatest of positions, of which some may be no numbers."""
+    (left, right), (top, bottom) = ((np.fmin.reduce(each), np.fmax.reduce(each)) for each in points.reshape(-1, 2).T)
+    return Box(
+        math.floor(inside(left, box.left, box.right)), math.floor(inside(top, box.top, box.bottom)),
+        math.ceil(inside(right, box.left, box.right)), math.ceil(inside(bottom, box.top, box.bottom)),
+    )
 
 
-def box_around(least: Points, greatest: Points) -> Box:
-    """The pixels between the least and the greatest of positions that lie in a figure."""
-    left, top = (int(np.floor(side.min())) for side in least)
-    right, bottom = (int(np.ceil(side.max())) for side in greatest)
-    return Box(left, top, right, bottom)
+def inside(position: float, least: int, end: int) -> float:
+    """The nearest position from `least` to `end`; `least` for what is no number."""
+    return min(max(least, position), end)
 
 
 # ---- The guard band
 
 
 def within_reach(triangles: Triangles) -> Triangles:
-    """The parts of triangles that are at most REACH from the origin in each direction. Most are whole, and their order is kept.
+    """The parts of triangles that are at most REACH from the origin in each direction. Their order is kept.
 
     Triangles on the two sides of a shared edge are cut at the same points, so what is drawn of them has no seam.
     """
@@ -132,15 +161,13 @@ def crossing(inside: Points, outside: Points, axis: int, sign: int) -> Points:
 # ---- Vertices
 
 
-def vertices_of(triangles: Triangles) -> Vertices:
-    """The vertices of a batch, three for each triangle, at depth 0."""
-    found = np.zeros(3 * len(triangles.points), VERTEX)
-    places = np.rint(triangles.points.reshape(-1, 2) * UNIT)
-    found["x"], found["y"] = places.T
-    colors = triangles.colors.reshape(-1, 4) * 255.0
-    np.clip(colors, 0, 255, out=colors)
-    # Agg rounds colours in this way.
-    colors += 0.5
-    for channel, values in zip(CHANNELS, colors.T):
-        found[channel] = values
+def vertices_of(points: Points, colors: Colors) -> Vertices:
+    """Vertices at depth 0, of rows of x and y in pixels and of rows of red, green, blue and alpha, all of them numbers."""
+    found = np.zeros(len(points), VERTEX)
+    written = found.view(WRITTEN)
+    for first in range(0, len(points), CHUNK):
+        some = slice(first, first + CHUNK)
+        places = np.multiply(points[some], UNIT)
+        written["place"][some] = np.rint(places, out=places).astype(np.int32).view(np.int64)[:, 0]
+        written["color"][some] = bytes_of(colors[some]).view(np.uint32)[:, 0]
     return found

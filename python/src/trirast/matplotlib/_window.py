@@ -2,7 +2,7 @@
 
 from __future__ import annotations
 
-from typing import Any, Iterator, NamedTuple, Optional
+from typing import Any, Iterable, NamedTuple, Optional
 
 import numpy as np
 
@@ -11,12 +11,10 @@ from .._records import LOW
 from .._tile_rows import TileRows
 from ._corners import triangles_of, vertices_of_corners
 from ._polygons import UNIT, Polygons
-from ._triangles import Box, Triangles, Vertices, vertices_of, within_reach
+from ._triangles import Batch, Box
 
 # The changed runs of pixels of a tile row that are loaded one by one. More of them are loaded with all of their row.
 MAX_RUNS = 2048
-# The triangles of a batch: few enough to stay in the cache of a processor. It changes no pixel.
-BATCH = 16384
 MAX_DEPTH = 65535
 OPAQUE = 255
 ALPHA = np.array((0, 0, 0, OPAQUE), np.uint8).view(np.uint32)[0]
@@ -86,13 +84,15 @@ class Window:
         """Draws polygons over the samples, each in its colour of four bytes."""
         self._draw(polygons, colors, "none" if (colors[:, 3] == OPAQUE).all() else "over", scissor, **self._inside(clip))
 
-    def draw_triangles(self, triangles: Triangles, scissor: Box, clip: Optional[Clip]) -> None:
+    def draw_batches(self, batches: Iterable[Batch], scissor: Box, clip: Optional[Clip]) -> None:
+        """Draws triangles over the samples."""
         inside = self._inside(clip)
         depth = inside.pop("depth", 0)
-        for vertices in self._batches(triangles):
-            blend: Any = "none" if (vertices["alpha"] == OPAQUE).all() else "over"
-            vertices["depth"] = depth
-            self._canvas.draw(vertices, blend=blend, scissor=scissor, threads=self._threads, **inside)
+        for batch in batches:
+            if depth:
+                batch.vertices["depth"] = depth
+            blend: Any = "none" if batch.is_opaque else "over"
+            self._canvas.draw(batch.vertices, batch.indices, blend=blend, scissor=scissor, threads=self._threads, **inside)
 
     def end(self, box: Box) -> None:
         """Resolves a box into the picture."""
@@ -124,17 +124,6 @@ class Window:
         """Whether corners lie in the guard band as seen from the window, as those of triangles have to."""
         farthest = UNIT * max(self.box.left, self.box.top)
         return not farthest or bool(len(corners)) and int(corners.min()) - farthest >= LOW
-
-    def _batches(self, triangles: Triangles) -> Iterator[Vertices]:
-        """The vertices of triangles, some at a time, cut to the guard band of the screen and of the window."""
-        corner = np.array((self.box.left, self.box.top), np.float64)
-        for first in range(0, len(triangles.points), BATCH):
-            some = within_reach(triangles.of(slice(first, first + BATCH)))
-            if corner.any():
-                moved = within_reach(Triangles(some.points - corner, some.colors))
-                some = Triangles(moved.points + corner, moved.colors)
-            if len(some.points):
-                yield vertices_of(some)
 
     # ---- Clip paths
 
