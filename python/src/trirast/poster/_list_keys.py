@@ -2,6 +2,7 @@
 
 from __future__ import annotations
 
+from itertools import chain
 from typing import Any, Callable, Mapping, NamedTuple
 
 from .._arguments import shown
@@ -68,7 +69,7 @@ def fault_of(value: Any) -> str:
     draws = value.get("draws", ())
     listed = draws if isinstance(draws, (list, tuple)) else ()
     of_draws = (text for draw in listed for text in faults(OF_DRAW, draw))
-    return next(iter([*faults(OF_LIST, value), *missing]), None) or next(of_draws, "")
+    return next(chain(faults(OF_LIST, value), missing, of_draws), "")
 
 
 def faults(keys: Mapping[str, Key], value: Any) -> list[str]:

@@ -1,4 +1,4 @@
-"""The style of a map: its window, its projection, and colours by a property. docs/posters.md has its keys."""
+"""The style of a map: its window, its projection, and colours by a property. docs/maps.md has its keys."""
 
 from __future__ import annotations
 
@@ -31,7 +31,7 @@ Color = Sequence[int]
 
 
 class Style(NamedTuple):
-    """How a map is drawn, as docs/posters.md has it."""
+    """How a map is drawn, as docs/maps.md has it."""
 
     projection: str
     # West, south, east and north, in degrees, or by a plane in the file's own units.
@@ -56,7 +56,7 @@ class Style(NamedTuple):
     def count_plain(self, features: Sequence[Mapping[str, Any]]) -> str:
         """How many of some features, of these properties, have `color`; and by steps, why."""
         plain = [properties for properties in features if self.color_of(properties) is None]
-        below = sum(is_number(properties.get(self.property)) for properties in plain)
+        below = sum(is_number(properties.get(self.property or "")) for properties in plain)
         why = "" if self.steps is None else f" ({len(plain) - below} without a number, {below} below the first step)"
         return f"{len(plain)} in the style's color{why}"
 
