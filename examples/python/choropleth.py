@@ -5,7 +5,7 @@
     PYTHONPATH=python/src python3 examples/python/choropleth.py countries.png --map countries.geojson --style style.json
 
 Without a map the cells are land and sea of GSHHG in squares of ten degrees, and land is coloured by its share of its square: it needs of
-Debian gmt-gshhg-low and python3-netcdf4. A map and its style are as for `python3 -m trirast.poster` (docs/posters.md), so a file of
+Debian gmt-gshhg-low and python3-netcdf4. A map and its style are as for `python3 -m trirast.poster` (docs/maps.md), so a file of
 countries and a property of theirs will do. It needs numpy. After `pip install ./python` no PYTHONPATH is needed.
 """
 

@@ -39,8 +39,15 @@ def scene(folder: Any, value: Any, style: Any) -> poster.Scene:
         (collection(feature(None), feature(polygon())), {}, "no feature has a polygon"),
         (feature(polygon(SQUARE)), {"window": [3, 0, 9, 3]}, r"no feature meets .* longitudes are 0 to 3, .* are these degrees"),
         (feature(polygon(box(0, 86, 3, 88))), {"projection": "web mercator"}, "no feature meets .* latitudes 86 to 88"),
-        (feature(polygon(box(334000, 4865942, 668000, 5621521))), {}, "feature 0: .* 334000 to 668000, .* 4865942 to 5621521: are these degrees"),
+        (feature(polygon(box(334000, 4865942, 668000, 5621521))), {}, "feature 0 .* 334000 to 668000, .* 4865942 to 5621521: are these degrees.* \"plane\"$"),
+        (feature(polygon(box(49, 5, 52, 11))), {"window": [5, 48, 11, 53]}, "no feature meets .* 5 to 11: GeoJSON has the longitude first"),
+        (feature(polygon(SQUARE)), {"projection": "plane", "window": [3, 0, 9, 3]}, r"its x is 0 to 3, and its y 0 to 3: the window has the units of the file"),
+        (feature(polygon([*SQUARE, [2e15, 0]])), {"projection": "plane"}, r"x and y of -1e\+15 to 1e\+15, and not \[2000000000000000.0, 0.0\]"),
+        (feature(polygon(SQUARE)), {"projection": "EPSG:3035"}, "plate carree, web mercator, plane, and not 'EPSG:3035'; .* is a plane"),
+        (feature(polygon(SQUARE)), {"window": "all"}, "in degrees, or 'data', and not 'all'"),
         # No value has a colour.
+        (feature(polygon(SQUARE), a=7), {"property": "a", "steps": STEPS}, r"a number from the first step, 10, on as 'a', but 7 \(number\)$"),
+        (feature(polygon(SQUARE), a=7), {"property": "a", "steps": []}, r"steps: one step or more"),
         (feature(polygon(SQUARE), a="12.5"), {"property": "a", "steps": STEPS}, r"steps: no feature .* a number as 'a', but '12.5' \(string\)$"),
         (feature(polygon(SQUARE), a=None), {"property": "a", "steps": STEPS}, r"but None \(null\)$"),
         (feature(polygon(SQUARE), a="Wood"), {"property": "a", "colors": {"wood": "#000000"}}, r"one of \['wood'\] as 'a', but 'Wood' \(string\)$"),
@@ -50,15 +57,20 @@ def scene(folder: Any, value: Any, style: Any) -> poster.Scene:
             r"but True \(boolean\), \[1\] \(array\), \{\} \(object\), 2 \(number\), \.\.$",
         ),
         # Rings.
-        (collection(feature(None), feature(polygon(SQUARE, [[1, 1], [2, 2]]))), {}, "feature 1, polygon 0, ring 1: 3 different positions"),
-        (feature(polygon([[1, 1], [2, 2], [1, 1], [2, 2], [1, 1]])), {}, "feature 0, polygon 0, ring 0: 3 different"),
-        (feature({"type": "MultiPolygon", "coordinates": [[SQUARE], [[]]]}), {}, "feature 0, polygon 1, ring 0: 3 different"),
-        ({"type": "GeometryCollection", "geometries": [polygon(SQUARE), polygon([[1, 1]])]}, {}, "feature 0, geometry 1, polygon 0, ring 0: "),
+        (collection(feature(None), feature(polygon(SQUARE, [[1, 1], [2, 2]]))), {}, r"feature 1 \(counted from 0\), polygon 0, ring 1: 3 different positions"),
+        (feature(polygon([[1, 1], [2, 2], [1, 1], [2, 2], [1, 1]])), {}, r"feature 0 \(counted from 0\), polygon 0, ring 0: 3 different"),
+        (feature({"type": "MultiPolygon", "coordinates": [[SQUARE], [[]]]}), {}, r"feature 0 \(counted from 0\), polygon 1, ring 0: 3 different"),
+        ({"type": "GeometryCollection", "geometries": [polygon(SQUARE), polygon([[1, 1]])]}, {}, r"feature 0 \(counted from 0\), geometry 1, polygon 0, ring 0: "),
+        ({"type": "MultiPolygon", "coordinates": [SQUARE]}, {}, r"not \[0, 0\]; a MultiPolygon has .*: one level of brackets is missing$"),
+        ({"type": "Polygon", "coordinates": SQUARE}, {}, r"not \[0, 0\]; a Polygon has rings of positions: one level of brackets is missing$"),
+        ({"type": "Polygon", "coordinates": [[SQUARE]]}, {}, r"a Polygon has rings of positions: one level of brackets is too many$"),
+        ({"type": "Polygon", "coordinates": [7]}, {}, "a longitude and a latitude, and not 7; .* is missing$"),
+        ({**feature(polygon([[1, 1]])), "id": "DE"}, {}, r"feature 0 \(counted from 0, id 'DE'\), polygon 0"),
         # Places.
-        (collection(feature(polygon(SQUARE)), feature(None), feature(polygon([*SQUARE, [5, 95]]))), {}, r"feature 2: .* not \[5.0, 95.0\]"),
-        (collection(feature(None), feature(polygon([*SQUARE, [361, 5]]))), {}, r"feature 1: .* not \[361.0, 5.0\]"),
-        (feature(polygon([*SQUARE, [float("nan"), 5]])), {}, r"feature 0: .* not \[nan, 5.0\]"),
-        (feature(polygon([*SQUARE, [5, float("inf")]])), {}, r"feature 0: .* not \[5.0, inf\]"),
+        (collection(feature(polygon(SQUARE)), feature(None), feature(polygon([*SQUARE, [5, 95]]))), {}, r"feature 2 .* not \[5.0, 95.0\]; .*: GeoJSON has the longitude first"),
+        (collection(feature(None), feature(polygon([*SQUARE, [361, 5]]))), {}, r"feature 1 .* not \[361.0, 5.0\]"),
+        (feature(polygon([*SQUARE, [float("nan"), 5]])), {}, r"feature 0 .*: positions of finite numbers, and not \[nan, 5.0\]$"),
+        (feature(polygon([*SQUARE, [5, float("inf")]])), {}, r"feature 0 .*: positions of finite numbers, and not \[5.0, inf\]$"),
         # What is no GeoJSON, and styles.
         ([1, 2, 3], {}, r"a FeatureCollection, a Feature or a geometry, .* not \[1, 2, 3\]"),
         ({"type": "Topology", "arcs": [], "objects": {}}, {}, "TopoJSON: convert it"),
@@ -102,5 +114,49 @@ def test_the_closing_line_counts_features(tmp_path: Any, capsys: Any) -> None:
     scene(tmp_path, collection(feature(polygon(SQUARE), a=10), feature(polygon(SQUARE), a=1), far, feature(None)), style)
     names = [str(tmp_path / name) for name in ("map.geojson", "style.json", "a.png", "tiles")]
     assert _command.main([names[0], "--style", names[1], "-o", names[2], "--tiles", names[3]]) == 0
-    size = "60 by 30 pixels; 2 of 4 features drawn, 1 in the style's color"
+    size = "60 by 30 pixels; 2 of 4 features drawn, 1 in the style's color (0 without a number, 1 below the first step)"
     assert capsys.readouterr() == ("", f"poster: {names[2]} and {names[3]}: {size}\n")
+
+
+def test_the_closing_line_without_steps(tmp_path: Any) -> None:
+    value = collection(feature(polygon(SQUARE), a="b"), feature(polygon(SQUARE), a="c"))
+    assert scene(tmp_path, value, {}).summary == "; 2 of 2 features drawn, 2 in the style's color"
+    assert scene(tmp_path, value, {"property": "a", "colors": {"b": "#000000"}}).summary == "; 2 of 2 features drawn, 1 in the style's color"
+
+
+@pytest.mark.parametrize(
+    "style, size, corner, window",
+    [
+        ({"window": "data"}, (90, 45), (90, 45), [10.0, 20.0, 40.0, 35.0]),
+        ({"projection": "plane"}, (90, 45), (90, 45), [10.0, 20.0, 40.0, 35.0]),
+        ({"projection": "plane", "window": "data"}, (90, 45), (90, 45), [10.0, 20.0, 40.0, 35.0]),
+        ({"projection": "plane", "window": [0, 0, 60, 40]}, (90, 60), (60, 30), None),
+        ({"projection": "web mercator", "window": "data"}, (90, 51), (90, 51), [10.0, 20.0, 40.0, 35.0]),
+    ],
+)
+def test_windows_of_the_data_and_planes(tmp_path: Any, style: Any, size: Any, corner: Any, window: Any) -> None:
+    found = scene(tmp_path, feature(polygon(box(10, 20, 40, 35))), {"width": 90, **style})
+    assert (found.sheet.width, found.sheet.height) == size
+    places = found.polygons.corners
+    # The corner in the south-east.
+    assert [round(each / 256) for each in places[1]] == list(corner)
+    assert found.summary.partition("color")[2] == ("" if window is None else f"; window {window}")
+
+
+def test_a_plane_has_any_units(tmp_path: Any) -> None:
+    style = {"projection": "plane", "window": [4e6, 2e6, 5e6, 4e6], "width": 100, "color": [1, 2, 3]}
+    # So far away that it is cut.
+    parts = collection(feature(polygon(box(4e6, 2e6, 4.5e6, 3e6))), feature(polygon(box(-1e15, 3e6, 1e15, 1e15))))
+    found = scene(tmp_path, parts, style)
+    assert (found.sheet.width, found.sheet.height) == (100, 200)
+    assert found.polygons.corners.tolist() == [
+        *([x, y] for x, y in ((0, 51200), (12800, 51200), (12800, 25600), (0, 25600), (0, 51200))),
+        *found.polygons.corners[5:].tolist(),
+    ]
+    assert (found.polygons.corners[5:].min(), found.polygons.corners[5:].max()) == (-256 * 64, 256 * 164)
+
+
+def test_a_window_of_a_map_is_no_side(capsys: Any) -> None:
+    with pytest.raises(SystemExit):
+        _command.main(["a.geojson", "-o", "a.png", "--window", "4,40,24,55"])
+    assert "pixels of a window's side, as 512, and not '4,40,24,55'; a map's window is a key of its style" in capsys.readouterr().err

@@ -1,5 +1,6 @@
 """Polygons of posters: windows show what one canvas shows, corners that are left out change nothing, and maps of GeoJSON."""
 
+import dataclasses
 import json
 import math
 import random
@@ -145,15 +146,17 @@ class Corners(unittest.TestCase):
 
     def test_what_is_refused(self) -> None:
         corners, rings, ends, colors = np.array(SQUARE), np.array([4]), np.array([1]), np.array([(1, 2, 3)])
+        masked: Any = np.ma
         value = {"width": 4, "height": 4}
         for wrong in (
             (corners * 1.0, rings, ends, colors), (corners[:, :1], rings, ends, colors), (corners + (1 << 23), rings, ends, colors),
             (corners, rings - 1, ends, colors), (corners, np.array([5, 4]), np.array([2]), colors), (corners, rings, np.array([0]), colors),
             (corners, rings, np.array([2]), colors), (corners, rings, ends, colors[:0]), (corners, rings, ends, colors * 99),
-            (corners, rings, ends, colors[:, :2]), (SQUARE, rings, ends, colors),
+            (corners, rings, ends, colors[:, :2]), ([[1.5, 2]], [1], ends, colors), ([[1], [2, 3]], [2], ends, colors),
+            (masked.array(corners), rings, ends, colors), (SQUARE, rings, ends, [[1, 2, 3], [4, 5]]), (SQUARE, rings, ends, "#ffffff"),
         ):
             with self.assertRaises(poster.ArraysError):
-                poster.scene_of_polygons(poster.Polygons(*wrong), value)  # type: ignore[arg-type]
+                poster.scene_of_polygons(poster.Polygons(*wrong), value)
         states: List[Dict[str, Any]] = [
             {"polygons": 1, "cull": "front"}, {"polygons": 1, "rule": "winding"}, {"polygons": 1, "triangles": 1}, {"polygons": 2}, {},
             {"triangles": 1, "rule": "nonzero"}, {"polygons": 1.0},
@@ -165,6 +168,52 @@ class Corners(unittest.TestCase):
             poster.scene_of_polygons(poster.Polygons(corners, rings, ends, colors), {**value, "draws": [{"polygons": 1, "fog": 1}]})
         with self.assertRaises(poster.ArraysError):
             poster.Scene(poster.Sheet(3, 3), np.zeros((0, 7), int), np.zeros((0, 3), int), [], polygons=(corners, rings, ends, colors))  # type: ignore[arg-type]
+
+    def test_lists_and_one_colour(self) -> None:
+        value = {"width": 4, "height": 4}
+        whole = poster.scene_of_polygons(polygons_of([[SQUARE], [SQUARE]], (1, 2, 3, 255)), value).polygons
+        for colors in ((1, 2, 3), [1, 2, 3, 255], np.array([1, 2, 3]), [(1, 2, 3), (1, 2, 3)]):
+            found = poster.scene_of_polygons(poster.Polygons([*SQUARE, *SQUARE], [4, 8], (1, 2), colors), value).polygons
+            for one, other in zip(found.arrays, whole.arrays):
+                self.assertEqual((one.tolist(), one.dtype), (other.tolist(), other.dtype))
+        self.assertEqual(poster.scene_of_polygons(poster.Polygons([], [], [], []), value).polygons.count, 0)
+
+    def test_other_colours_of_a_scene(self) -> None:
+        scene = poster.scene_of_polygons(polygons_of([[SQUARE], [SQUARE]]), {"width": 4, "height": 4})
+        other = dataclasses.replace(scene, polygons=dataclasses.replace(scene.polygons, colors=[(1, 2, 3), (4, 5, 6)]))
+        self.assertEqual(other.polygons.colors.tolist(), [[1, 2, 3, 255], [4, 5, 6, 255]])
+        with self.assertRaisesRegex(poster.ArraysError, "colors: 2 rows, one for each polygon, and not 1"):
+            dataclasses.replace(scene, polygons=dataclasses.replace(scene.polygons, colors=[(1, 2, 3)]))
+
+    def test_messages(self) -> None:
+        corners = np.array(SQUARE)
+        value: Dict[str, Any] = {"width": 4, "height": 4}
+        zero = "leave the leading 0 of offsets out$"
+        wrong: List[Tuple[Tuple[Any, ...], str]] = [
+            ((corners / 2, [4], [1], (1, 2, 3)), r"corners: .* and not ndarray float64; use trirast.snap\(xy\)$"),
+            ((corners, [0, 4], [0, 1], (1, 2, 3)), f"polygon_ends: .* 2, and not 1; ring_ends and polygon_ends begin with 0: {zero}"),
+            ((corners, [0, 4], [1], (1, 2, 3)), f"polygon_ends: .* 2, and not 1; ring_ends begins with 0: {zero}"),
+            ((corners, [4], [0, 1], [(1, 2, 3)]), f"colors: 2 rows, one for each polygon, and not 1; polygon_ends begins with 0: {zero}"),
+        ]
+        for arrays, text in wrong:
+            with self.assertRaisesRegex(poster.ArraysError, text):
+                poster.scene_of_polygons(poster.Polygons(*arrays), value)
+        with self.assertRaisesRegex(trirast.BatchError, f"the last polygon ends at 1, and there are 2 rings; ring_ends and .*: {zero}"):
+            trirast.Canvas(4, 4).draw_polygons(corners, [0, 4], [0, 1])
+        given = poster.Polygons(corners, [4], [1], (1, 2, 3))
+        lists: List[Tuple[Any, str]] = [
+            ({"width": 4}, "MissingKey: height: an integer from 1 to 32768 pixels, and it is missing"),
+            ({**value, "clear": "#ffffff"}, "WrongKind: clear: three numbers, each an integer from 0 to 255, and not '#ffffff'"),
+            ({**value, "background": [1, 2, 3]}, "UnknownKey: some of the keys width, .*, clear, .*, and not 'background'"),
+            ({**value, "samples": 3}, "OutOfRange: samples: 1, 2, 4, 8 or 16, and not 3"),
+            ({**value, "draws": [{"polygons": 1, "blend": "alpha"}]}, "OutOfRange in draw 0: blend: one of 'none', 'over', and not 'alpha'"),
+            ({**value, "draws": [{"polygons": 1}, {"polygons": 0, "alpha": 3}]}, "UnknownKey in draw 1: some of the keys polygons, .*, and not 'alpha'"),
+            ({**value, "draws": [7]}, "WrongKind in draw 0: a dict with .*, and not 7"),
+            (7, "WrongKind: a dict with the keys width, .*, and not 7"),
+        ]
+        for each, text in lists:
+            with self.assertRaisesRegex(trirast.DrawListError, text):
+                poster.scene_of_polygons(given, each)
 
 
 def box(west: float, south: float, east: float, north: float) -> List[List[float]]:

@@ -38,6 +38,12 @@ def polygons_of(
     return made
 
 
+def leading_zero(ring_ends: Any, polygon_ends: Any) -> str:
+    """What to say of ends that do not fit and begin with 0, as offsets do; nothing of others."""
+    names = [name for name, ends in (("ring_ends", ring_ends), ("polygon_ends", polygon_ends)) if len(ends) and ends[0] == 0]
+    return f"; {' and '.join(names)} begin{'s' * (len(names) == 1)} with 0: leave the leading 0 of offsets out" if names else ""
+
+
 def depths_of(depth: Any, count: int) -> Copy:
     """One depth for all polygons, or one for each."""
     if hasattr(depth, "__index__") and not hasattr(depth, "__len__"):

@@ -7,7 +7,7 @@ from typing import Any, NamedTuple, Optional, Tuple
 from ._draw import TOPOLOGIES
 from ._errors import BatchError
 from ._ffi import CBatch, CPolygons
-from ._polygons import CORNER_BYTES
+from ._polygons import CORNER_BYTES, leading_zero
 from ._records import HIGH, LOW
 
 # Of a pixel.
@@ -69,9 +69,11 @@ class PolygonValues(NamedTuple):
         if error.name == "BadPosition":
             return position_values(place_at(given.corners + CORNER_BYTES * (element or 0)), (0, 0))
         rings, polygons = ends_of(given.ring_ends, given.ring_count), ends_of(given.polygon_ends, given.polygon_count)
-        if error.name == "BadRing" or (error.name == "LeftOver" and last_of(rings) < given.corner_count):
-            return end_values("ring", rings, element, f"{given.corner_count} corners")
-        return end_values("polygon", polygons, element, f"{given.ring_count} rings") if error.name in ("BadPolygon", "LeftOver") else ""
+        if error.name not in ("BadRing", "BadPolygon", "LeftOver"):
+            return ""
+        is_ring = error.name == "BadRing" or (error.name == "LeftOver" and last_of(rings) < given.corner_count)
+        ends = ("ring", rings, element, f"{given.corner_count} corners") if is_ring else ("polygon", polygons, element, f"{given.ring_count} rings")
+        return end_values(*ends) + leading_zero(rings, polygons)
 
 
 def ends_of(address: Any, count: int) -> Any:

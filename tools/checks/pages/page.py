@@ -9,7 +9,7 @@ from tools import places
 
 PAGES = ("README.md", *(
     f"docs/{name}.md" for name in (
-        "canvas", "canvas_proved", "conformance", "cpp_and_rust", "draw-list", "gallery", "library", "matplotlib", "performance", "polygons",
+        "canvas", "canvas_proved", "conformance", "cpp_and_rust", "draw-list", "gallery", "library", "maps", "matplotlib", "performance", "polygons",
         "posters", "proofs", "python", "rules", "shaded_frames", "shading", "tested", "web",
     )
 ))

@@ -23,8 +23,8 @@ from tools.places import OUT, PROGRAM, PYTHON_SOURCES, TOP
 # What the commands and examples of a page need of Python and of the system, beside a compiler.
 NEEDS: dict[str, tuple[str, ...]] = {
     "docs/gallery.md": ("numpy", "matplotlib"), "docs/matplotlib.md": ("numpy", "matplotlib"),
-    "docs/posters.md": ("numpy", "distributed"), "docs/python.md": ("numpy",), "docs/rules.md": ("matplotlib",),
-    "docs/shading.md": ("numpy",),
+    "docs/maps.md": ("numpy", "matplotlib", "PIL"), "docs/polygons.md": ("numpy", "PIL"), "docs/posters.md": ("numpy", "distributed"),
+    "docs/python.md": ("numpy",), "docs/rules.md": ("matplotlib",), "docs/shading.md": ("numpy",),
 }
 # Pictures that a page's commands leave, and the pictures of the documents that have to be the same: whole, or in the colours of their shapes.
 PICTURES = {

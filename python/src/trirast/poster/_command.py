@@ -18,6 +18,14 @@ from ._tiff_writer import TIFF
 INTERRUPTED = 130
 
 
+def side(text: str) -> int:
+    """The pixels of a window's side. Raises ArgumentTypeError at a text that is no integer, as the window of a map."""
+    try:
+        return int(text)
+    except ValueError:
+        raise argparse.ArgumentTypeError(f"pixels of a window's side, as 512, and not {text!r}; a map's window is a key of its style") from None
+
+
 def arguments(words: Optional[List[str]] = None) -> argparse.Namespace:
     parser = argparse.ArgumentParser(
         prog="python3 -m trirast.poster",
@@ -29,7 +37,7 @@ def arguments(words: Optional[List[str]] = None) -> argparse.Namespace:
     parser.add_argument("--tiles", metavar="FOLDER", help="a new folder of PNG tiles z/x/y.png with a page that shows them")
     parser.add_argument("--samples", type=int, choices=sorted(SAMPLES), help="samples of a pixel, in place of the list's")
     parser.add_argument("--dpi", type=float, help="pixels per inch, which a PNG or a TIFF file has")
-    parser.add_argument("--window", type=int, default=SIDE, metavar="SIDE", help=f"pixels of a window's side (default {SIDE})")
+    parser.add_argument("--window", type=side, default=SIDE, metavar="SIDE", help=f"pixels of a window's side (default {SIDE}); a map's window is a key of its style")
     parser.add_argument("--workers", type=int, metavar="N", help="how many draw at once (default one a core)")
     parser.add_argument("--scheduler", metavar="local|ADDRESS", help="draw by Dask: its processes here, or a cluster's scheduler")
     parser.add_argument("--resume", action="store_true", help="go on with what a stopped run left")

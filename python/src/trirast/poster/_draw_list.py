@@ -11,7 +11,9 @@ from numpy.typing import NDArray
 
 from .._draw import EVERY_SAMPLE
 from .._draw_list import image_info
+from .._errors import DrawListError, adding
 from .._vertices import VERTEX, records_of
+from ._list_keys import fault_of
 from ._scene import MAX_SIDE, SAMPLES, PosterDraw, Scene, Sheet, owned
 
 # The library reads lists of at most this many pixels a side, this many draws, and this many bytes.
@@ -94,14 +96,15 @@ def triangles_of(draw: Any) -> NDArray[np.int32]:
 
 def check_states(value: Any) -> None:
     """Raises trirast.Error if a list without vertices and triangles is none: what arrays say once, and the states of draws. Its pixels
-    may have as many samples as those of a canvas, and its sample masks 16 bits."""
+    may have as many samples as those of a canvas, and its sample masks 16 bits. The text names the key, its value, and what it may be."""
     draws = value.get("draws") if isinstance(value, dict) else None
-    if not isinstance(draws, list):
-        image_info(json.dumps(value).encode())
-        return
-    for first in range(0, max(1, len(draws)), LIST_DRAWS):
-        bare = [bare_draw(draw) if isinstance(draw, dict) else draw for draw in draws[first : first + LIST_DRAWS]]
-        image_info(cut(json.dumps({**value, **listed_samples(value), "draws": bare}).encode()))
+    with adding(DrawListError, lambda _error: fault_of(value)):
+        if not isinstance(draws, list):
+            image_info(json.dumps(value).encode())
+            return
+        for first in range(0, max(1, len(draws)), LIST_DRAWS):
+            bare = [bare_draw(draw) if isinstance(draw, dict) else draw for draw in draws[first : first + LIST_DRAWS]]
+            image_info(cut(json.dumps({**value, **listed_samples(value), "draws": bare}).encode()))
 
 
 def bare_draw(draw: Any) -> Any:

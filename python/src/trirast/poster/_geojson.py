@@ -14,7 +14,7 @@ from numpy.typing import NDArray
 
 from .._snap import UNIT, snap
 from ._errors import MapError
-from ._map_style import STEEPEST, Places, Style, mercator, shown, style_of
+from ._map_style import FAR, PLANE, STEEPEST, Places, Style, is_of_data, mercator, of_data, shown, style_of
 from ._polygons import Polygons, own_polygons, with_zero
 from ._scene import HIGH, LOW, NO_TRIANGLES, PosterDraw, Scene, Sheet, owned
 
@@ -28,18 +28,25 @@ FARTHEST = 360 + 1e-6, 90 + 1e-6
 FEWEST = 3
 
 
+# What a ring is in coordinates, and with how many levels of brackets.
+LEVELS = {"Polygon": "a Polygon has rings of positions", "MultiPolygon": "a MultiPolygon has polygons of rings of positions"}
+OF_RING = 2
+
+
 class Feature(NamedTuple):
-    """The rings of a feature, in degrees, and its properties."""
+    """The rings of a feature, its properties, and what messages call it."""
 
     rings: Sequence[Places]
     properties: Mapping[str, Any]
+    name: str
 
 
 def scene_of_geojson(path: str, style: Optional[str] = None) -> Scene:
     """The scene of a GeoJSON file, in the style of a JSON file, or without one in that of a style without keys. Feature k of the file, also
     one without a geometry, is polygon k of the scene's `polygons`. Raises MapError if one of the files is none, or if nothing of the map
     would be seen, or nothing in the colours of a property: such files are a slip."""
-    drawn = style_of({} if style is None else read_json(style))
+    given = {} if style is None else read_json(style)
+    drawn = style_of(given)
     features = list(features_of(read_json(path), path))
     drawn.check_values([feature.properties for feature in features], path)
     rings = [ring for feature in features for ring in feature.rings]
@@ -48,19 +55,23 @@ def scene_of_geojson(path: str, style: Optional[str] = None) -> Scene:
     degrees = np.concatenate(rings)
     ring_ends = np.cumsum([len(ring) for ring in rings], dtype=np.uint32)
     polygon_ends = np.cumsum([len(feature.rings) for feature in features], dtype=np.uint32)
-    check_degrees(degrees, with_zero(ring_ends)[polygon_ends], path)
+    ends = with_zero(ring_ends)[polygon_ends]
+    check_finite(degrees, ends, features)
+    check_places(degrees, ends, features, drawn, path)
+    drawn = of_data(given, degrees) if is_of_data(given) else drawn
     places = projected(degrees, drawn)
     is_seen = seen(places, ring_ends, polygon_ends, drawn.sheet)
     if not is_seen.any():
-        raise MapError(f"{path}: no feature meets the style's window, {list(drawn.window)}; {reach_of(degrees)}: are these degrees?")
+        raise MapError(f"{path}: no feature meets the style's window, {list(drawn.window)}; {reach_of(degrees, drawn)}: {hint(degrees, drawn)}")
     found = [drawn.color_of(feature.properties) for feature in features]
     colors = np.array([drawn.color if color is None else color for color in found], np.uint8).reshape(-1, 4)
     corners, ring_ends = within_band(places, ring_ends, drawn.sheet)
     polygons = own_polygons(Polygons(corners, ring_ends, polygon_ends, colors))
     blend = {"blend": "over"} if (colors[:, 3] < 255).any() else {}
     draws = [PosterDraw(polygons=len(features), state=blend)]
-    plain = sum(color is None for color, is_drawn in zip(found, is_seen) if is_drawn)
-    summary = f"; {is_seen.sum()} of {len(features)} features drawn, {plain} in the style's color"
+    plain = drawn.count_plain([feature.properties for feature, is_drawn in zip(features, is_seen) if is_drawn])
+    window = f"; window {list(drawn.window)}" if is_of_data(given) else ""
+    summary = f"; {is_seen.sum()} of {len(features)} features drawn, {plain}{window}"
     return owned(Scene(drawn.sheet, *NO_TRIANGLES, draws, path, copy=False, polygons=polygons, summary=summary))
 
 
@@ -78,11 +89,12 @@ def read_json(path: str) -> Any:
 def features_of(value: Any, path: str) -> Iterator[Feature]:
     """The features of a GeoJSON text. Raises MapError if it is none, or has another geometry than polygons."""
     for number, feature in enumerate(listed_features(value, path)):
-        where = f"{path}: feature {number}"
+        key = f", id {shown(feature['id'])}" if isinstance(feature, dict) and "id" in feature else ""
+        where = f"{path}: feature {number} (counted from 0{key})"
         if not isinstance(feature, dict):
             raise MapError(f"{where}: an object, and not {shown(feature)}")
         properties = feature.get("properties")
-        yield Feature(list(rings_of(feature.get("geometry"), where)), properties if isinstance(properties, dict) else {})
+        yield Feature(list(rings_of(feature.get("geometry"), where)), properties if isinstance(properties, dict) else {}, where)
 
 
 def listed_features(value: Any, path: str) -> Sequence[Any]:
@@ -112,7 +124,7 @@ def rings_of(geometry: Any, where: str) -> Iterator[Places]:
     coordinates = array_of(geometry.get("coordinates"), where)
     for polygon, rings in enumerate([coordinates] if kind == "Polygon" else coordinates):
         for ring, places in enumerate(array_of(rings, where)):
-            yield ring_of(places, f"{where}, polygon {polygon}, ring {ring}")
+            yield ring_of(places, f"{where}, polygon {polygon}, ring {ring}", LEVELS[kind])
 
 
 def array_of(value: Any, where: str) -> Sequence[Any]:
@@ -121,17 +133,29 @@ def array_of(value: Any, where: str) -> Sequence[Any]:
     return value
 
 
-def ring_of(ring: Any, where: str) -> Places:
-    """The positions of a ring, without their heights, which some may have and others not. The last one may be the first one again."""
+def ring_of(ring: Any, where: str, levels: str) -> Places:
+    """The positions of a ring, without their heights, which some may have and others not. The last one may be the first one again.
+    `levels` says what the geometry has, for who has lost a bracket."""
     try:
-        found = np.array([place[:2] for place in array_of(ring, where)])
+        found = np.array([place[:2] for place in ring])
     except (TypeError, ValueError):
         found = np.zeros(0)
-    if ring and (found.shape != (len(ring), 2) or found.dtype.kind not in "iuf"):
-        raise MapError(f"{where}: positions of a longitude and a latitude, and not {shown(ring)}")
+    count = len(ring) if isinstance(ring, list) else 0
+    if ring != [] and (found.shape != (count, 2) or found.dtype.kind not in "iuf"):
+        depth = depth_of(ring)
+        wrong = f"; {levels}: one level of brackets is {'missing' if depth < OF_RING else 'too many'}" if depth != OF_RING else ""
+        raise MapError(f"{where}: positions of a longitude and a latitude, and not {shown(ring)}{wrong}")
     if not has_different(ring, FEWEST):
         raise MapError(f"{where}: {FEWEST} different positions or more, and not {shown(ring)}")
     return found.astype(np.float64)
+
+
+def depth_of(value: Any) -> int:
+    """How many brackets stand before the first number."""
+    depth = 0
+    while isinstance(value, list) and value:
+        depth, value = depth + 1, value[0]
+    return depth
 
 
 def has_different(ring: Sequence[Any], count: int) -> bool:
@@ -147,21 +171,45 @@ def has_different(ring: Sequence[Any], count: int) -> bool:
 # ---- Places
 
 
-def check_degrees(degrees: Places, ends: NDArray[Any], path: str) -> None:
-    """Raises MapError at a position that is no longitude and latitude. `ends` has of each feature the index behind its last position."""
-    wrong = ~(np.abs(degrees) <= FARTHEST).all(1)
+def check_finite(places: Places, ends: NDArray[Any], features: Sequence[Feature]) -> None:
+    """Raises MapError at NaN and infinities. `ends` has of each feature the index behind its last position."""
+    wrong = ~np.isfinite(places).all(1)
     if wrong.any():
         first = int(wrong.argmax())
-        number = int(np.searchsorted(ends, first, "right"))
-        raise MapError(
-            f"{path}: feature {number}: a longitude of -360 to 360 and a latitude of -90 to 90, and not {degrees[first].tolist()}; "
-            f"{reach_of(degrees)}: are these degrees?"
-        )
+        raise MapError(f"{name_at(first, ends, features)}: positions of finite numbers, and not {places[first].tolist()}")
 
 
-def reach_of(degrees: Places) -> str:
-    (west, south), (east, north) = degrees.min(0), degrees.max(0)
-    return f"its longitudes are {west:.10g} to {east:.10g}, and its latitudes {south:.10g} to {north:.10g}"
+def check_places(places: Places, ends: NDArray[Any], features: Sequence[Feature], style: Style, path: str) -> None:
+    """Raises MapError at a position that is no longitude and latitude, or too far away in a plane."""
+    is_plane = style.projection == PLANE
+    wrong = ~(np.abs(places) <= (FAR if is_plane else FARTHEST)).all(1)
+    if wrong.any():
+        first = int(wrong.argmax())
+        wanted = f"x and y of {-FAR:g} to {FAR:g}" if is_plane else "a longitude of -360 to 360 and a latitude of -90 to 90"
+        raise MapError(f"{name_at(first, ends, features)}: {wanted}, and not {places[first].tolist()}; {reach_of(places, style)}: {hint(places, style)}")
+
+
+def name_at(place: int, ends: NDArray[Any], features: Sequence[Feature]) -> str:
+    """What messages call the feature of a position."""
+    return features[int(np.searchsorted(ends, place, "right"))].name
+
+
+def hint(places: Places, style: Style) -> str:
+    """What may be wrong with positions of which none is seen, or one is out of range."""
+    if style.projection == PLANE:
+        return "the window has the units of the file"
+    turned = places[:, ::-1]
+    west, south, east, north = style.window
+    is_met = (turned.max(0) > (west, south)).all() and (turned.min(0) < (east, north)).all()
+    if is_met and (np.abs(turned) <= FARTHEST).all():
+        return "GeoJSON has the longitude first, and then the latitude"
+    return f'are these degrees? For others, as metres of a national grid, the style has "projection": "{PLANE}"'
+
+
+def reach_of(places: Places, style: Style) -> str:
+    (west, south), (east, north) = places.min(0), places.max(0)
+    across, down = ("x is", "y") if style.projection == PLANE else ("longitudes are", "latitudes")
+    return f"its {across} {west:.10g} to {east:.10g}, and its {down} {south:.10g} to {north:.10g}"
 
 
 def projected(degrees: Places, style: Style) -> Places:

@@ -1,4 +1,4 @@
-"""The style of a map: its window, its projection, and colours by a property. docs/posters.md has its keys."""
+"""The style of a map: its window, its projection, and colours by a property. docs/maps.md has its keys."""
 
 from __future__ import annotations
 
@@ -14,7 +14,11 @@ from ._scene import MAX_SIDE, Sheet
 
 # Where the map of Web Mercator ends, which is a square then.
 STEEPEST = math.degrees(math.atan(math.sinh(math.pi)))
-WORLD = {"plate carree": (-180.0, -90.0, 180.0, 90.0), "web mercator": (-180.0, -STEEPEST, 180.0, STEEPEST)}
+# How far a plane reaches to each side, in units of its file: no number of pixels overflows.
+PLANE, FAR = "plane", 1e15
+WORLD = {"plate carree": (-180.0, -90.0, 180.0, 90.0), "web mercator": (-180.0, -STEEPEST, 180.0, STEEPEST), PLANE: (-FAR, -FAR, FAR, FAR)}
+# The window that is as wide and high as what is drawn.
+DATA = "data"
 KEYS = ("projection", "window", "width", "samples", "background", "color", "property", "colors", "steps", "opacity")
 
 # What JSON calls its values.
@@ -27,10 +31,10 @@ Color = Sequence[int]
 
 
 class Style(NamedTuple):
-    """How a map is drawn, as docs/posters.md has it."""
+    """How a map is drawn, as docs/maps.md has it."""
 
     projection: str
-    # West, south, east and north, in degrees.
+    # West, south, east and north, in degrees, or by a plane in the file's own units.
     window: tuple[float, float, float, float]
     sheet: Sheet
     color: Color
@@ -49,6 +53,13 @@ class Style(NamedTuple):
         below = [color for least, color in self.steps if least <= value] if is_number(value) else []
         return below[-1] if below else None
 
+    def count_plain(self, features: Sequence[Mapping[str, Any]]) -> str:
+        """How many of some features, of these properties, have `color`; and by steps, why."""
+        plain = [properties for properties in features if self.color_of(properties) is None]
+        below = sum(is_number(properties.get(self.property or "")) for properties in plain)
+        why = "" if self.steps is None else f" ({len(plain) - below} without a number, {below} below the first step)"
+        return f"{len(plain)} in the style's color{why}"
+
     def check_values(self, features: Sequence[Mapping[str, Any]], path: str) -> None:
         """Raises MapError if no feature of a file, of these properties, has the style's property, or none has a value for its colours."""
         if self.property is None or not features:
@@ -59,6 +70,9 @@ class Style(NamedTuple):
         values = [properties[self.property] for properties in features if self.property in properties]
         if self.steps is not None and not any(map(is_number, values)):
             raise MapError(f"style: steps: no feature of {path} has a number as {shown(self.property)}, but {some_of(values)}")
+        if self.steps is not None and not any(is_number(value) and value >= self.steps[0][0] for value in values):
+            wanted = f"a number from the first step, {shown(self.steps[0][0])}, on"
+            raise MapError(f"style: steps: no feature of {path} has {wanted} as {shown(self.property)}, but {some_of(values)}")
         if self.steps is None and not any(name_of(value) in self.colors for value in values):
             wanted = shown(list(self.colors))
             raise MapError(f"style: colors: no feature of {path} has one of {wanted} as {shown(self.property)}, but {some_of(values)}")
@@ -72,8 +86,10 @@ def style_of(value: Any) -> Style:
             raise MapError(f"style: some of the keys {', '.join(KEYS)}, and not {shown(key)}")
     projection = value.get("projection", "plate carree")
     if projection not in WORLD:
-        raise MapError(f"style: projection: {' or '.join(WORLD)}, and not {shown(projection)}")
-    window = window_of(value.get("window", WORLD[projection]), WORLD[projection])
+        raise MapError(
+            f"style: projection: {', '.join(WORLD)}, and not {shown(projection)}; a file that is projected already, as in metres, is a {PLANE}"
+        )
+    window = window_of(given_window(value, projection), WORLD[projection])
     opacity = value.get("opacity", 1)
     if not is_number(opacity) or not 0 <= opacity <= 1:
         raise MapError(f"style: opacity: 0 to 1, and not {shown(opacity)}")
@@ -88,6 +104,8 @@ def style_of(value: Any) -> Style:
         red, green, blue, *alpha = color_of(name, given)
         return red, green, blue, *(alpha or [round(255 * opacity)])
 
+    if value.get("steps") == []:
+        raise MapError("style: steps: one step or more, and not []")
     steps = [(least, color("steps", given)) for least, given in pairs_of(value.get("steps", []))]
     numbers = [least for least, _ in steps]
     if numbers != sorted(numbers):
@@ -101,12 +119,31 @@ def style_of(value: Any) -> Style:
     return Style(projection, window, sheet, plain, value.get("property"), named, steps if "steps" in value else None)
 
 
+def is_of_data(value: Mapping[str, Any]) -> bool:
+    """Whether the window of a style is as wide and high as what is drawn."""
+    return bool(value.get("window", DATA if value.get("projection") == PLANE else None) == DATA)
+
+
+def given_window(value: Mapping[str, Any], projection: str) -> Any:
+    """A style's window, or the world until the data are known."""
+    return WORLD[projection] if is_of_data(value) else value.get("window", WORLD[projection])
+
+
+def of_data(value: Mapping[str, Any], places: Places) -> Style:
+    """A style whose window is the bounds of what is drawn, within its projection."""
+    _, least, _, most = WORLD[value.get("projection", "plate carree")]
+    (west, south), (east, north) = places.min(0).tolist(), places.max(0).tolist()
+    return style_of({**value, "window": [west, max(south, least), east, min(north, most)]})
+
+
 def window_of(given: Any, world: Sequence[float]) -> tuple[float, float, float, float]:
     if not isinstance(given, (list, tuple)) or len(given) != 4 or not all(map(is_number, given)):
-        raise MapError(f"style: window: west, south, east and north in degrees, and not {shown(given)}")
+        raise MapError(f"style: window: west, south, east and north in degrees, or {DATA!r}, and not {shown(given)}")
     west, south, east, north = map(float, given)
-    if not (west < east and world[1] <= south < north <= world[3] and east - west <= 360):
-        raise MapError(f"style: window: west below east, and south below north within {world[1]} to {world[3]}, and not {shown(given)}")
+    if not (west < east and world[1] <= south < north <= world[3] and east - west <= max(360, world[2] - world[0])):
+        raise MapError(
+            f"style: window: west below east, and south below north within {world[1]:.10g} to {world[3]:.10g}, and not {shown(given)}"
+        )
     return west, south, east, north
 
 

@@ -15,7 +15,9 @@ from typing import Any, Callable, Optional
 import numpy as np
 from numpy.typing import NDArray
 
-from .._records import HIGH, LOW
+from .._arguments import shown
+from .._polygons import leading_zero
+from .._records import HIGH, LOW, SNAP
 from ._errors import ArraysError
 
 # What a box has in which no sample lies: samples lie at multiples of 16.
@@ -31,15 +33,16 @@ class Polygons:
     """Polygons in one colour each. A polygon is any number of rings, and a ring any number of corners.
 
     `corners` are rows of x and y in 1/256 pixel, of all rings one after another; `ring_ends` has of each ring the index behind its last
-    corner, and `polygon_ends` of each polygon the index behind its last ring; `colors` are rows of red, green, blue and alpha.
+    corner, and `polygon_ends` of each polygon the index behind its last ring; `colors` are rows of red, green, blue and alpha, or of three
+    channels, or one colour of all. Each is an array or a list. A scene has arrays of its own, with a row of four channels for each polygon.
     """
 
-    corners: Numbers
-    ring_ends: Numbers
-    polygon_ends: Numbers
-    colors: Numbers
-    # Whether they were checked, and nobody else can change them.
-    is_own: bool = field(default=False, repr=False)
+    corners: Any
+    ring_ends: Any
+    polygon_ends: Any
+    colors: Any
+    # Whether they were checked, and nobody else can change them. `dataclasses.replace` makes others, which are not.
+    is_own: bool = field(init=False, default=False, repr=False)
     # If they are drawn only there, the box of each: the first and the last x and y.
     drawn: Optional[Numbers] = field(default=None, repr=False)
 
@@ -108,7 +111,8 @@ class Polygons:
 
     def moved(self, x: int, y: int) -> Polygons:
         """The polygons, moved by 1/256 pixels."""
-        return replace(self, corners=self.corners + np.array((x, y), np.int32))
+        other = replace(self, corners=self.corners + np.array((x, y), np.int32))
+        return checked(other) if self.is_own else other
 
     def within(self, axis: int, low: int, end: int) -> Polygons:
         """The same polygons for samples whose x or y is from `low` to before `end`, in 1/256 pixel: without corners that change none."""
@@ -130,6 +134,8 @@ class Polygons:
         return Polygons(self.corners[kept], ring_ends[is_left], polygon_ends, self.colors)
 
 
+# What is given beside colours.
+ENDS = "corners", "ring_ends", "polygon_ends"
 NONE = Polygons(np.zeros((0, 2), np.int32), np.zeros(0, np.uint32), np.zeros(0, np.uint32), np.zeros((0, 4), np.uint8))
 
 
@@ -156,22 +162,43 @@ def own_polygons(given: Any, copy: bool = True) -> Polygons:
         raise ArraysError(f"polygons: of the class Polygons, and not {type(given).__name__}")
     if given.is_own:
         return given
+    corners, ring_ends, polygon_ends = (array_of(name, getattr(given, name), like) for name, like in zip(ENDS, NONE.arrays))
+    colors = color_rows(array_of("colors", given.colors, NONE.colors), len(polygon_ends))
     found = Polygons(
-        own_numbers("corners", given.corners, (LOW, HIGH), NONE.corners, copy),
-        own_numbers("ring_ends", given.ring_ends, (0, MOST), NONE.ring_ends, copy),
-        own_numbers("polygon_ends", given.polygon_ends, (0, MOST), NONE.polygon_ends, copy),
-        own_numbers("colors", with_alpha(given.colors), (0, 255), NONE.colors, copy),
-        is_own=True,
+        own_numbers("corners", corners, (LOW, HIGH), NONE.corners, copy),
+        own_numbers("ring_ends", ring_ends, (0, MOST), NONE.ring_ends, copy),
+        own_numbers("polygon_ends", polygon_ends, (0, MOST), NONE.polygon_ends, copy),
+        own_numbers("colors", colors, (0, 255), NONE.colors, copy),
     )
-    check_ends("ring_ends", found.ring_ends, len(found.corners), "corners")
-    check_ends("polygon_ends", found.polygon_ends, len(found.ring_ends), "rings")
+    zero = leading_zero(found.ring_ends, found.polygon_ends)
+    check_ends("ring_ends", found.ring_ends, len(found.corners), "corners", zero)
+    check_ends("polygon_ends", found.polygon_ends, len(found.ring_ends), "rings", zero)
     if len(found.colors) != found.count:
-        raise ArraysError(f"colors: {found.count} rows, one for each polygon, and not {len(found.colors)}")
-    return found
+        raise ArraysError(f"colors: {found.count} rows, one for each polygon, and not {len(found.colors)}{zero}")
+    return checked(found)
 
 
-def with_alpha(colors: Any) -> Any:
-    """Colours with alpha, which is 255 if they have none."""
+def checked(polygons: Polygons) -> Polygons:
+    """The same polygons, which were checked, and which nobody else has."""
+    object.__setattr__(polygons, "is_own", True)
+    return polygons
+
+
+def array_of(name: str, given: Any, like: Numbers) -> Any:
+    """A list as an array; what is an array stays. Raises ArraysError at rows of different lengths."""
+    if not isinstance(given, (list, tuple)):
+        return given
+    try:
+        found = np.array(given)
+    except (ValueError, OverflowError) as error:
+        raise ArraysError(f"{name}: rows of integers, and not {shown(given)}: {error}") from error
+    return found if found.size else like
+
+
+def color_rows(colors: Any, count: int) -> Any:
+    """Colours with alpha, which is 255 if they have none, and one colour as rows of it."""
+    if getattr(colors, "ndim", 0) == 1 and colors.shape[0] in (3, 4):
+        colors = np.broadcast_to(colors, (count, len(colors)))
     if getattr(colors, "ndim", 0) != 2 or colors.shape[1] != 3:
         return colors
     found: Numbers = np.pad(colors, ((0, 0), (0, 1)), constant_values=OPAQUE)
@@ -182,7 +209,9 @@ def own_numbers(name: str, array: Any, limits: tuple[int, int], like: Numbers, c
     """An array of the type and the columns of another one."""
     wide = "" if like.ndim == 1 else f" in rows of {like.shape[1]}"
     if not isinstance(array, np.ndarray) or isinstance(array, np.ma.MaskedArray) or array.dtype.kind not in "iu" and array.size:
-        raise ArraysError(f"{name}: an array of integers{wide}, without a mask, and not {type(array).__name__} {getattr(array, 'dtype', '')}")
+        kind = f"{type(array).__name__} {getattr(array, 'dtype', '')}".strip()
+        how = f"; {SNAP}" * (like is NONE.corners and kind.startswith("ndarray float"))
+        raise ArraysError(f"{name}: an array or a list of integers{wide}, without a mask, and not {kind}{how}")
     if array.shape[1:] != like.shape[1:] or array.ndim != like.ndim:
         raise ArraysError(f"{name}: integers{wide}, and not the shape {array.shape}")
     least, most = limits
@@ -194,11 +223,11 @@ def own_numbers(name: str, array: Any, limits: tuple[int, int], like: Numbers, c
     return found
 
 
-def check_ends(name: str, ends: Numbers, count: int, of: str) -> None:
-    """Raises ArraysError unless ends rise to the number of what they end."""
+def check_ends(name: str, ends: Numbers, count: int, of: str, zero: str) -> None:
+    """Raises ArraysError unless ends rise to the number of what they end. `zero` says of a leading 0."""
     falls = np.flatnonzero(ends[1:] < ends[:-1])
     if len(falls):
         raise ArraysError(f"{name}: row {falls[0] + 1}: at least {ends[falls[0]]}, and not {ends[falls[0] + 1]}")
     last = int(ends[-1]) if len(ends) else 0
     if last != count:
-        raise ArraysError(f"{name}: the last one is the number of {of}, {count}, and not {last}")
+        raise ArraysError(f"{name}: the last one is the number of {of}, {count}, and not {last}{zero}")

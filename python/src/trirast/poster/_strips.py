@@ -8,7 +8,7 @@ from typing import NamedTuple, Sequence
 import numpy as np
 from numpy.typing import NDArray
 
-from ._polygons import NONE, Polygons
+from ._polygons import NONE, Polygons, checked
 from ._pool import Pool
 from ._scene import PosterDraw, Scene, owned
 from ._windows import Windows
@@ -55,7 +55,7 @@ def cut_to_windows(scene: Scene, windows: Windows, threads: int) -> Scene:
     both = joined_cuts((small, large))
     order = np.argsort(both.numbers, kind="stable")
     boxes, numbers = both.polygons.boxes[order], both.numbers[order]
-    cut_ones = replace(both.polygons.take(order), drawn=boxes, is_own=True)
+    cut_ones = checked(replace(both.polygons.take(order), drawn=boxes))
     other = replace(scene, draws=list(counted(scene, numbers)), polygons=cut_ones, copy=False)
     return owned(other) if scene.is_own else other
 
