@@ -32,10 +32,10 @@ def indexed(palette: Palette, count: int) -> Dict[str, Any]:
     return {"cmap": ListedColormap(palette(count)), "norm": BoundaryNorm(np.arange(count + 1) - 0.5, count)}
 
 
-def contourf(axes: Any, palette: Palette) -> None:
+def contourf(axes: Any, palette: Palette, **more: Any) -> None:
     x, y = np.meshgrid(np.linspace(-0.1, 1.1, 90), np.linspace(-0.1, 1.1, 70))
     z = np.sin(6 * x) * np.cos(5 * y) + 0.3 * x
-    axes.contourf(x, y, z, np.linspace(z.min() - 0.01, z.max() + 0.01, 25), colors=palette(24))
+    axes.contourf(x, y, z, np.linspace(z.min() - 0.01, z.max() + 0.01, 25), colors=palette(24), **more)
 
 
 def pcolormesh(axes: Any, palette: Palette) -> None:
@@ -72,8 +72,8 @@ def heights() -> Any:
     return np.random.default_rng(4).uniform(0.03, 0.12, (8, 60)).cumsum(1) % 0.09 + 0.03
 
 
-def stackplot(axes: Any, palette: Palette) -> None:
-    axes.stackplot(np.linspace(0.02, 0.98, 60), heights(), colors=palette(8))
+def stackplot(axes: Any, palette: Palette, **more: Any) -> None:
+    axes.stackplot(np.linspace(0.02, 0.98, 60), heights(), colors=palette(8), **more)
 
 
 def fill_between(axes: Any, palette: Palette) -> None:

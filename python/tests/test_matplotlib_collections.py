@@ -1,21 +1,24 @@
 """Collections of the backend of matplotlib: in which order faces and edges are drawn, and each item as a path of its own."""
 
 import unittest
-from typing import Any, Callable
+from typing import Any, Callable, Dict, Tuple
 from unittest import mock
 
 from .figures import BOTH, INSIDE, Draws, OneByOne, colors, differences, drawn, stars, tiles, twice, unlike
 
 import numpy as np
+from matplotlib import rc_context
+from matplotlib.backends.backend_agg import FigureCanvasAgg
 from matplotlib.collections import EllipseCollection, PatchCollection, PolyCollection
 from matplotlib.patches import Circle, Ellipse, PathPatch, Rectangle, Wedge
 from matplotlib.path import Path
 
-from trirast.matplotlib import RendererTrirast, _items, _renderer, _rounds
+from trirast.matplotlib import FigureCanvasTrirast, RendererTrirast, _items, _renderer, _rounds
 
 from . import neighbours
 
 ALL = slice(None)
+BLUE = (0, 0, 1, 0.5)
 
 
 class Order(unittest.TestCase):
@@ -274,6 +277,72 @@ class Clips(unittest.TestCase):
             shown = drawn(clipped(make))[INSIDE].reshape(-1, 4)
             self.assertTrue((shown == shown[0]).all())
             self.assertLess(shown[0].min(), 200)
+
+
+# The keyword by which each plot has a hatch.
+HATCHED: Tuple[Tuple[Any, Dict[str, Any]], ...] = (
+    (neighbours.contourf, {"hatches": ["//"]}),
+    (neighbours.contourf, {"hatches": [None, "//"]}),
+    (neighbours.stackplot, {"hatch": "//"}),
+)
+
+
+class Hatches(unittest.TestCase):
+    """Faces of collections of one item and of others, by samples, with hatches by Agg."""
+
+    def test_no_seams(self) -> None:
+        """With strokes that are clear, and away from those that are seen."""
+        for plot, hatch in HATCHED:
+            within = neighbours.inside(plot, FigureCanvasTrirast, 0.5)
+            for color in ("none", "black"):
+                with rc_context({"hatch.color": color}):
+                    strokes, agg, ours = (
+                        neighbours.drawn(lambda axes: plot(axes, neighbours.one_color(alpha), **hatch), canvas)
+                        for alpha, canvas in ((0, FigureCanvasAgg), (0.5, FigureCanvasAgg), (0.5, FigureCanvasTrirast))
+                    )
+                away = within & (strokes == 255).all(2)
+                self.assertEqual(color == "none", not (strokes != 255).any())
+                self.assertGreater(int(away.sum()), 60000)
+                self.assertTrue((ours[away] == ours[away][0]).all(), (plot, color))
+                self.assertGreater(int((agg[away] != neighbours.commonest(agg[away])).any(1).sum()), 3000)
+
+    def test_strokes_are_those_of_agg(self) -> None:
+        for plot, hatch in HATCHED:
+            far = ~neighbours.near_edges(plot, FigureCanvasAgg)
+            agg, ours, plain = (
+                neighbours.drawn(lambda axes: plot(axes, neighbours.many_colors(1), **more), canvas)
+                for canvas, more in ((FigureCanvasAgg, hatch), (FigureCanvasTrirast, hatch), (FigureCanvasTrirast, {}))
+            )
+            self.assertTrue((agg[far] == ours[far]).all())
+            self.assertGreater(unlike(ours, plain), 10000)
+
+    def test_neighbours_in_two_collections(self) -> None:
+        """Each collection has no two faces with a side in common; of the second one all are round, as dots are."""
+        cells = tiles().reshape(5, 6, 4, 2)
+        even = np.indices((5, 6)).sum(0) % 2 == 0
+        halves = [[Wedge((0.3 * n, 0.5), 0.4, start, start + 180) for n in (1, 2)] for start in (20, 200)]
+        makes: Tuple[Callable[..., Any], ...] = (
+            lambda axes, hatch: [axes.add_collection(PolyCollection(each, facecolors=BLUE, hatch=hatch)) for each in (cells[even], cells[~even])],
+            lambda axes, hatch: [axes.add_collection(PatchCollection(each, facecolors=BLUE, hatch=hatch, linewidths=0)) for each in halves],
+        )
+        for make in makes:
+            with rc_context({"hatch.color": "none"}):
+                plain, hatched, agg = (
+                    drawn(lambda axes: make(axes, hatch), canvas)
+                    for hatch, canvas in ((None, FigureCanvasTrirast), ("x", FigureCanvasTrirast), ("x", FigureCanvasAgg))
+                )
+            self.assertEqual(unlike(plain, hatched), 0)
+            self.assertGreater(unlike(agg, hatched), 500)
+
+    def test_upright_rectangles_are_those_of_agg(self) -> None:
+        """They have no partly covered pixel."""
+        boxes = [Rectangle((0.11 * n, 0.1), 0.11, 0.09 * n) for n in range(1, 8)]
+        for some in (boxes, boxes[:1]):
+
+            def draw(axes: Any) -> None:
+                axes.add_collection(PatchCollection(some, facecolors=BLUE, hatch="//", linewidths=0))
+
+            self.assertEqual(unlike(*(drawn(draw, canvas) for canvas in BOTH)), 0)
 
 
 if __name__ == "__main__":

@@ -4,6 +4,7 @@ import importlib.util
 import io
 import os
 import unittest
+from functools import partial
 from typing import Any, Dict, List, Optional
 from unittest import mock
 
@@ -231,16 +232,58 @@ class Files(unittest.TestCase):
 
 class Settings(unittest.TestCase):
     def test_wrong_values(self) -> None:
-        """They are named when the first face is drawn."""
+        """They are named when a face is drawn, also in a figure that was drawn before, and no default takes their place."""
         wrong: Any = (
             ("samples", 5, ValueError, "RendererTrirast.samples: 1, 2, 4, 8 or 16, and not 5"),
-            ("samples", "16", ValueError, "RendererTrirast.samples: 1, 2, 4, 8 or 16, and not '16'"),
+            ("samples", "16", TypeError, "RendererTrirast.samples: an integer, and not '16'"),
+            ("samples", 16.0, TypeError, "RendererTrirast.samples: an integer, and not 16.0"),
             ("smooth", "no", TypeError, "RendererTrirast.smooth: True or False, and not 'no'"),
-            ("threads", 0, ValueError, "threads: at least 1, and not 0"),
+            ("threads", 0, ValueError, "RendererTrirast.threads: at least 1, and not 0"),
+            ("threads", 1.0, TypeError, "RendererTrirast.threads: an integer, and not 1.0"),
         )
         for name, value, kind, message in wrong:
-            with mock.patch.object(RendererTrirast, name, value), self.assertRaisesRegex(kind, message):
-                drawn(lambda axes: axes.add_collection(PolyCollection(stars(2), facecolors="r")))
+            figure, canvas, axes = figure_of()
+            axes.add_collection(PolyCollection(stars(2), facecolors="r"))
+            for draw in (canvas.draw, lambda: figure.savefig(io.BytesIO())):
+                draw()
+                before = np.array(canvas.buffer_rgba())
+                with mock.patch.object(RendererTrirast, name, value), self.assertRaisesRegex(kind, f"^{message}$"):
+                    draw()
+            canvas.draw()
+            self.assertEqual(unlike(before, np.array(canvas.buffer_rgba())), 0)
+
+    def test_hold_from_the_next_draw_on(self) -> None:
+        """In a figure that was drawn before, too."""
+        _figure, canvas, axes = figure_of()
+        axes.collections[0].remove()
+        axes.add_patch(Circle((0.5, 0.5), 0.3, color="b", linewidth=0))
+        pictures = []
+        for samples in (16, 1, 4, 16):
+            with mock.patch.object(RendererTrirast, "samples", samples):
+                canvas.draw()
+                pictures.append(np.array(canvas.buffer_rgba()))
+                self.assertEqual(len(np.unique(pictures[-1][INSIDE][..., 0])), samples + 1)
+        self.assertEqual(unlike(pictures[0], pictures[3]), 0)
+        with mock.patch.object(RendererTrirast, "threads", 3), mock.patch.object(_samples, "Window", side_effect=_samples.Window) as window:
+            canvas.draw()
+        self.assertEqual([call.args[2:4] for call in window.call_args_list], [(16, 3)])
+
+    def test_changed_within_a_drawing(self) -> None:
+        """What was drawn before stays."""
+        radius, places, counts = 0.2, (0.3, 0.7), (16, 4)
+
+        def change(axes: Any) -> None:
+            for place, samples in zip(places, counts):
+                patch = axes.add_patch(Circle((place, place), radius, color="b", linewidth=0))
+                patch.draw = partial(drawn_with, samples, patch)
+
+        def drawn_with(samples: int, patch: Any, renderer: Any) -> None:
+            renderer.samples = samples
+            Circle.draw(patch, renderer)
+
+        shown = drawn(change)[INSIDE][..., 0]
+        parts = shown[90:, :120], shown[:90, 120:]
+        self.assertEqual([len(np.unique(part)) for part in parts], [17, 5])
 
     def test_a_missing_library_is_known_at_once(self) -> None:
         with mock.patch.dict(os.environ, {"TRIRAST_LIBRARY": "/no/libtrirast.so"}):

@@ -67,11 +67,11 @@ def real(name: str, value: Any) -> float:
     return given
 
 
-def thread_count(threads: SupportsIndex) -> int:
+def thread_count(threads: SupportsIndex, name: str = "threads") -> int:
     """The number of threads of a call. Raises ValueError if it is less than 1."""
-    given = integer("threads", threads)
+    given = integer(name, threads)
     if given < 1:
-        raise ValueError(f"threads: at least 1, and not {given}")
+        raise ValueError(f"{name}: at least 1, and not {given}")
     return given
 
 

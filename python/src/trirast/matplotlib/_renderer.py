@@ -8,7 +8,7 @@ import numpy as np
 from matplotlib.backends.backend_agg import RendererAgg
 from matplotlib.path import Path
 
-from .._arguments import flag, shown
+from .._arguments import flag, integer, thread_count
 from .._patterns import COUNTS, PATTERNS
 from ._clips import Clips, clip_box
 from ._collection import Collection, rounds_in_order
@@ -167,15 +167,15 @@ class RendererTrirast(RendererAgg):
         colors = cycled(color_bytes(whole.faces), count)
         ours = (colors[:, 3] > 0) & cycled(self._is_smooth(np.asarray(whole.antialiased, bool)), count)
         points, edged = edges_of(whole.edges, whole.widths, count)
-        if gc.get_hatch() is not None:
-            edged[:] = True
-        if not ours.any() or (edged.any() and all(map(has_curve, whole.paths))) or not self._all_samples().can_draw:
+        hatched = gc.get_hatch() is not None
+        are_dots = edged.any() and not hatched and all(map(has_curve, whole.paths))
+        if not ours.any() or are_dots or not self._all_samples().can_draw:
             return False
-        by_agg = edged | (~ours & (colors[:, 3] > 0))
+        by_agg = edged | hatched | (~ours & (colors[:, 3] > 0))
         faces = self._faces(gc, whole, self.points_to_pixels(points), not by_agg.any(), edged.any())
+        if not edged.any() and faces.whole.all() and self._leaves_samples(gc, bool((colors[ours, 3] == OPAQUE).all())):
+            return False
         if not by_agg.any():
-            if faces.whole.all() and self._leaves_samples(gc, bool((colors[ours, 3] == OPAQUE).all())):
-                return False
             self._draw(gc, faces.polygons, colors)
             return True
         return self._draw_with_edges(gc, whole, faces.polygons, colors, ours, by_agg, self.points_to_pixels(points))
@@ -193,8 +193,8 @@ class RendererTrirast(RendererAgg):
         self, gc: Any, whole: Collection, polygons: Polygons, colors: Any, ours: Any, by_agg: Any, widths: Any
     ) -> bool:
         """Draws faces and what Agg draws over them, in rounds. With too many of them opaque faces are drawn below Agg's,
-        where they show between these."""
-        if not have_common_sides(polygons):
+        where they show between these. Hatched faces may have their neighbours in other collections, as contour levels do."""
+        if gc.get_hatch() is None and not have_common_sides(polygons):
             return False
         rounds = rounds_of(polygons, ours, by_agg, widths, int(self.width), int(self.height))
         if rounds is None:
@@ -278,10 +278,12 @@ class RendererTrirast(RendererAgg):
             self._flush_at_end()
 
     def _all_samples(self) -> Samples:
-        if self._samples is None:
-            if self.samples not in tuple(PATTERNS):
-                raise ValueError(f"RendererTrirast.samples: {COUNTS}, and not {shown(self.samples)}")
-            self._samples = Samples(np.asarray(self._agg), self.samples, self.threads)
+        """The samples of the picture. Where a setting has changed they begin anew, as what the picture shows."""
+        settings = sample_count(self.samples), thread_count(self.threads, "RendererTrirast.threads")
+        if self._samples is None or self._samples.settings != settings:
+            if self._samples is not None:
+                self._samples.flush()
+            self._samples = Samples(np.asarray(self._agg), *settings)
         return self._samples
 
     def _clip_box(self, gc: Any) -> Box:
@@ -292,6 +294,14 @@ class RendererTrirast(RendererAgg):
         if gc.get_clip_path()[0] is not None:
             return False
         return opaque or self._samples is None or not self._samples.has_samples(self._clip_box(gc))
+
+
+def sample_count(value: Any) -> int:
+    """The number of samples that a setting asks for. Raises TypeError at what is no integer, and ValueError at any that a canvas has not."""
+    given = integer("RendererTrirast.samples", value)
+    if given not in PATTERNS:
+        raise ValueError(f"RendererTrirast.samples: {COUNTS}, and not {given}")
+    return given
 
 
 def is_origin(path: Any, transform: Any) -> bool:

@@ -44,7 +44,7 @@ class Samples:
     def __init__(self, picture: Any, samples: int, threads: int) -> None:
         self._picture = picture
         self._height, self._width = picture.shape[:2]
-        self._samples, self._threads = samples, threads
+        self.settings = samples, threads
         # By the place of their corner, and by whether their samples have alpha.
         self._windows: Dict[Tuple[int, int, bool], Window] = {}
         self._waiting: List[Waiting] = []
@@ -132,7 +132,7 @@ class Samples:
                 if key not in self._windows:
                     whole = Box(left, top, min(left + MAX_SIDE, self._width), min(top + MAX_SIDE, self._height))
                     pixels = self._picture.view(np.uint32)[..., 0]
-                    self._windows[key] = Window(pixels, whole, self._samples, self._threads, has_alpha)
+                    self._windows[key] = Window(pixels, whole, *self.settings, has_alpha)
                 found.append(self._windows[key])
         return found
 
