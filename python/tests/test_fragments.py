@@ -3,7 +3,7 @@
 import importlib.util
 import unittest
 from fractions import Fraction
-from typing import Any, List, Set, Tuple
+from typing import Any, List, Optional, Set, Tuple
 
 if importlib.util.find_spec("numpy") is None:
     raise unittest.SkipTest("the tests of Canvas.fragments need numpy")
@@ -217,21 +217,21 @@ class Shaded(unittest.TestCase):
 
     def test_alpha_stays(self) -> None:
         vertices, triangles, w = scene(16)
+
+        def shaded(samples: int, *tiles: Optional[Tuple[int, int]]) -> Any:
+            canvas = trirast.Canvas(WIDTH, HEIGHT, samples=samples, alpha=True)
+            canvas.clear((255, 255, 255, 40))
+            canvas.draw(vertices, triangles, depth_test="less", depth_write=True, first_id=0)
+            for tile in tiles:
+                at = canvas.fragments(vertices, triangles, w, tile=tile)
+                canvas.shade(at, np.stack([at.id, at.y % 256, at.x % 256], 1), (9, 8, 7))
+            return np.stack([canvas.colors(sample, format="rgba") for sample in range(samples)])
+
         for samples in (1, 4):
-            whole, tiles = (trirast.Canvas(WIDTH, HEIGHT, samples=samples, alpha=True) for _ in range(2))
-            for canvas in (whole, tiles):
-                canvas.clear((255, 255, 255, 40))
-                canvas.draw(vertices, triangles, depth_test="less", depth_write=True, first_id=0)
-            before = [whole.colors(sample, format="rgba")[..., 3] for sample in range(samples)]
-            self.assertEqual(set(np.unique(before)), {40, 255})
-            for canvas, parts in ((whole, [None]), (tiles, [(0, 0), (1, 0), (0, 1), (1, 1)])):
-                for tile in parts:
-                    at = canvas.fragments(vertices, triangles, w, tile=tile)
-                    canvas.shade(at, np.stack([at.id, at.y % 256, at.x % 256], 1), (9, 8, 7))
-            for sample in range(samples):
-                found = [canvas.colors(sample, format="rgba") for canvas in (whole, tiles)]
-                self.assertTrue(np.array_equal(found[0], found[1]))
-                self.assertTrue(np.array_equal(found[0][..., 3], before[sample]))
+            before, whole = shaded(samples), shaded(samples, None)
+            self.assertEqual(set(np.unique(before[..., 3]).tolist()), {40, 255})
+            self.assertTrue(np.array_equal(whole[..., 3], before[..., 3]))
+            self.assertTrue(np.array_equal(whole, shaded(samples, (0, 0), (1, 0), (0, 1), (1, 1))))
 
     def test_a_cleared_tile(self) -> None:
         canvas, vertices, triangles, w = drawn(15, 4)
