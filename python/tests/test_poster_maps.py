@@ -63,8 +63,10 @@ def scene(folder: Any, value: Any, style: Any) -> poster.Scene:
         ({"type": "GeometryCollection", "geometries": [polygon(SQUARE), polygon([[1, 1]])]}, {}, r"feature 0 \(counted from 0\), geometry 1, polygon 0, ring 0: "),
         ({"type": "MultiPolygon", "coordinates": [SQUARE]}, {}, r"not \[0, 0\]; a MultiPolygon has .*: one level of brackets is missing$"),
         ({"type": "Polygon", "coordinates": SQUARE}, {}, r"not \[0, 0\]; a Polygon has rings of positions: one level of brackets is missing$"),
-        ({"type": "Polygon", "coordinates": [[SQUARE]]}, {}, r"a Polygon has rings of positions: one level of brackets is too many$"),
+        ({"type": "Polygon", "coordinates": [[SQUARE]]}, {}, r"a Polygon has rings of positions: there is one level of brackets too many$"),
         ({"type": "Polygon", "coordinates": [7]}, {}, "a longitude and a latitude, and not 7; .* is missing$"),
+        ({"type": "Polygon", "coordinates": [[[]]]}, {}, r"a longitude and a latitude, and not \[\[\]\]$"),
+        ({**feature(polygon([*SQUARE, [1, 91]])), "id": 7}, {}, r"feature 0 \(counted from 0, id 7\): a longitude"),
         ({**feature(polygon([[1, 1]])), "id": "DE"}, {}, r"feature 0 \(counted from 0, id 'DE'\), polygon 0"),
         # Places.
         (collection(feature(polygon(SQUARE)), feature(None), feature(polygon([*SQUARE, [5, 95]]))), {}, r"feature 2 .* not \[5.0, 95.0\]; .*: GeoJSON has the longitude first"),
@@ -154,6 +156,13 @@ def test_a_plane_has_any_units(tmp_path: Any) -> None:
         *found.polygons.corners[5:].tolist(),
     ]
     assert (found.polygons.corners[5:].min(), found.polygons.corners[5:].max()) == (-256 * 64, 256 * 164)
+
+
+def test_a_feature_a_line(tmp_path: Any) -> None:
+    path = tmp_path / "lines.geojson"
+    path.write_text(2 * (json.dumps(feature(polygon(SQUARE))) + "\n"), "ascii")
+    with pytest.raises(poster.MapError, match="Extra data: line 2 .*, as one feature a line, make one FeatureCollection"):
+        poster.scene_of(path)
 
 
 def test_a_window_of_a_map_is_no_side(capsys: Any) -> None:

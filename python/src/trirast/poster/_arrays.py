@@ -64,9 +64,9 @@ def scene_of_arrays(
 
 def scene_of_polygons(polygons: Polygons, value: Any) -> Scene:
     """A scene of polygons alone. `value` is a draw list in whose draws `polygons` is a number, or
-    which has no draws: then all polygons are one.
+    which has no draws: then all polygons are one, without blending.
 
-    Raises ArraysError if an array does not fit, and trirast.Error if `value` is wrong.
+    Raises ArraysError if an array does not fit, and trirast.Error if `value` is wrong; its text names the key, the value and what is allowed.
     """
     own = own_polygons(polygons)
     vertices, triangles = NO_TRIANGLES

@@ -12,8 +12,8 @@ class ArraysError(PosterError, ValueError):
 
 
 class MapError(PosterError, ValueError):
-    """What was given is no GeoJSON of polygons in degrees, or no style of a map, or of the map nothing would be seen, or nothing in the
-    style's colours. The text says where."""
+    """What was given is no GeoJSON of polygons, in degrees or as a plane, or no style of a map, or of the map nothing would be seen, or
+    nothing in the style's colours. The text says where."""
 
 
 class GuardBandError(PosterError, ValueError):

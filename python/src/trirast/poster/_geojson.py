@@ -34,11 +34,11 @@ OF_RING = 2
 
 
 class Feature(NamedTuple):
-    """The rings of a feature, its properties, and what messages call it."""
+    """The rings of a feature, its properties, and what messages say of its id."""
 
     rings: Sequence[Places]
     properties: Mapping[str, Any]
-    name: str
+    key: str
 
 
 def scene_of_geojson(path: str, style: Optional[str] = None) -> Scene:
@@ -55,9 +55,7 @@ def scene_of_geojson(path: str, style: Optional[str] = None) -> Scene:
     degrees = np.concatenate(rings)
     ring_ends = np.cumsum([len(ring) for ring in rings], dtype=np.uint32)
     polygon_ends = np.cumsum([len(feature.rings) for feature in features], dtype=np.uint32)
-    ends = with_zero(ring_ends)[polygon_ends]
-    check_finite(degrees, ends, features)
-    check_places(degrees, ends, features, drawn, path)
+    check_places(degrees, with_zero(ring_ends)[polygon_ends], features, drawn, path)
     drawn = of_data(given, degrees) if is_of_data(given) else drawn
     places = projected(degrees, drawn)
     is_seen = seen(places, ring_ends, polygon_ends, drawn.sheet)
@@ -80,7 +78,8 @@ def read_json(path: str) -> Any:
         try:
             return json.load(file)
         except (ValueError, RecursionError) as error:
-            raise MapError(f"{path}: no JSON text: {error}") from error
+            several = "; of several texts, as one feature a line, make one FeatureCollection" * str(error).startswith("Extra data")
+            raise MapError(f"{path}: no JSON text: {error}{several}") from error
 
 
 # ---- GeoJSON
@@ -90,11 +89,16 @@ def features_of(value: Any, path: str) -> Iterator[Feature]:
     """The features of a GeoJSON text. Raises MapError if it is none, or has another geometry than polygons."""
     for number, feature in enumerate(listed_features(value, path)):
         key = f", id {shown(feature['id'])}" if isinstance(feature, dict) and "id" in feature else ""
-        where = f"{path}: feature {number} (counted from 0{key})"
+        where = name_of_feature(path, number, key)
         if not isinstance(feature, dict):
             raise MapError(f"{where}: an object, and not {shown(feature)}")
         properties = feature.get("properties")
-        yield Feature(list(rings_of(feature.get("geometry"), where)), properties if isinstance(properties, dict) else {}, where)
+        yield Feature(list(rings_of(feature.get("geometry"), where)), properties if isinstance(properties, dict) else {}, key)
+
+
+def name_of_feature(path: str, number: int, key: str) -> str:
+    """What messages call a feature, with what they say of its id."""
+    return f"{path}: feature {number} (counted from 0{key})"
 
 
 def listed_features(value: Any, path: str) -> Sequence[Any]:
@@ -143,8 +147,8 @@ def ring_of(ring: Any, where: str, levels: str) -> Places:
     count = len(ring) if isinstance(ring, list) else 0
     if ring != [] and (found.shape != (count, 2) or found.dtype.kind not in "iuf"):
         depth = depth_of(ring)
-        wrong = f"; {levels}: one level of brackets is {'missing' if depth < OF_RING else 'too many'}" if depth != OF_RING else ""
-        raise MapError(f"{where}: positions of a longitude and a latitude, and not {shown(ring)}{wrong}")
+        level = "one level of brackets is missing" if depth < OF_RING else "there is one level of brackets too many"
+        raise MapError(f"{where}: positions of a longitude and a latitude, and not {shown(ring)}" + f"; {levels}: {level}" * (depth != OF_RING))
     if not has_different(ring, FEWEST):
         raise MapError(f"{where}: {FEWEST} different positions or more, and not {shown(ring)}")
     return found.astype(np.float64)
@@ -153,8 +157,8 @@ def ring_of(ring: Any, where: str, levels: str) -> Places:
 def depth_of(value: Any) -> int:
     """How many brackets stand before the first number."""
     depth = 0
-    while isinstance(value, list) and value:
-        depth, value = depth + 1, value[0]
+    while isinstance(value, list):
+        depth, value = depth + 1, value[0] if value else None
     return depth
 
 
@@ -171,27 +175,20 @@ def has_different(ring: Sequence[Any], count: int) -> bool:
 # ---- Places
 
 
-def check_finite(places: Places, ends: NDArray[Any], features: Sequence[Feature]) -> None:
-    """Raises MapError at NaN and infinities. `ends` has of each feature the index behind its last position."""
-    wrong = ~np.isfinite(places).all(1)
-    if wrong.any():
-        first = int(wrong.argmax())
-        raise MapError(f"{name_at(first, ends, features)}: positions of finite numbers, and not {places[first].tolist()}")
-
-
 def check_places(places: Places, ends: NDArray[Any], features: Sequence[Feature], style: Style, path: str) -> None:
-    """Raises MapError at a position that is no longitude and latitude, or too far away in a plane."""
+    """Raises MapError at NaN and infinities, and at a position that is no longitude and latitude, or too far away in a plane. `ends` has of
+    each feature the index behind its last position."""
     is_plane = style.projection == PLANE
-    wrong = ~(np.abs(places) <= (FAR if is_plane else FARTHEST)).all(1)
-    if wrong.any():
-        first = int(wrong.argmax())
-        wanted = f"x and y of {-FAR:g} to {FAR:g}" if is_plane else "a longitude of -360 to 360 and a latitude of -90 to 90"
-        raise MapError(f"{name_at(first, ends, features)}: {wanted}, and not {places[first].tolist()}; {reach_of(places, style)}: {hint(places, style)}")
-
-
-def name_at(place: int, ends: NDArray[Any], features: Sequence[Feature]) -> str:
-    """What messages call the feature of a position."""
-    return features[int(np.searchsorted(ends, place, "right"))].name
+    odd, wrong = ~np.isfinite(places).all(1), ~(np.abs(places) <= (FAR if is_plane else FARTHEST)).all(1)
+    if not wrong.any():
+        return
+    first = int((odd if odd.any() else wrong).argmax())
+    number = int(np.searchsorted(ends, first, "right"))
+    where, place = name_of_feature(path, number, features[number].key), places[first].tolist()
+    if odd.any():
+        raise MapError(f"{where}: positions of finite numbers, and not {place}")
+    wanted = f"x and y of {-FAR:g} to {FAR:g}" if is_plane else "a longitude of -360 to 360 and a latitude of -90 to 90"
+    raise MapError(f"{where}: {wanted}, and not {place}; {reach_of(places, style)}: {hint(places, style)}")
 
 
 def hint(places: Places, style: Style) -> str:
