@@ -110,7 +110,7 @@ def faces_have_their_alpha(gc: Any) -> Iterator[None]:
 
 def take_grids(renderer_class: Any, mesh_of: Callable[[Any, Any], Any]) -> None:
     """Has Gouraud meshes that such a renderer draws give what is made of their grid and its colours in place of triangles."""
-    triangles_of = getattr(QuadMesh, "_convert_mesh_to_triangles", None)
+    triangles_of: Any = getattr(QuadMesh, "_convert_mesh_to_triangles", None)
 
     def converted(mesh: Any, coordinates: Any) -> Any:
         frame: Any = inspect.currentframe()

@@ -56,6 +56,9 @@ def with_middles(grid: Any) -> Any:
     wide = grid.shape[1]
     found = np.empty((len(grid), 2 * wide - 1, grid.shape[2]))
     found[:, :wide] = grid
-    found[:-1, wide:] = (grid[:-1, :-1] + grid[:-1, 1:] + grid[1:, 1:] + grid[1:, :-1]) / 4.0
+    middles = grid[:-1, :-1] + grid[:-1, 1:]
+    middles += grid[1:, 1:]
+    middles += grid[1:, :-1]
+    np.divide(middles, 4.0, out=found[:-1, wide:])
     found[-1, wide:] = grid[-1, 1:]
     return found
