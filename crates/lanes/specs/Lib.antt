@@ -60,7 +60,7 @@
 --   IsStored: The colour of a sample takes a value with each of these in the channels of the write mask.
 --   IsColoured: The colour of a sample is merged with a fragment's.
 --   AreMasked: Of the sixteen samples from k on P holds where the mask is set, and no other changes, nor any alpha or depth.
---   AreStored: Sixteen samples take these colours where the mask is set.
+--   TakeColours: Sixteen samples take these colours where the mask is set.
 --   AreColoured: The colours of sixteen samples are merged with those of fragments where the mask is set.
 --
 -- Sums.antt

@@ -49,8 +49,8 @@ pub record AreMasked (P : ℕ → CanvasSample → CanvasSample → Type 0) (mas
   pub depth : new.z ≡ old.z
 
 -- Sixteen samples take these colours where the mask is set.
-abbrev pub AreStored : List Bool → List ℕ → ColourLanes → BlockSamples → BlockSamples → ℕ → Type 0
-AreStored write mask v old new k =
+abbrev pub TakeColours : List Bool → List ℕ → ColourLanes → BlockSamples → BlockSamples → ℕ → Type 0
+TakeColours write mask v old new k =
     AreMasked (λ i. IsStored write (λ n. n ≡ slice_index v.red i) (λ n. n ≡ slice_index v.green i) (λ n. n ≡ slice_index v.blue i)) mask old new k
 
 -- The colours of sixteen samples are merged with those of fragments where the mask is set.

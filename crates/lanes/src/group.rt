@@ -4,7 +4,7 @@ ghost use Rattle.std.specs.Simd.Lanes.{Each1};
 ghost use Rattle.grid.specs.Triangle.{Covers};
 ghost use Rattle.shade.specs.Merging.{IsWritten};
 ghost use Rattle.shade.specs.Presets.{IsKnown};
-ghost use Rattle.lanes.specs.Merging.{IsTested, AreByteFragments, ReadsColours, AreStored, AreColoured};
+ghost use Rattle.lanes.specs.Merging.{IsTested, AreByteFragments, ReadsColours, TakeColours, AreColoured};
 ghost use Rattle.lanes.specs.Mode.{known_of};
 ghost use Rattle.shade.specs.declared.placed.Placed.{Placed as Triangle};
 ghost use Rattle.shade.specs.Placed.{IsInterpolated};
@@ -98,7 +98,7 @@ fn store_colours(
 )
     requires room { at + 16 ≤ 64 }
     requires bytes { AreByteColours new.now }
-    ensures { AreStored write mask new.now samples.old samples.new at }
+    ensures { TakeColours write mask new.now samples.old samples.new at }
 {
     let [red, green, blue] = write;
     store_channel(red, mask, new.red, &mut samples.r, at);
