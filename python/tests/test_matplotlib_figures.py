@@ -264,7 +264,7 @@ class Settings(unittest.TestCase):
                 pictures.append(np.array(canvas.buffer_rgba()))
                 self.assertEqual(len(np.unique(pictures[-1][INSIDE][..., 0])), samples + 1)
         self.assertEqual(unlike(pictures[0], pictures[3]), 0)
-        with mock.patch.object(RendererTrirast, "threads", 3), mock.patch.object(_samples, "Window", side_effect=_samples.Window) as window:
+        with mock.patch.object(RendererTrirast, "threads", 3), mock.patch.object(_samples, "Window", side_effect=_window.Window) as window:
             canvas.draw()
         self.assertEqual([call.args[2:4] for call in window.call_args_list], [(16, 3)])
 
