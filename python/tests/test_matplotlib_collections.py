@@ -293,18 +293,19 @@ class Hatches(unittest.TestCase):
     def test_no_seams(self) -> None:
         """With strokes that are clear, and away from those that are seen."""
         for plot, hatch in HATCHED:
-            within = neighbours.inside(plot, FigureCanvasTrirast, 0.5)
-            for color in ("none", "black"):
+
+            def shown(alpha: float, canvas_class: Any, color: str = "black") -> Any:
                 with rc_context({"hatch.color": color}):
-                    strokes, agg, ours = (
-                        neighbours.drawn(lambda axes: plot(axes, neighbours.one_color(alpha), **hatch), canvas)
-                        for alpha, canvas in ((0, FigureCanvasAgg), (0.5, FigureCanvasAgg), (0.5, FigureCanvasTrirast))
-                    )
-                away = within & (strokes == 255).all(2)
-                self.assertEqual(color == "none", not (strokes != 255).any())
-                self.assertGreater(int(away.sum()), 60000)
-                self.assertTrue((ours[away] == ours[away][0]).all(), (plot, color))
-                self.assertGreater(int((agg[away] != neighbours.commonest(agg[away])).any(1).sum()), 3000)
+                    return neighbours.drawn(lambda axes: plot(axes, neighbours.one_color(alpha), **hatch), canvas_class)
+
+            within = neighbours.inside(plot, FigureCanvasTrirast, 0.5)
+            away = within & (shown(0, FigureCanvasAgg) == 255).all(2)
+            self.assertGreater(int(within.sum()), int(away.sum()) + 10000)
+            for pixels in (shown(0.5, FigureCanvasTrirast, "none")[within], shown(0.5, FigureCanvasTrirast)[away]):
+                self.assertGreater(len(pixels), 60000)
+                self.assertTrue((pixels == pixels[0]).all(), plot)
+            by_agg = shown(0.5, FigureCanvasAgg)[away]
+            self.assertGreater(int((by_agg != neighbours.commonest(by_agg)).any(1).sum()), 3000)
 
     def test_strokes_are_those_of_agg(self) -> None:
         for plot, hatch in HATCHED:
