@@ -86,7 +86,7 @@ public:
         return found;
     }
 
-    // A frame whose parts are not told apart: wall and processor time.
+    // A frame whose parts are timed together: wall and processor time.
     std::pair<double, double> frame(trirast::Rate rate) {
         const double spent = processor();
         const Clock::time_point begin = Clock::now();

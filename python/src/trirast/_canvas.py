@@ -346,7 +346,7 @@ class Canvas:
     ) -> None:
         """Puts the colours of fragments in place of the ids, a row of 0 to 255 for each, and elsewhere the background:
         in the tile of the fragments, or in the whole canvas. Depths stay, and so does alpha: 255 where ids were drawn,
-        and elsewhere as it was cleared."""
+        and elsewhere the one that `clear` stored."""
         wanted = (self.samples, *self._sides(fragments.tile))
         if fragments.index.shape != wanted:
             what = "samples, height and width"
