@@ -209,6 +209,7 @@ class Corners(unittest.TestCase):
             ({**value, "draws": [{"polygons": 1, "blend": "alpha"}]}, "OutOfRange in draw 0: blend: one of 'none', 'over', and not 'alpha'"),
             ({**value, "draws": [{"polygons": 1}, {"polygons": 0, "alpha": 3}]}, "UnknownKey in draw 1: some of the keys polygons, .*, and not 'alpha'"),
             ({**value, "draws": [7]}, "WrongKind in draw 0: a dict with .*, and not 7"),
+            ({**value, "draws": [{"polygons": 0}] * 1025 + [7]}, "WrongKind in draw 1025: a dict with .*, and not 7"),
             (7, "WrongKind: a dict with the keys width, .*, and not 7"),
         ]
         for each, text in lists:

@@ -4,7 +4,8 @@ from __future__ import annotations
 
 import json
 import re
-from typing import Any, Optional
+from contextlib import contextmanager
+from typing import Any, Iterator, Optional
 
 import numpy as np
 from numpy.typing import NDArray
@@ -104,7 +105,20 @@ def check_states(value: Any) -> None:
             return
         for first in range(0, max(1, len(draws)), LIST_DRAWS):
             bare = [bare_draw(draw) if isinstance(draw, dict) else draw for draw in draws[first : first + LIST_DRAWS]]
-            image_info(cut(json.dumps({**value, **listed_samples(value), "draws": bare}).encode()))
+            with counting_from(first):
+                image_info(cut(json.dumps({**value, **listed_samples(value), "draws": bare}).encode()))
+
+
+@contextmanager
+def counting_from(first: int) -> Iterator[None]:
+    """Counts the draw of a DrawListError that is raised within from this draw on."""
+    try:
+        yield
+    except DrawListError as error:
+        if error.draw is not None:
+            before, error.draw = error.draw, first + error.draw
+            error.args = (str(error).replace(f" in draw {before}", f" in draw {error.draw}"),)
+        raise
 
 
 def bare_draw(draw: Any) -> Any:
