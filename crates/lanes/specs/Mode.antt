@@ -48,6 +48,11 @@ pub record IsColourBy (t : Placed) (c : Colour) : Type 0 where
   pub is_mode : IsColourMode t c.mode
   pub are_planes : IsByPlanes c.mode → AreColourPlanes t c.planes
 
+-- The colour equation of a draw list's `over`, or of its `none`.
+abbrev pub known_of : Bool → KnownEquation
+known_of false = Replace
+known_of true = Over
+
 -- Where alpha is written, the equation of alpha is that of the blend state `over`, or of `none`.
 abbrev pub IsAlphaKnown : Bool → Bool → Equation → Type 0
 IsAlphaKnown over false e = Unit {0}
@@ -55,44 +60,48 @@ IsAlphaKnown false true e = AreAlike e replace
 IsAlphaKnown true true e = AreAlike e premultiplied_over
 
 -- The merge writes red, green and blue, and alpha or not.
-pub record WritesColours (over alpha : Bool) (m : Merge) : Type 0 where
+pub record WritesColours (alpha : Bool) (m : Merge) : Type 0 where
   pub colours : m.write ≡ true ∷ true ∷ true ∷ []
   pub with_alpha : m.blend.write_alpha ≡ alpha
+
+-- The merge writes red, green and blue by the known equation, and alpha or not. Of an equation of draw lists it is the blend state by
+-- which alpha is written.
+pub record WritesListed (over alpha : Bool) (m : Merge) : Type 0 where
+  pub known : IsKnown (known_of over) m.blend.colour
+  pub colours : WritesColours alpha m
   pub alpha_known : IsAlphaKnown over alpha m.blend.alpha
 
--- Samples can be merged in this mode: one after another always, and sixteen at once by the equation of the merge. The two
--- equations of draw lists have modes of their own, in which red, green and blue are written, and alpha is not, or by the blend state
--- of this equation.
+-- Samples can be merged in this mode: one after another always, and sixteen at once by the equation of the merge. Where red, green and
+-- blue are written, and alpha is or is not, other modes than those of `Otherwise` have code of their own: those of the two equations of
+-- draw lists, with the equation of alpha of the same blend state, and those of any equation.
 abbrev pub IsMergeMode : Merge → DrawMode → Type 0
 IsMergeMode m draw.Each = Unit {0}
-IsMergeMode m draw.Replace = IsKnown Replace m.blend.colour × WritesColours false false m
-IsMergeMode m draw.Over = IsKnown Over m.blend.colour × WritesColours true false m
-IsMergeMode m draw.ReplaceWithAlpha = IsKnown Replace m.blend.colour × WritesColours false true m
-IsMergeMode m draw.OverWithAlpha = IsKnown Over m.blend.colour × WritesColours true true m
+IsMergeMode m draw.Replace = WritesListed false false m
+IsMergeMode m draw.Over = WritesListed true false m
+IsMergeMode m draw.ReplaceWithAlpha = WritesListed false true m
+IsMergeMode m draw.OverWithAlpha = WritesListed true true m
+IsMergeMode m draw.Blend = WritesColours false m
+IsMergeMode m draw.BlendWithAlpha = WritesColours true m
 IsMergeMode m (draw.Otherwise known) = IsKnown known m.blend.colour
 
--- The triangle can be drawn sixteen samples at once by this depth and this colour, and its draw blends by the known equation.
-pub record IsDrawnBy (t : Placed) (known : KnownEquation) (depth : Depth) (colour : Colour) : Type 0 where
-  pub known_of : IsKnown known t.state.merge.blend.colour
+-- The triangle can be drawn sixteen samples at once by this depth and this colour.
+pub record IsDrawnBy (t : Placed) (depth : Depth) (colour : Colour) : Type 0 where
   pub depth_of : IsDepthBy t depth
   pub colour_of : IsColourBy t colour
 
 -- The triangle can be drawn in this mode, by this depth and this colour if sixteen samples are drawn at once.
 abbrev pub IsDrawModeOf : Placed → DrawMode → Depth → Colour → Type 0
 IsDrawModeOf t draw.Each depth colour = Unit {0}
-IsDrawModeOf t draw.Replace depth colour = IsDrawnBy t Replace depth colour × WritesColours false false t.state.merge
-IsDrawModeOf t draw.Over depth colour = IsDrawnBy t Over depth colour × WritesColours true false t.state.merge
-IsDrawModeOf t draw.ReplaceWithAlpha depth colour = IsDrawnBy t Replace depth colour × WritesColours false true t.state.merge
-IsDrawModeOf t draw.OverWithAlpha depth colour = IsDrawnBy t Over depth colour × WritesColours true true t.state.merge
-IsDrawModeOf t (draw.Otherwise known) depth colour = IsDrawnBy t known depth colour
+IsDrawModeOf t draw.Replace depth colour = IsDrawnBy t depth colour × WritesListed false false t.state.merge
+IsDrawModeOf t draw.Over depth colour = IsDrawnBy t depth colour × WritesListed true false t.state.merge
+IsDrawModeOf t draw.ReplaceWithAlpha depth colour = IsDrawnBy t depth colour × WritesListed false true t.state.merge
+IsDrawModeOf t draw.OverWithAlpha depth colour = IsDrawnBy t depth colour × WritesListed true true t.state.merge
+IsDrawModeOf t draw.Blend depth colour = IsDrawnBy t depth colour × WritesColours false t.state.merge
+IsDrawModeOf t draw.BlendWithAlpha depth colour = IsDrawnBy t depth colour × WritesColours true t.state.merge
+IsDrawModeOf t (draw.Otherwise known) depth colour = IsDrawnBy t depth colour × IsKnown known t.state.merge.blend.colour
 
 -- What a triangle is drawn by: the merge of its draw, its depth and its colour.
 pub record AreSourcesOf (t : Placed) (merge : Merge) (depth : DepthSource) (colour : ColourSource) : Type 0 where
   pub merge_of : t.state.merge ≡ merge
   pub depth_of : IsDepthOf t depth
   pub colour_of : IsColourOf t colour
-
--- The colour equation of a draw list's `over`, or of its `none`.
-abbrev pub known_of : Bool → KnownEquation
-known_of false = Replace
-known_of true = Over

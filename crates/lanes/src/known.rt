@@ -1,7 +1,7 @@
 //! A merge made again, so that its colour equation is known if the code is inlined.
 ghost use Rattle.std.specs.Prelude.{◌≡◌};
 ghost use Rattle.shade.specs.Presets.{IsKnown};
-ghost use Rattle.lanes.specs.Mode.{IsAlphaKnown, WritesColours, known_of};
+ghost use Rattle.lanes.specs.Mode.{IsAlphaKnown, WritesColours, WritesListed};
 
 use shade::{Blend, Equation, KnownEquation, Merge};
 
@@ -74,9 +74,8 @@ fn alpha_again<const OVER: bool, const ALPHA: bool>(e: &Equation) -> Equation
 /// A merge that writes red, green and blue by an equation of draw lists, made again so that its equations and what it
 /// writes are known if the code is inlined. With `ALPHA` it writes alpha.
 #[inline(always)]
-pub(crate) fn whole<const OVER: bool, const ALPHA: bool>(merge: &Merge) -> Merge
-    requires known { IsKnown (known_of OVER) merge.now.blend.colour }
-    requires all { WritesColours OVER ALPHA merge.now }
+pub(crate) fn listed<const OVER: bool, const ALPHA: bool>(merge: &Merge) -> Merge
+    requires { WritesListed OVER ALPHA merge.now }
     ensures { result ≡ merge.now }
 {
     let known = if OVER {
@@ -86,4 +85,20 @@ pub(crate) fn whole<const OVER: bool, const ALPHA: bool>(merge: &Merge) -> Merge
     };
     let alpha = alpha_again::<OVER, ALPHA>(&merge.blend.alpha);
     remade(known, merge, alpha, [true; 3], ALPHA)
+}
+
+/// A merge that writes red, green and blue, made again so that what it writes is known if the code is inlined. With
+/// `ALPHA` it writes alpha.
+#[inline(always)]
+pub(crate) fn whole<const ALPHA: bool>(merge: &Merge) -> Merge
+    requires { WritesColours ALPHA merge.now }
+    ensures { result ≡ merge.now }
+{
+    remade(
+        KnownEquation::Other,
+        merge,
+        merge.blend.alpha,
+        [true; 3],
+        ALPHA,
+    )
 }

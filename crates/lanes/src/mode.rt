@@ -41,7 +41,11 @@ pub(crate) enum DrawMode {
     ReplaceWithAlpha,
     /// Sixteen samples at once; the colour is laid over the stored one, and so is alpha.
     OverWithAlpha,
-    /// Sixteen samples at once, by a merge that leaves a colour channel, or blends by other equations.
+    /// Sixteen samples at once; the colour is blended with the stored one by any equation.
+    Blend,
+    /// Sixteen samples at once; the colour is blended with the stored one by any equation, and so is alpha.
+    BlendWithAlpha,
+    /// Sixteen samples at once, by a merge that leaves a colour channel.
     Otherwise(KnownEquation),
 }
 
@@ -73,16 +77,13 @@ fn is_alpha_known(over: bool, equation: &Equation) -> bool
     }
 }
 
-/// Whether a merge writes red, green and blue, and alpha exactly if it is asked for, then by a known equation.
+/// Whether a merge writes red, green and blue, and alpha exactly if it is asked for.
 #[inline(always)]
-fn writes_colours(merge: &Merge, over: bool, alpha: bool) -> bool
-    ensures { IsTrue result → WritesColours over alpha merge.now }
+fn writes_colours(merge: &Merge, alpha: bool) -> bool
+    ensures { IsTrue result → WritesColours alpha merge.now }
 {
     let [red, green, blue] = merge.write;
-    red && green
-        && blue
-        && merge.blend.write_alpha == alpha
-        && (!alpha || is_alpha_known(over, &merge.blend.alpha))
+    red && green && blue && merge.blend.write_alpha == alpha
 }
 
 impl DrawMode {
@@ -92,13 +93,22 @@ impl DrawMode {
         ensures { IsMergeMode merge.now result }
     {
         let known = KnownEquation::of(&merge.blend.colour);
-        match known {
-            KnownEquation::Replace if writes_colours(merge, false, false) => DrawMode::Replace,
-            KnownEquation::Over if writes_colours(merge, true, false) => DrawMode::Over,
-            KnownEquation::Replace if writes_colours(merge, false, true) =>
-                DrawMode::ReplaceWithAlpha,
-            KnownEquation::Over if writes_colours(merge, true, true) => DrawMode::OverWithAlpha,
-            _ => DrawMode::Otherwise(known),
+        if writes_colours(merge, false) {
+            match known {
+                KnownEquation::Replace => DrawMode::Replace,
+                KnownEquation::Over => DrawMode::Over,
+                KnownEquation::Other => DrawMode::Blend,
+            }
+        } else if writes_colours(merge, true) {
+            match known {
+                KnownEquation::Replace if is_alpha_known(false, &merge.blend.alpha) =>
+                    DrawMode::ReplaceWithAlpha,
+                KnownEquation::Over if is_alpha_known(true, &merge.blend.alpha) =>
+                    DrawMode::OverWithAlpha,
+                _ => DrawMode::BlendWithAlpha,
+            }
+        } else {
+            DrawMode::Otherwise(known)
         }
     }
 }
