@@ -4,7 +4,7 @@ use Rattle.shade.specs.declared.placed.Placed.{Placed}
 use Rattle.shade.specs.declared.sample.Merge.{Merge}
 use Rattle.shade.specs.declared.equation.Equation.{Equation}
 use Rattle.shade.specs.declared.known.KnownEquation.{KnownEquation}
-use Rattle.shade.specs.declared.known.KnownEquation.TheVariants.{Replace, Over}
+use Rattle.shade.specs.declared.known.KnownEquation.TheVariants.{Replace, Over, Other}
 use Rattle.lanes.specs.declared.sources.DepthSource.{DepthSource}
 use Rattle.lanes.specs.declared.sources.ColourSource.{ColourSource}
 use Rattle.lanes.specs.declared.mode.DepthMode.{DepthMode}
@@ -53,35 +53,40 @@ abbrev pub known_of : Bool → KnownEquation
 known_of false = Replace
 known_of true = Over
 
--- Where alpha is written, the equation of alpha is that of the blend state `over`, or of `none`.
-abbrev pub IsAlphaKnown : Bool → Bool → Equation → Type 0
-IsAlphaKnown over false e = Unit {0}
-IsAlphaKnown false true e = AreAlike e replace
-IsAlphaKnown true true e = AreAlike e premultiplied_over
+-- The colour equation of draw lists, or any equation.
+abbrev pub equation_of : Bool → Bool → KnownEquation
+equation_of false over = Other
+equation_of true over = known_of over
+
+-- Where alpha is written with an equation of draw lists, the equation of alpha is that of the blend state `over`, or of `none`.
+abbrev pub IsAlphaKnown : Bool → Bool → Bool → Equation → Type 0
+IsAlphaKnown false over alpha e = Unit {0}
+IsAlphaKnown true over false e = Unit {0}
+IsAlphaKnown true false true e = AreAlike e replace
+IsAlphaKnown true true true e = AreAlike e premultiplied_over
 
 -- The merge writes red, green and blue, and alpha or not.
 pub record WritesColours (alpha : Bool) (m : Merge) : Type 0 where
   pub colours : m.write ≡ true ∷ true ∷ true ∷ []
   pub with_alpha : m.blend.write_alpha ≡ alpha
 
--- The merge writes red, green and blue by the known equation, and alpha or not. Of an equation of draw lists it is the blend state by
--- which alpha is written.
-pub record WritesListed (over alpha : Bool) (m : Merge) : Type 0 where
-  pub known : IsKnown (known_of over) m.blend.colour
+-- The merge writes red, green and blue, by an equation of draw lists or by any, and alpha or not.
+pub record WritesColoursBy (listed over alpha : Bool) (m : Merge) : Type 0 where
+  pub known : IsKnown (equation_of listed over) m.blend.colour
   pub colours : WritesColours alpha m
-  pub alpha_known : IsAlphaKnown over alpha m.blend.alpha
+  pub alpha_known : IsAlphaKnown listed over alpha m.blend.alpha
 
 -- Samples can be merged in this mode: one after another always, and sixteen at once by the equation of the merge. Where red, green and
--- blue are written, and alpha is or is not, other modes than those of `Otherwise` have code of their own: those of the two equations of
--- draw lists, with the equation of alpha of the same blend state, and those of any equation.
+-- blue are written, and alpha is or is not, there are modes for the two equations of draw lists, with alpha by the same blend state,
+-- and for any equation.
 abbrev pub IsMergeMode : Merge → DrawMode → Type 0
 IsMergeMode m draw.Each = Unit {0}
-IsMergeMode m draw.Replace = WritesListed false false m
-IsMergeMode m draw.Over = WritesListed true false m
-IsMergeMode m draw.ReplaceWithAlpha = WritesListed false true m
-IsMergeMode m draw.OverWithAlpha = WritesListed true true m
-IsMergeMode m draw.Blend = WritesColours false m
-IsMergeMode m draw.BlendWithAlpha = WritesColours true m
+IsMergeMode m draw.Replace = WritesColoursBy true false false m
+IsMergeMode m draw.Over = WritesColoursBy true true false m
+IsMergeMode m draw.ReplaceWithAlpha = WritesColoursBy true false true m
+IsMergeMode m draw.OverWithAlpha = WritesColoursBy true true true m
+IsMergeMode m draw.Blend = WritesColoursBy false false false m
+IsMergeMode m draw.BlendWithAlpha = WritesColoursBy false false true m
 IsMergeMode m (draw.Otherwise known) = IsKnown known m.blend.colour
 
 -- The triangle can be drawn sixteen samples at once by this depth and this colour.
@@ -92,12 +97,12 @@ pub record IsDrawnBy (t : Placed) (depth : Depth) (colour : Colour) : Type 0 whe
 -- The triangle can be drawn in this mode, by this depth and this colour if sixteen samples are drawn at once.
 abbrev pub IsDrawModeOf : Placed → DrawMode → Depth → Colour → Type 0
 IsDrawModeOf t draw.Each depth colour = Unit {0}
-IsDrawModeOf t draw.Replace depth colour = IsDrawnBy t depth colour × WritesListed false false t.state.merge
-IsDrawModeOf t draw.Over depth colour = IsDrawnBy t depth colour × WritesListed true false t.state.merge
-IsDrawModeOf t draw.ReplaceWithAlpha depth colour = IsDrawnBy t depth colour × WritesListed false true t.state.merge
-IsDrawModeOf t draw.OverWithAlpha depth colour = IsDrawnBy t depth colour × WritesListed true true t.state.merge
-IsDrawModeOf t draw.Blend depth colour = IsDrawnBy t depth colour × WritesColours false t.state.merge
-IsDrawModeOf t draw.BlendWithAlpha depth colour = IsDrawnBy t depth colour × WritesColours true t.state.merge
+IsDrawModeOf t draw.Replace depth colour = IsDrawnBy t depth colour × WritesColoursBy true false false t.state.merge
+IsDrawModeOf t draw.Over depth colour = IsDrawnBy t depth colour × WritesColoursBy true true false t.state.merge
+IsDrawModeOf t draw.ReplaceWithAlpha depth colour = IsDrawnBy t depth colour × WritesColoursBy true false true t.state.merge
+IsDrawModeOf t draw.OverWithAlpha depth colour = IsDrawnBy t depth colour × WritesColoursBy true true true t.state.merge
+IsDrawModeOf t draw.Blend depth colour = IsDrawnBy t depth colour × WritesColoursBy false false false t.state.merge
+IsDrawModeOf t draw.BlendWithAlpha depth colour = IsDrawnBy t depth colour × WritesColoursBy false false true t.state.merge
 IsDrawModeOf t (draw.Otherwise known) depth colour = IsDrawnBy t depth colour × IsKnown known t.state.merge.blend.colour
 
 -- What a triangle is drawn by: the merge of its draw, its depth and its colour.

@@ -7,13 +7,13 @@ ghost use Rattle.planes.specs.Group.{position_in};
 ghost use Rattle.lanes.specs.Block.{IsOnScreen, CoversMask, AreDrawn};
 ghost use Rattle.lanes.specs.BlockMask.{CoversBlock, IsBlockDrawn};
 ghost use Rattle.lanes.specs.Lanes.{IsMask};
-ghost use Rattle.lanes.specs.Mode.{AreSourcesOf, IsDrawnBy, WritesColours, WritesListed};
+ghost use Rattle.lanes.specs.Mode.{AreSourcesOf, IsDrawnBy, WritesColoursBy};
 
 use crate::block_mask::BlockMask;
 use crate::block_samples::BlockSamples;
 use crate::group::draw_group;
 use crate::interpolants::Interpolants;
-use crate::known::{listed, whole, with_known};
+use crate::known::{whole, with_known};
 use crate::lane_mask::lanes_of_mask;
 use crate::mode::{Colour, ColourMode, Depth, DepthMode, DrawMode};
 use crate::one_by_one::draw_each;
@@ -175,11 +175,11 @@ fn draw_planes(
     }
 }
 
-/// Draws a block's samples by a merge that was made again. Each source of colour and of depth has code of its own, since
-/// what is made here is known in the code that stands in line.
-#[inline(always)]
-fn draw_from_sources(
-    merge: &Merge,
+/// Draws a block's samples by a merge that writes all colour channels, if `LISTED` by an equation of draw lists, and alpha
+/// with `ALPHA`. Each source of colour and of depth has code of its own, since what is made here is known in the code that
+/// stands in line.
+#[inline(never)]
+fn draw_by_sources<const LISTED: bool, const OVER: bool, const ALPHA: bool>(
     placed: &Placed,
     depth: &Depth,
     colour: &Colour,
@@ -187,12 +187,13 @@ fn draw_from_sources(
     samples: &mut [BlockSamples],
     corrections: &mut Corrections,
 )
-    requires merge { placed.now.state.merge ≡ merge.now }
     requires by { IsDrawnBy placed.now depth.now colour.now }
+    requires all { WritesColoursBy LISTED OVER ALPHA placed.now.state.merge }
     requires samples { length samples.old ≡ part_size mask.now.count }
     ensures drawn { CoversBlock placed.now mask.now → IsBlockDrawn placed.now mask.now samples.old samples.new }
     ensures samples { length samples.new ≡ length samples.old }
 {
+    let merge = &whole::<LISTED, OVER, ALPHA>(&placed.state.merge);
     match colour.mode {
         ColourMode::Flat(rgba) => {
             let colour = &ColourSource::Flat(rgba);
@@ -229,47 +230,6 @@ fn draw_from_sources(
             }
         }
     }
-}
-
-/// Draws a block's samples by a merge that writes all colour channels by an equation of draw lists, and alpha with
-/// `ALPHA`.
-#[inline(never)]
-fn draw_listed<const OVER: bool, const ALPHA: bool>(
-    placed: &Placed,
-    depth: &Depth,
-    colour: &Colour,
-    mask: &BlockMask,
-    samples: &mut [BlockSamples],
-    corrections: &mut Corrections,
-)
-    requires by { IsDrawnBy placed.now depth.now colour.now }
-    requires listed { WritesListed OVER ALPHA placed.now.state.merge }
-    requires samples { length samples.old ≡ part_size mask.now.count }
-    ensures drawn { CoversBlock placed.now mask.now → IsBlockDrawn placed.now mask.now samples.old samples.new }
-    ensures samples { length samples.new ≡ length samples.old }
-{
-    let merge = &listed::<OVER, ALPHA>(&placed.state.merge);
-    draw_from_sources(merge, placed, depth, colour, mask, samples, corrections);
-}
-
-/// Draws a block's samples by a merge that writes all colour channels by any equation, and alpha with `ALPHA`.
-#[inline(never)]
-fn draw_blended<const ALPHA: bool>(
-    placed: &Placed,
-    depth: &Depth,
-    colour: &Colour,
-    mask: &BlockMask,
-    samples: &mut [BlockSamples],
-    corrections: &mut Corrections,
-)
-    requires by { IsDrawnBy placed.now depth.now colour.now }
-    requires all { WritesColours ALPHA placed.now.state.merge }
-    requires samples { length samples.old ≡ part_size mask.now.count }
-    ensures drawn { CoversBlock placed.now mask.now → IsBlockDrawn placed.now mask.now samples.old samples.new }
-    ensures samples { length samples.new ≡ length samples.old }
-{
-    let merge = &whole::<ALPHA>(&placed.state.merge);
-    draw_from_sources(merge, placed, depth, colour, mask, samples, corrections);
 }
 
 /// Draws a block's samples by any other merge. Each equation of draw lists has code of its own.
@@ -323,7 +283,7 @@ impl Interpolants {
         let (placed, depth, colour) = (&self.placed, &self.depth, &self.colour);
         match self.mode {
             DrawMode::Each => draw_each(placed, mask, samples),
-            DrawMode::Replace => draw_listed::<false, false>(
+            DrawMode::Replace => draw_by_sources::<true, false, false>(
                 placed,
                 depth,
                 colour,
@@ -331,7 +291,7 @@ impl Interpolants {
                 samples,
                 corrections,
             ),
-            DrawMode::Over => draw_listed::<true, false>(
+            DrawMode::Over => draw_by_sources::<true, true, false>(
                 placed,
                 depth,
                 colour,
@@ -339,7 +299,7 @@ impl Interpolants {
                 samples,
                 corrections,
             ),
-            DrawMode::ReplaceWithAlpha => draw_listed::<false, true>(
+            DrawMode::ReplaceWithAlpha => draw_by_sources::<true, false, true>(
                 placed,
                 depth,
                 colour,
@@ -347,7 +307,7 @@ impl Interpolants {
                 samples,
                 corrections,
             ),
-            DrawMode::OverWithAlpha => draw_listed::<true, true>(
+            DrawMode::OverWithAlpha => draw_by_sources::<true, true, true>(
                 placed,
                 depth,
                 colour,
@@ -355,7 +315,7 @@ impl Interpolants {
                 samples,
                 corrections,
             ),
-            DrawMode::Blend => draw_blended::<false>(
+            DrawMode::Blend => draw_by_sources::<false, false, false>(
                 placed,
                 depth,
                 colour,
@@ -363,7 +323,7 @@ impl Interpolants {
                 samples,
                 corrections,
             ),
-            DrawMode::BlendWithAlpha => draw_blended::<true>(
+            DrawMode::BlendWithAlpha => draw_by_sources::<false, false, true>(
                 placed,
                 depth,
                 colour,

@@ -1,7 +1,7 @@
 //! A merge made again, so that its colour equation is known if the code is inlined.
 ghost use Rattle.std.specs.Prelude.{◌≡◌};
 ghost use Rattle.shade.specs.Presets.{IsKnown};
-ghost use Rattle.lanes.specs.Mode.{IsAlphaKnown, WritesColours, WritesListed};
+ghost use Rattle.lanes.specs.Mode.{IsAlphaKnown, WritesColoursBy};
 
 use shade::{Blend, Equation, KnownEquation, Merge};
 
@@ -56,13 +56,14 @@ pub(crate) fn with_known(known: KnownEquation, m: &Merge) -> Merge
     remade(known, m, m.blend.alpha, m.write, m.blend.write_alpha)
 }
 
-/// The equation of alpha made again, so that it is known if alpha is written and the code is inlined.
+/// The equation of alpha made again, so that it is known if it is that of draw lists, alpha is written, and the code is
+/// inlined.
 #[inline(always)]
-fn alpha_again<const OVER: bool, const ALPHA: bool>(e: &Equation) -> Equation
-    requires { IsAlphaKnown OVER ALPHA e.now }
+fn alpha_again<const LISTED: bool, const OVER: bool, const ALPHA: bool>(e: &Equation) -> Equation
+    requires { IsAlphaKnown LISTED OVER ALPHA e.now }
     ensures { result ≡ e.now }
 {
-    if !ALPHA {
+    if !LISTED || !ALPHA {
         *e
     } else if OVER {
         Equation::PREMULTIPLIED_OVER
@@ -71,34 +72,20 @@ fn alpha_again<const OVER: bool, const ALPHA: bool>(e: &Equation) -> Equation
     }
 }
 
-/// A merge that writes red, green and blue by an equation of draw lists, made again so that its equations and what it
-/// writes are known if the code is inlined. With `ALPHA` it writes alpha.
+/// A merge that writes red, green and blue, made again so that what it writes is known if the code is inlined, and with
+/// `LISTED` its equations, which are those of draw lists. With `ALPHA` it writes alpha.
 #[inline(always)]
-pub(crate) fn listed<const OVER: bool, const ALPHA: bool>(merge: &Merge) -> Merge
-    requires { WritesListed OVER ALPHA merge.now }
+pub(crate) fn whole<const LISTED: bool, const OVER: bool, const ALPHA: bool>(merge: &Merge) -> Merge
+    requires { WritesColoursBy LISTED OVER ALPHA merge.now }
     ensures { result ≡ merge.now }
 {
-    let known = if OVER {
+    let known = if !LISTED {
+        KnownEquation::Other
+    } else if OVER {
         KnownEquation::Over
     } else {
         KnownEquation::Replace
     };
-    let alpha = alpha_again::<OVER, ALPHA>(&merge.blend.alpha);
+    let alpha = alpha_again::<LISTED, OVER, ALPHA>(&merge.blend.alpha);
     remade(known, merge, alpha, [true; 3], ALPHA)
-}
-
-/// A merge that writes red, green and blue, made again so that what it writes is known if the code is inlined. With
-/// `ALPHA` it writes alpha.
-#[inline(always)]
-pub(crate) fn whole<const ALPHA: bool>(merge: &Merge) -> Merge
-    requires { WritesColours ALPHA merge.now }
-    ensures { result ≡ merge.now }
-{
-    remade(
-        KnownEquation::Other,
-        merge,
-        merge.blend.alpha,
-        [true; 3],
-        ALPHA,
-    )
 }

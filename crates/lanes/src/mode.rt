@@ -68,7 +68,7 @@ pub(crate) struct Colour {
 /// Whether an equation of alpha is that of `Blend::OVER`, or of `Blend::NONE`.
 #[inline(always)]
 fn is_alpha_known(over: bool, equation: &Equation) -> bool
-    ensures { IsTrue result → IsAlphaKnown over true equation.now }
+    ensures { IsTrue result → IsAlphaKnown true over true equation.now }
 {
     if over {
         *equation == Equation::PREMULTIPLIED_OVER

@@ -12,22 +12,22 @@ drawn : (t placed : Placed) (mask : BlockMask) (old new : List BlockSamples) →
 drawn t placed mask old new same = subst (λ (p : Placed). CoversBlock p mask → IsBlockDrawn p mask old new) same
 
 pub returns-in-Replace-clause-drawn : goal.returns-in-Replace-clause-drawn
-returns-in-Replace-clause-drawn c = drawn _ _ c.args.mask.now _ _ c.self.view_is c.draw_listed.ensures.drawn c.requires.covered
+returns-in-Replace-clause-drawn c = drawn _ _ c.args.mask.now _ _ c.self.view_is c.draw_by_sources.ensures.drawn c.requires.covered
 
 pub returns-in-Over-clause-drawn : goal.returns-in-Over-clause-drawn
-returns-in-Over-clause-drawn c = drawn _ _ c.args.mask.now _ _ c.self.view_is c.draw_listed-in-Over.ensures.drawn c.requires.covered
+returns-in-Over-clause-drawn c = drawn _ _ c.args.mask.now _ _ c.self.view_is c.draw_by_sources-in-Over.ensures.drawn c.requires.covered
 
 pub returns-in-Blend-clause-drawn : goal.returns-in-Blend-clause-drawn
-returns-in-Blend-clause-drawn c = drawn _ _ c.args.mask.now _ _ c.self.view_is c.draw_blended.ensures.drawn c.requires.covered
+returns-in-Blend-clause-drawn c = drawn _ _ c.args.mask.now _ _ c.self.view_is c.draw_by_sources-in-Blend.ensures.drawn c.requires.covered
 
 pub returns-in-BlendWithAlpha-clause-drawn : goal.returns-in-BlendWithAlpha-clause-drawn
-returns-in-BlendWithAlpha-clause-drawn c = drawn _ _ c.args.mask.now _ _ c.self.view_is c.draw_blended-in-BlendWithAlpha.ensures.drawn c.requires.covered
+returns-in-BlendWithAlpha-clause-drawn c = drawn _ _ c.args.mask.now _ _ c.self.view_is c.draw_by_sources-in-BlendWithAlpha.ensures.drawn c.requires.covered
 
 pub returns-in-Otherwise-clause-drawn : goal.returns-in-Otherwise-clause-drawn
 returns-in-Otherwise-clause-drawn c = drawn _ _ c.args.mask.now _ _ c.self.view_is c.draw_otherwise.ensures.drawn c.requires.covered
 
 pub returns-in-ReplaceWithAlpha-clause-drawn : goal.returns-in-ReplaceWithAlpha-clause-drawn
-returns-in-ReplaceWithAlpha-clause-drawn c = drawn _ _ c.args.mask.now _ _ c.self.view_is c.draw_listed-in-ReplaceWithAlpha.ensures.drawn c.requires.covered
+returns-in-ReplaceWithAlpha-clause-drawn c = drawn _ _ c.args.mask.now _ _ c.self.view_is c.draw_by_sources-in-ReplaceWithAlpha.ensures.drawn c.requires.covered
 
 pub returns-in-OverWithAlpha-clause-drawn : goal.returns-in-OverWithAlpha-clause-drawn
-returns-in-OverWithAlpha-clause-drawn c = drawn _ _ c.args.mask.now _ _ c.self.view_is c.draw_listed-in-OverWithAlpha.ensures.drawn c.requires.covered
+returns-in-OverWithAlpha-clause-drawn c = drawn _ _ c.args.mask.now _ _ c.self.view_is c.draw_by_sources-in-OverWithAlpha.ensures.drawn c.requires.covered
