@@ -2,6 +2,8 @@ use Rattle.std.specs.Prelude.{◌≡◌, ◌⊎◌, ℕ, Bool, false, List, ◌+
 use Rattle.planes.specs.declared.colour_planes.Colours.{Colours}
 use Rattle.shade.specs.declared.sample.Merge.{Merge}
 use Rattle.shade.specs.declared.sample.CanvasSample.{CanvasSample}
+use Rattle.shade.specs.declared.operands.Channel.TheVariants.{Colour}
+use Rattle.shade.specs.Blend.{IsBlended}
 use Rattle.shade.specs.Depth.{Passes}
 use Rattle.shade.specs.Merging.{operands_of, IsWritten, IsChannelMerged}
 use Rattle.lanes.specs.declared.block_samples.BlockSamples.{BlockSamples}
@@ -27,6 +29,12 @@ pub record ReadsColours (m : Merge) (c : Colours) (s : BlockSamples) (k i : ℕ)
   pub red : red_of o i ≡ operands_of m 0 (slice_index c.r i) (slice_index c.a i) (slice_index s.alpha k) (slice_index s.r k)
   pub green : green_of o i ≡ operands_of m 1 (slice_index c.g i) (slice_index c.a i) (slice_index s.alpha k) (slice_index s.g k)
   pub blue : blue_of o i ≡ operands_of m 2 (slice_index c.b i) (slice_index c.a i) (slice_index s.alpha k) (slice_index s.b k)
+
+-- The colours are those of fragments blended with the sixteen samples from k on.
+pub record AreMerged (m : Merge) (c : Colours) (s : BlockSamples) (k : ℕ) (v : ColourLanes) : Type 0 where
+  pub red : (i : ℕ) → i < 16 → IsBlended m.blend.colour Colour (operands_of m 0 (slice_index c.r i) (slice_index c.a i) (slice_index s.alpha (k + i)) (slice_index s.r (k + i))) (slice_index v.red i)
+  pub green : (i : ℕ) → i < 16 → IsBlended m.blend.colour Colour (operands_of m 1 (slice_index c.g i) (slice_index c.a i) (slice_index s.alpha (k + i)) (slice_index s.g (k + i))) (slice_index v.green i)
+  pub blue : (i : ℕ) → i < 16 → IsBlended m.blend.colour Colour (operands_of m 2 (slice_index c.b i) (slice_index c.a i) (slice_index s.alpha (k + i)) (slice_index s.b (k + i))) (slice_index v.blue i)
 
 -- The colour of a sample takes a value with each of these in the channels of the write mask.
 pub record IsStored (write : List Bool) (r g b : ℕ → Type 0) (old new : CanvasSample) : Type 0 where

@@ -90,9 +90,24 @@ fn products(of: &ColourLanes, factors: &ColourLanes) -> ColourLanes
     }
 }
 
-/// `added` for each colour.
+/// The nearest colours to the sums of colours and of terms divided by 255.
 #[inline(always)]
-fn added_colours(
+fn with_whole(whole: &ColourLanes, terms: &ColourLanes) -> ColourLanes
+    requires { AreByteColours whole.now × AreTerms terms.now.red × AreTerms terms.now.green × AreTerms terms.now.blue }
+    ensures red { AreNearest (λ i. pos (255 * slice_index whole.now.red i) +ℤ pos (slice_index terms.now.red i)) result.red }
+    ensures green { AreNearest (λ i. pos (255 * slice_index whole.now.green i) +ℤ pos (slice_index terms.now.green i)) result.green }
+    ensures blue { AreNearest (λ i. pos (255 * slice_index whole.now.blue i) +ℤ pos (slice_index terms.now.blue i)) result.blue }
+{
+    ColourLanes {
+        red: nearest_with_whole(whole.red, terms.red),
+        green: nearest_with_whole(whole.green, terms.green),
+        blue: nearest_with_whole(whole.blue, terms.blue),
+    }
+}
+
+/// The nearest colours to the sums of the terms `p` and `r`.
+#[inline(always)]
+fn sums(
     source: BlendFactor,
     stored: BlendFactor,
     o: &ColourOperands,
@@ -105,19 +120,7 @@ fn added_colours(
     ensures { InEach o.now result (λ lane v. AreNearest (λ i. pos ((lane i).source * factor source Colour (lane i)) +ℤ
         pos ((lane i).stored * factor stored Colour (lane i))) v) }
 {
-    if source == BlendFactor::One {
-        ColourLanes {
-            red: nearest_with_whole(o.source.red, r.red),
-            green: nearest_with_whole(o.source.green, r.green),
-            blue: nearest_with_whole(o.source.blue, r.blue),
-        }
-    } else if stored == BlendFactor::One {
-        ColourLanes {
-            red: nearest_with_whole(o.stored.red, p.red),
-            green: nearest_with_whole(o.stored.green, p.green),
-            blue: nearest_with_whole(o.stored.blue, p.blue),
-        }
-    } else if has_small_sum(source, stored) {
+    if has_small_sum(source, stored) {
         ColourLanes {
             red: nearest_small_sum(p.red, r.red),
             green: nearest_small_sum(p.green, r.green),
@@ -147,17 +150,25 @@ fn differences(p: &ColourLanes, r: &ColourLanes) -> ColourLanes
     }
 }
 
-/// Colours by any equation. What it says is looked at once for red, green and blue.
+/// Colours by any equation. What it says is looked at once for red, green and blue. In a sum a colour with the factor one is
+/// a term of its own, without a product.
 #[inline(always)]
 pub(crate) fn blended_colours(equation: &Equation, o: &ColourOperands) -> ColourLanes
     requires { AreColourBytes o.now }
     ensures { InEach o.now result (AreBlended equation.now Colour) }
 {
     let (source, stored) = (equation.source, equation.stored);
+    let is_sum = equation.operation == BlendOperation::Add;
+    if is_sum && source == BlendFactor::One {
+        return with_whole(&o.source, &products(&o.stored, &colour_factors(stored, o)));
+    }
     let p = products(&o.source, &colour_factors(source, o));
+    if is_sum && stored == BlendFactor::One {
+        return with_whole(&o.stored, &p);
+    }
     let r = products(&o.stored, &colour_factors(stored, o));
     match equation.operation {
-        BlendOperation::Add => added_colours(source, stored, o, &p, &r),
+        BlendOperation::Add => sums(source, stored, o, &p, &r),
         BlendOperation::Subtract => differences(&p, &r),
         BlendOperation::ReverseSubtract => differences(&r, &p),
         BlendOperation::Min => ColourLanes {

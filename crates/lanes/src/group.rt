@@ -3,9 +3,7 @@ ghost use Rattle.std.specs.Prelude.{◌≡◌, ◌⊎◌, ℕ, if◌then◌else�
 ghost use Rattle.std.specs.Simd.Lanes.{Each1};
 ghost use Rattle.grid.specs.Triangle.{Covers};
 ghost use Rattle.shade.specs.Merging.{IsWritten};
-ghost use Rattle.shade.specs.Presets.{IsKnown};
-ghost use Rattle.lanes.specs.Merging.{IsTested, AreByteFragments, ReadsColours, TakeColours, AreColoured};
-ghost use Rattle.lanes.specs.Mode.{known_of};
+ghost use Rattle.lanes.specs.Merging.{IsTested, AreByteFragments, ReadsColours, TakeColours, AreMerged, AreColoured};
 ghost use Rattle.shade.specs.declared.placed.Placed.{Placed as Triangle};
 ghost use Rattle.shade.specs.Placed.{IsInterpolated};
 ghost use Rattle.shade.specs.Canvas.{IsAlphaMerged, IsCanvasDrawnAt};
@@ -106,53 +104,45 @@ fn store_colours(
     store_channel(blue, mask, new.blue, &mut samples.b, at);
 }
 
-/// Red, green and blue of stored samples by an equation of draw lists, where the mask is set.
-#[inline(always)]
-fn draw_listed(
-    is_over: bool,
-    merge: &Merge,
-    mask: u16x16,
-    c: &Colours,
-    samples: &mut BlockSamples,
-    at: usize,
-)
-    requires known { IsKnown (known_of is_over) merge.now.blend.colour }
+/// Colours of fragments blended with the sixteen stored samples from a place on, by any equation, not in line.
+#[inline(never)]
+fn blended(merge: &Merge, c: &Colours, samples: &BlockSamples, at: usize) -> ColourLanes
     requires room { at + 16 ≤ 64 }
     requires bytes { AreByteFragments c.now }
-    ensures { AreColoured merge.now mask c.now samples.old samples.new at }
+    ensures bytes { AreByteColours result }
+    ensures each { AreMerged merge.now c.now samples.now at result }
 {
-    let new = listed_colours(
-        is_over,
+    blended_colours(&merge.blend.colour, &colour_operands(merge, c, samples, at))
+}
+
+/// Colours of fragments blended with the sixteen stored samples from a place on. The equations of draw lists are in line.
+#[inline(always)]
+fn merged(merge: &Merge, c: &Colours, samples: &BlockSamples, at: usize) -> ColourLanes
+    requires room { at + 16 ≤ 64 }
+    requires bytes { AreByteFragments c.now }
+    ensures bytes { AreByteColours result }
+    ensures each { AreMerged merge.now c.now samples.now at result }
+{
+    let known = KnownEquation::of(&merge.blend.colour);
+    if known == KnownEquation::Other {
+        return blended(merge, c, samples, at);
+    }
+    listed_colours(
+        known == KnownEquation::Over,
         &merge.blend.colour,
         &colour_operands(merge, c, samples, at),
-    );
-    store_colours(merge.write, mask, &new, samples, at);
+    )
 }
 
-/// Red, green and blue of stored samples by any equation, where the mask is set, not in line.
-#[inline(never)]
-fn draw_blended(merge: &Merge, mask: u16x16, c: &Colours, samples: &mut BlockSamples, at: usize)
-    requires room { at + 16 ≤ 64 }
-    requires bytes { AreByteFragments c.now }
-    ensures { AreColoured merge.now mask c.now samples.old samples.new at }
-{
-    let new = blended_colours(&merge.blend.colour, &colour_operands(merge, c, samples, at));
-    store_colours(merge.write, mask, &new, samples, at);
-}
-
-/// Red, green and blue of stored samples, where the mask is set. The equations of draw lists are in line.
+/// Red, green and blue of stored samples, where the mask is set.
 #[inline(always)]
 fn draw_colours(merge: &Merge, mask: u16x16, c: &Colours, samples: &mut BlockSamples, at: usize)
     requires room { at + 16 ≤ 64 }
     requires bytes { AreByteFragments c.now }
     ensures { AreColoured merge.now mask c.now samples.old samples.new at }
 {
-    let known = KnownEquation::of(&merge.blend.colour);
-    if known == KnownEquation::Other {
-        draw_blended(merge, mask, c, samples, at);
-    } else {
-        draw_listed(known == KnownEquation::Over, merge, mask, c, samples, at);
-    }
+    let new = merged(merge, c, samples, at);
+    store_colours(merge.write, mask, &new, samples, at);
 }
 
 /// Alpha of stored samples, where the mask is set, if it is written.

@@ -1,6 +1,6 @@
 use Rattle.shade.specs.declared.operands.Channel.TheVariants.{Colour}
 use Rattle.lanes.specs.Operands.{red_of, green_of, blue_of}
-use Rattle.lanes.proofs.blend.added_colours.Goals as goal
+use Rattle.lanes.proofs.blend.sums.Goals as goal
 
 pub nearest_small_sum-requires : goal.nearest_small_sum-requires
 nearest_small_sum-requires c i l =
