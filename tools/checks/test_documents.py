@@ -230,7 +230,7 @@ pub extern "C" fn version() {}
         self.assertEqual([crate.strip("`") for crate, _contract in list(rows(table))[1:]], layers.product())
 
     def test_what_crates_rely_on(self) -> None:
-        table = text_of("docs/architecture.md").split("## What each crate relies on")[1].split("\n\n")[2]
+        table = text_of("docs/crates.md").split("## What each crate relies on")[1].split("\n\n")[2]
         relying = [(crate.strip("`"), cell) for crate, cell in list(rows(table))[1:]]
         uses = {one.name: one.uses for layer in layers.layers() for one in layer.crates}
         self.assertEqual([crate for crate, _cell in relying], [crate for crate in layers.product() if uses[crate]])
@@ -248,7 +248,7 @@ pub extern "C" fn version() {}
                     self.assertRegex(text, rf"\b{name}\b", f"{crate} has no {word}")
 
     def test_public_names(self) -> None:
-        table = text_of("docs/architecture.md").split("## Public names")[1].split("\n\n")[2]
+        table = text_of("docs/crates.md").split("## Public names")[1].split("\n\n")[2]
         for crates, named, _reason in list(rows(table))[1:]:
             folders = [os.path.join("crates", crate) for crate in re.findall(r"`(\w+)`", crates)]
             public = set().union(*(given_out(text_of(folder, "src", "lib.rt")) for folder in folders))
