@@ -60,7 +60,9 @@ impl Paints<'_> {
     }
 }
 
-/// Draws polygons at each sample of these tile rows, one after another, as `draw_polygon` draws each.
+/// Draws polygons, one after another, at each sample of these tile rows of a canvas whose upper left pixel is `origin`
+/// on the screen: what stood there is what each is merged with. The flags, of which there is one column for each column
+/// of blocks, and for the nonzero rule as many counters, are zeros, and are zeros again afterwards.
 pub fn draw_polygons(
     piece: &mut Piece<'_>,
     polygons: &Polygons<'_>,

@@ -13,6 +13,4 @@ mod whole;
 mod window;
 
 pub use batch::{Paints, draw_polygons};
-pub use polygon::Polygon;
-pub use rows::draw_polygon;
 pub use scratch::{clear, clear_counters, scratch_columns};
