@@ -40,9 +40,9 @@ COLUMNS = (
 
 # Bytes of a vertex, of an index and of a triangle's rows in a list that was read (docs/architecture.md, Memory).
 VERTEX, INDEX, ROWS = 16, 4, 4
-# How the model numbers its ways to compute a depth or a colour; a sure plane needs no look at fractions.
+# How the model numbers its ways to compute a depth or a colour. Colours have one more, for planes that are sure: no fraction is looked at.
 UNUSED, DEPTH_PLANE = 0, 2
-FLAT, PLANES, SURE_PLANES = 0, 1, 2
+FLAT, PLANES = 0, 1
 
 
 class Groups(NamedTuple):

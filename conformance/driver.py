@@ -7,6 +7,7 @@ A draw whose triangles have one colour each, or that of their first vertex, is s
 from __future__ import annotations
 
 import ctypes
+import re
 from array import array
 from typing import Sequence
 
@@ -18,15 +19,14 @@ from conformance.suites.shapes import is_flat
 from tools.draw_list import Draw, DrawList
 from tools.opengl import gl
 from tools.opengl.frames import DrawState, Frames, Mesh, NoFrame, Viewport, address, set_up
+from tools.places import text_of
 
 
 FIRST_VERTEX, LOWER_LEFT, ZERO_TO_ONE = 0x8E4D, 0x8CA1, 0x935F
 DEPTH_COMPONENT32F, TRIANGLE_STRIP = 0x8CAC, 5
 # OpenGL's numbers of the factors and the operations of an equation.
-FACTORS = {
-    1: 0, 2: 1, 3: 0x0300, 4: 0x0301, 5: gl.SRC_ALPHA, 6: gl.ONE_MINUS_SRC_ALPHA, 7: 0x0304, 8: 0x0305, 9: 0x0306, 10: 0x0307,
-    11: 0x0308, 14: 0x8001, 15: 0x8002,
-}
+ROWS_OF_FACTORS = re.findall(r"^    ROW\((\d+), \d+, \w+, (\w+)\)", text_of("conformance", "rasterize", "factors.hpp"), re.MULTILINE)
+FACTORS = {int(number): int(opengl, 16) for number, opengl in ROWS_OF_FACTORS}
 OPERATIONS = {ADD: 0x8006, SUBTRACT: 0x800A, REVERSE_SUBTRACT: 0x800B, MIN: 0x8007, MAX: 0x8008}
 
 

@@ -20,7 +20,7 @@ from unittest import mock
 
 import pytest
 
-from conformance import blending, compare, expected, results, suites
+from conformance import blending, compare, driver, expected, results, suites
 from conformance.blending import FACTORS, OPERATIONS, OVER, Equation
 from conformance.comparison import VALUE, compare_suite
 from conformance.d3d11 import pictures, run
@@ -34,6 +34,7 @@ from conformance.run import measure
 from conformance.suites.blends import any_equation, any_pixel
 from conformance.suites.depth_ends import within_depths
 from conformance.suites.shapes import Lists, draw, rectangle, scene, vertex
+from tools.opengl import gl
 from tools.places import text_of
 
 
@@ -194,6 +195,13 @@ class Equations(unittest.TestCase):
         for name, pair in values.items():
             found = tuple(blending.factor(FACTORS[name], channel, new, old, constant) for channel in (1, 3))
             self.assertEqual(found, pair, name)
+
+    def test_each_factor_has_a_name_in_each_interface(self) -> None:
+        numbers = driver.FACTORS
+        self.assertEqual(set(numbers), set(FACTORS.values()))
+        self.assertEqual((numbers[1], numbers[2]), (0, 1))
+        self.assertEqual((numbers[5], numbers[6]), (gl.SRC_ALPHA, gl.ONE_MINUS_SRC_ALPHA))
+        self.assertEqual(len(set(numbers.values())), len(numbers))
 
     def test_by_fractions(self) -> None:
         """The rule in rational numbers: a sum of products, rounded to the nearest integer, then clamped."""

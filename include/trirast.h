@@ -1,7 +1,7 @@
 /* trirast: draws triangles into memory, the same bytes as the program trirast writes. For C99 and later, and for C++.
  *
- *     1. trirast_canvas_* draw batch after batch of triangles over samples that stay in the caller's memory:
- *        docs/canvas.md.
+ *     1. trirast_canvas_* draw batch after batch of triangles, and polygons, over samples that stay in the caller's
+ *        memory: docs/canvas.md, docs/polygons.md.
  *     2. trirast_list_* take a draw list, a JSON text (docs/draw-list.md): trirast_list_info gives the size of its
  *        picture's file, trirast_list_draw draws it, trirast_list_draw_rows a part of it, so that several threads share
  *        a picture, trirast_list_history says why a sample is what it is, and trirast_list_triangle_samples which
@@ -40,7 +40,8 @@
  *   canvas have an order of their own, which stands there.
  *
  * Functions whose names begin with trirast_proved_ are those that are proved where the plain name is an inline function
- * over them: one that takes NULL, or a stride. Call the plain name; the library has it as a function too.
+ * over them: one that takes NULL or a stride, or that checks the size and the alignment of scratch memory. Call the
+ * plain name; the library has it as a function too.
  */
 #ifndef TRIRAST_H
 #define TRIRAST_H
@@ -638,8 +639,8 @@ typedef struct trirast_polygons {
     size_t color_count;
     const uint16_t *depths;         /* of each polygon its depth; NULL with depth_count 0: 0 */
     size_t depth_count;
-    trirast_draw state;             /* how they are drawn. Its vertex_count, index_count and topology are not used, nor is cull: a
-                                     * polygon may run either way round */
+    trirast_draw state;             /* how they are drawn. Its vertex_count and index_count are not looked at. Its topology and cull
+                                     * have to be in range and change nothing: a polygon may run either way round */
 } trirast_polygons;
 
 /* Scratch memory of a column of 8 pixels of a canvas, in bytes: its flags, and by the nonzero rule its counters. */
@@ -664,8 +665,9 @@ trirast_status trirast_proved_canvas_draw_polygons(trirast_canvas *canvas, const
  *
  * @canvas: the tile rows. Threads may draw the same polygons on pieces of a canvas, each with scratch memory of its own.
  * @polygons: what is drawn on them.
- * @scratch: memory that the call uses: what is in it before does not matter, and after it is all zeros. Aligned to 8.
- * @scratch_size: its bytes: at least trirast_polygons_scratch(canvas, polygons->fill_rule).
+ * @scratch: memory that the call uses, aligned to 8. What is in it before does not matter. After TRIRAST_STATUS_OK its
+ *     first trirast_polygons_scratch(canvas, polygons->fill_rule) bytes are zeros; otherwise it is unchanged.
+ * @scratch_size: its bytes: at least that number.
  * @error: why nothing was drawn, or NULL.
  *
  * Returns TRIRAST_STATUS_OK; or the first check that fails, then TRIRAST_STATUS_BAD_STRUCT_SIZE of the polygons, then

@@ -23,10 +23,9 @@ MODEL_PROGRAM = os.path.join(BENCH_OUT, "model")
 LIB = os.path.join(TOP, "lib")
 STATIC_LIBRARY = os.path.join(LIB, "libtrirast.a")
 SHARED_LIBRARY = os.path.join(LIB, "libtrirast.so")
-# The second level of x86-64, the shared library for it, and the programs that `make` and `make frames` build for it.
+# The second level of x86-64, the shared library for it, and the program that `make frames` builds for it.
 LEVEL = "x86-64-v3"
 SECOND_LEVEL = os.path.join(LIB, LEVEL, "libtrirast.so.2")
-PROGRAM_OF_LEVEL = os.path.join(TOP, "bin", LEVEL, "trirast")
 FRAMES_OF_LEVEL = os.path.join(TOP, "bin", LEVEL, "frames")
 INCLUDE = os.path.join(TOP, "include")
 PYTHON_SOURCES = os.path.join(TOP, "python", "src")

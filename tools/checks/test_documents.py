@@ -20,7 +20,7 @@ from tools.markdown import anchor, rows, with_table
 from tools.places import TOP, text_of
 from tools.sources import layers
 from tools.sources.rattle import definitions_in, functions_in
-from tools.sources.public_calls import CRATES, calls_in, given_out, named_calls, public_calls
+from tools.sources.public_calls import CRATES, calls_in, calls_of, given_out, named_calls, public_calls
 
 PATH = re.compile(r"`((?:[a-z_.]+/)+[\w.-]+\.(?:antt|rt|md|py|json|png|1|c|cpp|txt))`")
 
@@ -227,19 +227,34 @@ pub extern "C" fn version() {}
 
     def test_each_crate_has_its_contract(self) -> None:
         table = text_of("docs/architecture.md").split("## The contract of each crate")[1].split("\n\n")[2]
-        self.assertEqual({crate.strip("`") for crate, _contract in list(rows(table))[1:]}, set(layers.product()))
+        self.assertEqual([crate.strip("`") for crate, _contract in list(rows(table))[1:]], layers.product())
 
-    def test_what_layers_rely_on(self) -> None:
-        known = contracts()
-        table = text_of("docs/architecture.md").split("## What each layer relies on")[1].split("\n\n")[1]
-        defined = parts().keys()
-        for crate, uses, named in list(rows(table))[1:]:
-            calls = {word.split("::")[-1] for word in re.findall(r"`([\w:]+)`", uses)}
-            paths = [path for part in ("src", "specs", "proofs") for path in places.files("crates", crate.strip("`"), part, "**", "*.*")]
-            self.assertLessEqual(calls, set(re.findall(r"\w+", "".join(map(text_of, paths)))), crate)
-            clauses = set().union(*(known.get(call, set()) for call in calls))
-            for word in set(re.findall(r"`(\w+)`", named)) - {"main"}:
-                self.assertTrue(word in clauses | calls | defined, f"{word} is no clause of {uses}")
+    def test_what_crates_rely_on(self) -> None:
+        table = text_of("docs/crates.md").split("## What each crate relies on")[1].split("\n\n")[2]
+        relying = [(crate.strip("`"), cell) for crate, cell in list(rows(table))[1:]]
+        uses = {one.name: one.uses for layer in layers.layers() for one in layer.crates}
+        self.assertEqual([crate for crate, _cell in relying], [crate for crate in layers.product() if uses[crate]])
+        for crate, cell in relying:
+            text = "".join(map(text_of, places.files("crates", crate, "src", "**", "*.rt")))
+            for part in [] if cell.startswith("none; ") else cell.split("; "):
+                lower, named = part.split(": ")
+                self.assertIn(lower.strip("`"), uses[crate], cell)
+                root = text_of("crates", lower.strip("`"), "src", "lib.rt")
+                public = given_out(root) | set(calls_of(lower.strip("`")))
+                for word in re.findall(r"`([\w:]+)`", named):
+                    name = word.split("::")[-1]
+                    is_public = any(call == word or call.endswith(f"::{word}") for call in public)
+                    self.assertTrue(is_public, f"{word} is no public name of {lower}: {cell}")
+                    self.assertRegex(text, rf"\b{name}\b", f"{crate} has no {word}")
+
+    def test_public_names(self) -> None:
+        table = text_of("docs/crates.md").split("## Public names")[1].split("\n\n")[2]
+        for crates, named, _reason in list(rows(table))[1:]:
+            folders = [os.path.join("crates", crate) for crate in re.findall(r"`(\w+)`", crates)]
+            public = set().union(*(given_out(text_of(folder, "src", "lib.rt")) for folder in folders))
+            public |= {part for folder in folders for call in calls_of(os.path.basename(folder)) for part in call.split("::")}
+            words = {part for word in re.findall(r"`([\w:]+)`", named) for part in word.split("::")}
+            self.assertLessEqual(words, public, crates)
 
 
 class Definitions(unittest.TestCase):

@@ -13,7 +13,7 @@ from tools.places import TOP
 DIST = os.path.join(TOP, "dist")
 OUT = os.path.join(places.OUT, "packages")
 # Of a package's files: read by all, written by the owner.
-FILE_MODE, PROGRAM_MODE, FOLDER_MODE = 0o644, 0o755, 0o755
+FILE_MODE, PROGRAM_MODE = 0o644, 0o755
 
 
 def release() -> str:

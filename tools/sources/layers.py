@@ -73,14 +73,15 @@ def listing() -> str:
 
 
 def diagram() -> str:
-    """The layers of the product, highest first: of each its crates, and the layers on which these stand."""
-    found = [layer for layer in layers() if layer.is_product]
-    lines = ["layer    crates, lowest first"]
+    """The layers, highest first: of each its crates, and the layers on which these stand."""
+    found = layers()
+    width = max(len(layer.name) for layer in found)
+    lines = [f"{'layer':{width}} crates, lowest first"]
     for layer in reversed(found):
         uses = {use for one in layer.crates for use in one.uses}
         below = [other.name for other in found if other is not layer and any(one.name in uses for one in other.crates)]
-        lines.append(f"{layer.name:8} {' '.join(one.name for one in layer.crates)}")
-        lines += [f"{'':8} over {', '.join(below)}"] if below else []
+        lines.append(f"{layer.name:{width}} {' '.join(one.name for one in layer.crates)}")
+        lines += [f"{'':{width}} over {', '.join(below)}"] if below else []
     return "\n".join(lines)
 
 

@@ -110,14 +110,8 @@ private:
             return {TRUE, D3D11_BLEND_SRC_ALPHA, D3D11_BLEND_INV_SRC_ALPHA, D3D11_BLEND_OP_ADD,
                     D3D11_BLEND_ONE, D3D11_BLEND_ZERO, D3D11_BLEND_OP_ADD, (UINT8)state.write_mask};
         return {!equation.replaces(), (D3D11_BLEND)equation.color_source, (D3D11_BLEND)equation.color_stored,
-                (D3D11_BLEND_OP)equation.color_operation, of_alpha(equation.alpha_source), of_alpha(equation.alpha_stored),
-                (D3D11_BLEND_OP)equation.alpha_operation, (UINT8)state.write_mask};
-    }
-    // Direct3D has no factors of colours for alpha, in which they would be those of alpha.
-    static D3D11_BLEND of_alpha(uint32_t factor) {
-        if (factor == D3D11_BLEND_SRC_COLOR || factor == D3D11_BLEND_INV_SRC_COLOR) return (D3D11_BLEND)(factor + 2);
-        if (factor == D3D11_BLEND_DEST_COLOR || factor == D3D11_BLEND_INV_DEST_COLOR) return (D3D11_BLEND)(factor - 2);
-        return (D3D11_BLEND)factor;
+                (D3D11_BLEND_OP)equation.color_operation, (D3D11_BLEND)alpha_factor(equation.alpha_source),
+                (D3D11_BLEND)alpha_factor(equation.alpha_stored), (D3D11_BLEND_OP)equation.alpha_operation, (UINT8)state.write_mask};
     }
 
     static Held<IDXGIAdapter1> numbered(const std::string& number) {

@@ -1,11 +1,11 @@
-//! The size of a picture, and its tiles.
+//! The size of a canvas, and its tiles.
 ghost use Rattle.std.specs.Prelude.{◌≡◌, ◌↔◌, ◌+◌, ◌*◌, ◌/◌, ◌<◌, ◌≤◌, IsSome, IfSome};
 
 use crate::tile_rows::TileRows;
 use grid::{SampleCount, TileSide};
 use raster::Tile;
 
-/// A picture by its size. Its samples lie in tiles of 64 by 64 pixels.
+/// A canvas by its size. Its samples lie in tiles of 64 by 64 pixels.
 #[derive(Clone, Copy, Debug)]
 pub struct Canvas {
     /// How many pixels a row has, from 1 to 4096.
@@ -24,7 +24,7 @@ impl Canvas {
     ghost use Rattle.grid.specs.declared.pixels.TileSide.TheVariants.{T64};
     ghost use Rattle.canvas.specs.Layout.{IsCanvasSize, columns_of, rows_of, planes_of_tile, planes_of_row};
 
-    /// The picture of this size, or `None` if it has no pixels or more than 4096 in a row or a column.
+    /// The canvas of this size, or `None` if it has no pixels or more than 4096 in a row or a column.
     pub fn new(width: u32, height: u32, count: SampleCount) -> Option<Canvas>
         ensures some { IsSome result ↔ IsCanvasSize width height }
         ensures size { IfSome result (λ c. (c.width ≡ width) × (c.height ≡ height) × (c.count ≡ count)) }
@@ -89,7 +89,7 @@ impl Canvas {
         }
     }
 
-    /// The tile rows from `first` to before `end`, or `None` if these are no tile rows of the picture.
+    /// The tile rows from `first` to before `end`, or `None` if these are no tile rows of the canvas.
     pub fn rows(&self, first: u32, end: u32) -> Option<TileRows>
         ensures some { IsSome result ↔ ((first ≤ end) × (end ≤ rows_of self.now)) }
         ensures rows { IfSome result (λ strip. (strip.canvas ≡ self.now) × (strip.first ≡ first) × (strip.end ≡ end)) }

@@ -3,10 +3,10 @@ ghost use Rattle.std.specs.Prelude.{◌≡◌, ◌↔◌, ℕ, ◌+◌, ◌/◌,
 
 use crate::canvas::Canvas;
 
-/// Tile rows of a picture, one below the other, whose planes lie together. Threads share a picture by its tile rows.
+/// Tile rows of a canvas, one below the other, whose planes lie together. Threads share a canvas by its tile rows.
 #[derive(Clone, Copy, Debug)]
 pub struct TileRows {
-    /// The picture.
+    /// The canvas.
     pub canvas: Canvas,
     /// The first tile row.
     pub first: u32,

@@ -1,4 +1,5 @@
-//! What a program does before it draws or reports: it reads its arguments and its input, or refuses its arguments.
+//! What both programs do: give a command its arguments and streams, read options and all input, refuse arguments, report
+//! errors.
 #![tactic(auto)]
 
 mod args;

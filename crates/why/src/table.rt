@@ -1,5 +1,4 @@
 //! A history as a table that a person reads.
-use crate::words::named_reasons;
 use history::{EdgeAt, EdgeReason, Event, Outcome, Reasons};
 use list_history::ListEvent;
 use shade::{Sample, Shaded};

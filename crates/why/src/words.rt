@@ -1,4 +1,4 @@
-//! The names that both forms of a history use.
+//! The names in the JSON form of a history.
 ghost use Rattle.std.specs.Prelude.{◌≡◌, ◌↔◌, ◌⊎◌, IsTrue, IsSome};
 
 use history::{Event, Outcome, Reasons};

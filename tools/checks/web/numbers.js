@@ -57,6 +57,17 @@
   if (canvas.colors().join() !== filled('7,8,9') || canvas.depths(3).join() !== filled(100)) wrong.push('the samples');
   const typed = { state: {}, vertices: draw.vertices.map((each) => Int32Array.from(each)), indices: new Uint32Array(3) };
   if (canvas.draw(new Batch(core, [draw, typed])) !== null) wrong.push('a batch');
+  // What the core refuses of a list is called by the program's words.
+  const { pixelsOf } = await import('./draw_list.js');
+  for (const draw of [{ depth_write: 2 }, { write: [true, true, true, true, false] }]) {
+    let line = 'drawn';
+    try {
+      pixelsOf(core, { width: 1, height: 1, draws: [{ vertices: [], triangles: [], ...draw }] });
+    } catch (error) {
+      line = error.message;
+    }
+    if (line !== 'list fault 4 WrongKind in draw 0') wrong.push(`${JSON.stringify(draw)}: ${line}`);
+  }
   // What a call takes of the memory for itself it gives back.
   const { top } = core;
   for (const call of [() => canvas.clear([1, 2, 3], 4), () => canvas.colors(), () => canvas.ids(0), () => canvas.depths(1)]) {

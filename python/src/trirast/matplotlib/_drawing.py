@@ -11,7 +11,7 @@ from .._canvas import Canvas
 from ._mesh import Gouraud
 from ._triangles import OPAQUE, Box, bounds_of, is_near
 
-# A canvas of this side takes 86 MB with four samples a pixel. With more of them it has half of this side.
+# A canvas of this side takes 103 MB with four samples a pixel. With more of them it has half of this side.
 MAX_SIDE = 2048
 # Rows of pixels that are laid over each other at once: few enough to stay in a processor's caches.
 BAND = 32

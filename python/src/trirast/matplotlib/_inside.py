@@ -45,11 +45,6 @@ MITRE_LIMIT = 4
 # A face of this colour is not seen, and Agg treats the edge as that of a path with a face.
 HIDDEN = (0.0, 0.0, 0.0, 1e-9)
 FLOAT, CODE = np.dtype(np.float64), np.dtype(np.uint8)
-# The calls that RendererAgg puts into its instances.
-BOUND = (
-    "draw_gouraud_triangle", "draw_gouraud_triangles", "draw_image", "draw_markers", "draw_path_collection", "draw_quad_mesh",
-    "copy_from_bbox",
-)
 
 
 def all_vertices(paths: Sequence[Any]) -> List[Any]:

@@ -12,7 +12,7 @@ from ._mesh import Gouraud
 from ._triangles import Box, bounds_of
 from ._window import OPAQUE, Clip, Window
 
-# A canvas of this side takes up to 340 MB with 16 samples, as far as it is drawn upon.
+# A canvas of this side takes up to 409 MB with 16 samples, as far as it is drawn upon.
 MAX_SIDE = 2048
 # The farthest corner of a window.
 MAX_ORIGIN = 28672
