@@ -1,4 +1,4 @@
-use Rattle.std.proofs.Common.{◌≡◌, ◌∙◌, sym, subst, arith, ℕ, List, [], ◌∷◌, map, length}
+use Rattle.std.proofs.Common.{◌≡◌, subst, arith, [], ◌∷◌, map, length}
 use Rattle.std.specs.List.{range_with_len}
 use Rattle.canvas.specs.declared.tile_rows.TileRows.{TileRows}
 use Rattle.painting.specs.Batches.{shape_in}
