@@ -13,7 +13,7 @@ use Rattle.shade.specs.Placed.{Meets, Draws}
 use Rattle.shade.specs.Ending.{Ends}
 use Rattle.model.specs.Scene.{Scene}
 use Rattle.model.specs.Picture.{IsEnd}
-use Rattle.shade.proofs.Endings.{ends_more, ends_past}
+use Rattle.shade.proofs.Endings.{of_list, ends_more, ends_past}
 use Rattle.bins.specs.Bin.{IsBin, MeetsRect}
 
 ascends : (xs : List ℕ) (a many : ℕ) → IsStrictlyIncreasing xs → a + many < length xs → slice_index xs a + many ≤ slice_index xs (a + many)
@@ -49,7 +49,7 @@ module _ (l : Scene) (i j s : ℕ) (bin : List ℕ) (h : IsBin l (λ t. Meets t 
   reached : (to : ℕ) → d.next ≤ to → ((q : ℕ) → b ≤ q → q < length bin → to ≤ slice_index bin q) → Ends (take to l.triangles) l.count i j s l.clear sample
   reached to low later =
       let sum : d.next + (to - d.next) ≡ to = omega arith in
-      rw sum at (ends_past l.count i j s l.triangles d.next (to - d.next) l.clear sample (λ k t low' high e. missed to later k t low' (omega arith) e) d.drawn)
+      rw sum at (ends_past (of_list l.count i j s) l.triangles d.next (to - d.next) l.clear sample (λ k t low' high e. missed to later k t low' (omega arith) e) d.drawn)
 
   pub one_drawn : (n : ℕ) (t : Placed) (new : Sample) → b < length bin → n ≡ slice_index bin b → slice_get l.triangles n ≡ Some t → Draws t l.count i j s sample new → HasDrawn l i j s bin (b + 1) new
   one_drawn n t new below here e draws =
@@ -62,7 +62,7 @@ module _ (l : Scene) (i j s : ℕ) (bin : List ℕ) (h : IsBin l (λ t. Meets t 
       record {
         next = n + 1;
         within = omega arith;
-        drawn = ends_more l.count i j s l.triangles n t l.clear sample new number e reached_here draws;
+        drawn = ends_more (of_list l.count i j s) l.triangles n t l.clear sample new number e reached_here draws;
         before = λ q low. elim (cases_lt q b) [
           | inl less ↦ let earlier = d.before q less in let low' = d.after b (omega arith) below in omega arith
           | inr more ↦ let same : q ≡ b = omega arith in rw same (omega arith)

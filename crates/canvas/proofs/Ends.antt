@@ -9,7 +9,7 @@ use Rattle.shade.specs.declared.sample.CanvasSample.{CanvasSample}
 use Rattle.lanes.specs.declared.block_samples.BlockSamples.{BlockSamples}
 use Rattle.shade.specs.declared.placed.Placed.{Placed}
 use Rattle.shade.specs.Canvas.{CanvasEnds}
-use Rattle.shade.proofs.CanvasEndings.{ends_more, ends-append, ends-unique}
+use Rattle.shade.proofs.Endings.{of_canvas, ends_more, ends-append, ends-unique}
 use Rattle.raster.specs.declared.tile.Tile.{Tile}
 use Rattle.raster.specs.Samples.{IsSampleOf}
 use Rattle.raster.specs.Drawing.{DrawsTile}
@@ -28,7 +28,7 @@ ends_at ts n n' i i' j j' s x x' y y' count across down old new h = rw (← coun
 pub tile_more : (ts : List Placed) (tile : Tile) (n : ℕ) (t : Placed) (old middle new : List BlockSamples) → n < length ts → slice_get ts n ≡ Some t
     → TileHasEnds (take n ts) tile old middle → DrawsTile t tile middle new → TileHasEnds (take (n + 1) ts) tile old new
 tile_more ts tile n t old middle new below is before draws row column s h =
-    ends_more tile.count (8 * tile.bx + column) (8 * tile.by + row) s ts n t _ _ _ below is (before row column s h) (draws row column s h)
+    ends_more (of_canvas tile.count (8 * tile.bx + column) (8 * tile.by + row) s) ts n t _ _ _ below is (before row column s h) (draws row column s h)
 
 pub tile_ends : (ts : List Placed) (tile : Tile) (n : ℕ) (old new : List BlockSamples) → length ts ≤ n → TileHasEnds (take n ts) tile old new → TileHasEnds ts tile old new
 tile_ends ts tile n old new past h = rw (take_all n ts past) at h
@@ -142,11 +142,11 @@ module _ (ts : List Placed) (c : Canvas) (first end : ℕ) where
 -- ---- batches
 
 pub ends_joined : (ts us : List Placed) (c : Canvas) (first end : ℕ) (old middle new : List BlockSamples) → HaveEnds ts c first end old middle → HaveEnds us c first end middle new → HaveEnds (ts ++ us) c first end old new
-ends_joined ts us c first end old middle new a b i j s h = ends-append c.count i j s ts us _ _ _ (a i j s h) (b i j s h)
+ends_joined ts us c first end old middle new a b i j s h = ends-append (of_canvas c.count i j s) ts us _ _ _ (a i j s h) (b i j s h)
 
 pub ends_one : (ts : List Placed) (c : Canvas) (first end : ℕ) (old new other : List BlockSamples) → HaveEnds ts c first end old new → HaveEnds ts c first end old other
     → (i j s : ℕ) → IsStoredIn c first end i j s → stored c first new i j s ≡ stored c first other i j s
-ends_one ts c first end old new other a b i j s h = ends-unique c.count i j s ts _ _ _ (a i j s h) (b i j s h)
+ends_one ts c first end old new other a b i j s h = ends-unique (of_canvas c.count i j s) ts _ _ _ (a i j s h) (b i j s h)
 
 pub one_chunk_more : (ts : List Placed) (c : Canvas) (first end n many : ℕ) (old middle new : List BlockSamples) → HaveEnds (take n ts) c first end old middle → HaveEnds (take many (drop n ts)) c first end middle new
     → HaveEnds (take (n + many) ts) c first end old new

@@ -12,7 +12,7 @@ use Rattle.shade.specs.declared.placed.Placed.{Placed}
 use Rattle.shade.specs.Presets.{none_blend}
 use Rattle.shade.specs.Placed.{Meets}
 use Rattle.shade.specs.Canvas.{CanvasDraws, CanvasEnds}
-use Rattle.shade.proofs.CanvasEndings.{ends_more, ends_past, append-ends}
+use Rattle.shade.proofs.Endings.{of_canvas, ends_more, ends_past, append-ends}
 use Rattle.lanes.specs.declared.block_samples.BlockSamples.{BlockSamples}
 use Rattle.raster.specs.declared.tile.Tile.{Tile}
 use Rattle.raster.specs.Samples.{IsSampleOf}
@@ -69,7 +69,7 @@ module _ (ts : List Placed) (c : Canvas) (row : ℕ) where
     row_past n more missed a = record {
       below = a.below;
       columns = a.columns;
-      makes = λ none i j s h x y e. ends_past c.count i j s ts n more x y (λ k t low high found. missed k t low high found i j s h) (a.makes none i j s h x y e);
+      makes = λ none i j s h x y e. ends_past (of_canvas c.count i j s) ts n more x y (λ k t low high found. missed k t low high found i j s h) (a.makes none i j s h x y e);
     }
 
     -- a sample of a tile in none of the columns
@@ -93,9 +93,9 @@ module _ (ts : List Placed) (c : Canvas) (row : ℕ) where
       one_makes none i j s x y here e before =
           let f : ℕ → Placed = λ n. slice_index_or ts n none in
           let joined : CanvasEnds (map f (take many numbers) ++ (f k ∷ [])) c.count i j s x y = subst (λ us. CanvasEnds us c.count i j s x y) (map-append f (take many numbers) (k ∷ [])) e in
-          let parts = append-ends c.count i j s (map f (take many numbers)) (f k ∷ []) x y joined in
+          let parts = append-ends (of_canvas c.count i j s) (map f (take many numbers)) (f k ∷ []) x y joined in
           let draws : CanvasDraws (f k) c.count i j s parts.0 y = subst (λ z. CanvasDraws (f k) c.count i j s parts.0 z) (sym parts.2.2) parts.2.1 in
-          ends_more c.count i j s ts k (f k) x parts.0 y within (slice_get-get_or ts k none within) (before parts.0 parts.1) draws
+          ends_more (of_canvas c.count i j s) ts k (f k) x parts.0 y within (slice_get-get_or ts k none within) (before parts.0 parts.1) draws
 
       pub row_more : AreOfRow ts c row k numbers firsts ends many span → AreOfRow ts c row (k + 1) new_numbers new_firsts new_ends (many + 1) new_span
       row_more a = record {
@@ -166,7 +166,7 @@ module _ (ts : List Placed) (none : Placed) (numbers firsts ends : List ℕ) (ma
   tile_past : (n more : ℕ) (old new : List BlockSamples) → ((p : ℕ) (t : Placed) → n ≤ p → p < n + more → slice_get vs p ≡ Some t → (row across s : ℕ) → IsSampleOf tile row across s → ¬ Meets t tile.count (8 * tile.bx + across) (8 * tile.by + row) s)
       → TileHasEnds (take n vs) tile old new → TileHasEnds (take (n + more) vs) tile old new
   tile_past n more old new missed before row across s h =
-      ends_past tile.count (8 * tile.bx + across) (8 * tile.by + row) s vs n more _ _ (λ p t low high found. missed p t low high found row across s h) (before row across s h)
+      ends_past (of_canvas tile.count (8 * tile.bx + across) (8 * tile.by + row) s) vs n more _ _ (λ p t low high found. missed p t low high found row across s h) (before row across s h)
 
   pub tile_bits_past : (having from a z : ℕ) → a ≤ z → z ≤ 16 → ((bit : ℕ) → bit < 16 → HasPlace firsts ends (from + bit) column → IsBitSet having bit)
       → ((bit : ℕ) → a ≤ bit → bit < z → from + bit < many → ¬ IsBitSet having bit) → (old new : List BlockSamples) → TileHasEnds (take (from + a) vs) tile old new → TileHasEnds (take (from + z) vs) tile old new

@@ -9,7 +9,7 @@ use Rattle.grid.specs.declared.pixels.TileSide.TheVariants.{T64}
 use Rattle.lanes.specs.declared.block_samples.BlockSamples.{BlockSamples}
 use Rattle.shade.specs.declared.placed.Placed.{Placed}
 use Rattle.shade.specs.Placed.{Meets}
-use Rattle.shade.proofs.CanvasEndings.{ends_more}
+use Rattle.shade.proofs.Endings.{of_canvas, ends_more}
 use Rattle.raster.specs.declared.tile.Tile.{Tile}
 use Rattle.raster.specs.Samples.{IsSampleOf}
 use Rattle.reach.specs.declared.marks.Reached.{Reached}
@@ -25,7 +25,7 @@ pub tile_past : (ts : List Placed) (tile : Tile) (n : ℕ) (t : Placed) (old new
     → ((row column s : ℕ) → IsSampleOf tile row column s → ¬ Meets t tile.count (8 * tile.bx + column) (8 * tile.by + row) s)
     → TileHasEnds (take n ts) tile old new → TileHasEnds (take (n + 1) ts) tile old new
 tile_past ts tile n t old new below is missed before row column s h =
-    ends_more tile.count (8 * tile.bx + column) (8 * tile.by + row) s ts n t _ _ _ below is (before row column s h)
+    ends_more (of_canvas tile.count (8 * tile.bx + column) (8 * tile.by + row) s) ts n t _ _ _ below is (before row column s h)
     (record { met = λ m. absurd (missed row column s h m); missed = λ _. refl })
 
 -- the bits that a column and a row have in common

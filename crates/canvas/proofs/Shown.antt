@@ -25,7 +25,7 @@ use Rattle.shade.specs.Merging.{Writes, operands_of, IsWritten, IsChannelMerged}
 use Rattle.shade.specs.Placed.{Meets}
 use Rattle.shade.specs.Canvas.{IsCanvasMerged, CanvasDraws, CanvasEnds}
 use Rattle.shade.proofs.Decided.{IsDecided, meets, passes}
-use Rattle.shade.proofs.CanvasEndings.{ends, ends_more}
+use Rattle.shade.proofs.Endings.{of_canvas, ends, ends_more}
 use Rattle.lanes.specs.declared.block_samples.BlockSamples.{BlockSamples}
 use Rattle.raster.specs.declared.tile.Tile.{Tile}
 use Rattle.raster.specs.Samples.{stored}
@@ -171,7 +171,7 @@ depth_after (t ∷ ts) (suc n) count i j s keep x y h =
 pub begins : (ts : List Placed) (tile : Tile) (n : ℕ) (t : Placed) (old new : List BlockSamples) → n < length ts → slice_get ts n ≡ Some t → CanBegin ts tile n → DrawsTile t tile old new → TileHasEnds (take (n + 1) ts) tile old new
 begins ts tile n t old new below found can draws row column s h =
     let x : CanvasSample = stored tile old row column s in
-    let before = ends tile.count (8 * tile.bx + column) (8 * tile.by + row) s (take n ts) x in
+    let before = ends (of_canvas tile.count (8 * tile.bx + column) (8 * tile.by + row) s) (take n ts) x in
     let same : IsKept x before.0 = depth_after ts n tile.count (8 * tile.bx + column) (8 * tile.by + row) s (λ k u less at_k a b made. can.keep k u less at_k row column s h a b made) x before.0 before.1 in
-    ends_more tile.count (8 * tile.bx + column) (8 * tile.by + row) s ts n t x before.0 (stored tile new row column s) below found before.1
+    ends_more (of_canvas tile.count (8 * tile.bx + column) (8 * tile.by + row) s) ts n t x before.0 (stored tile new row column s) below found before.1
     (can.hides t found row column s h x before.0 (stored tile new row column s) same.0 same.1 (draws row column s h))

@@ -5,7 +5,7 @@ use Rattle.std.proofs.lemmas.Bool.{false≢true}
 use Rattle.canvas.specs.declared.misfit.Misfit.{Misfit}
 use Rattle.canvas.specs.declared.tile_rows.TileRows.{TileRows as Rows}
 use Rattle.canvas.specs.Pixels.{IsLargeEnough}
-use Rattle.grid.specs.Samples.{count_of}
+use Rattle.grid.specs.Samples.{count_of, pattern_of}
 use Rattle.model.specs.Checking.{Checks, done as checked, check, followed_by, Pass, FirstIs, IsJudged}
 use Rattle.model.proofs.Checking.{pass_both, fails_later}
 use Rattle.batch.specs.declared.draw.BatchDraw.{BatchDraw}
@@ -20,7 +20,7 @@ use Rattle.c_abi.specs.declared.fault.Fault.{Fault}
 use Rattle.c_abi.specs.declared.status.Status.{Status}
 use Rattle.c_abi.specs.declared.status.Status.TheVariants.{BadList, BadBatch, BufferTooSmall}
 use Rattle.canvas_c.specs.declared.piece.CanvasHead.{CanvasHead}
-use Rattle.canvas_c.specs.Pieces.{IsCount, samples_listed, piece_checks, AreRowsOf, HasRoom}
+use Rattle.canvas_c.specs.Pieces.{IsCount, piece_checks, AreRowsOf, HasRoom}
 
 -- ---- room for rows of pixels
 pub room_of : (head : CanvasHead) (rows : Rows) (unit stride size : ℕ) → AreRowsOf head rows → IsLargeEnough rows.canvas rows.first rows.end unit stride size → HasRoom head unit stride size
@@ -54,7 +54,7 @@ at_origin x x' y y' same_x same_y ids ds vs is fault first =
     subst (λ b. FirstIs (batch_checks x b ids ds vs is) fault) same_y (subst (λ a. FirstIs (batch_checks a y' ids ds vs is) fault) same_x first)
 
 -- ---- how many samples a pixel has
-pub count_is : (samples : ℕ) → IsCount samples → count_of (samples_listed samples) ≡ max 1 samples
+pub count_is : (samples : ℕ) → IsCount samples → count_of (pattern_of samples) ≡ max 1 samples
 count_is samples (inl e) = rw e refl
 count_is samples (inr (inl e)) = rw e refl
 count_is samples (inr (inr (inl e))) = rw e refl

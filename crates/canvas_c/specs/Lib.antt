@@ -2,7 +2,6 @@
 --
 -- Pieces.antt
 --   IsCount: A pixel may have this number of samples, with 0 for one.
---   samples_listed: The samples of a pixel by their number: 0 and 1 are one.
 --   AreChannels: A sample may have this number of channels: 3, without alpha, with 0 for that, or 4, with alpha.
 --   IsCanvas: There is a canvas of this size with these samples and channels.
 --   has_alpha: Whether the canvas has alpha: it has with four channels.

@@ -1,7 +1,6 @@
 -- Tile rows of a canvas, as the caller names them, and the checks of the calls.
 use Rattle.std.specs.Prelude.{◌≡◌, ◌⊎◌, ℕ, Bool, ◌==◌, ◌+◌, ◌-◌, ◌*◌, ◌/◌, ◌%◌, ◌<◌, ◌≤◌, min, max, if◌then◌else◌}
 use Rattle.model.specs.Checking.{Checks, done, check, followed_by}
-use Rattle.grid.specs.declared.sample_count.SampleCount.{SampleCount}
 use Rattle.grid.specs.Samples.{IsPattern, pattern_of}
 use Rattle.canvas.specs.declared.canvas.Canvas.{Canvas}
 use Rattle.canvas.specs.declared.format.Format.{Format}
@@ -17,10 +16,6 @@ use Rattle.canvas_c.specs.declared.piece.CanvasHead.{CanvasHead}
 -- A pixel may have this number of samples, with 0 for one.
 abbrev pub IsCount : ℕ → Type 0
 IsCount samples = (samples ≡ 0) ⊎ IsPattern samples
-
--- The samples of a pixel by their number: 0 and 1 are one.
-abbrev pub samples_listed : ℕ → SampleCount
-samples_listed n = pattern_of n
 
 -- A sample may have this number of channels: 3, without alpha, with 0 for that, or 4, with alpha.
 pub record AreChannels (channels : ℕ) : Type 0 where
@@ -59,7 +54,7 @@ planes_listed width samples first end = (end - first) * ((width + 63) / 64 * (1 
 pub record AreRowsOf (head : CanvasHead) (rows : TileRows) : Type 0 where
   pub width : rows.canvas.width ≡ head.width
   pub height : rows.canvas.height ≡ head.height
-  pub count : rows.canvas.count ≡ samples_listed head.samples
+  pub count : rows.canvas.count ≡ pattern_of head.samples
   pub first : rows.first ≡ head.first
   pub end : rows.end ≡ head.end
 

@@ -1,7 +1,7 @@
 -- The checks of calls that read or store the colours of one sample index, and the samples of one tile.
 use Rattle.std.specs.Prelude.{◌≡◌, ◌⊎◌, ℕ, ◌+◌, ◌*◌, ◌/◌, ◌<◌, ◌≤◌, ◌==◌, if◌then◌else◌, List, take, slice_index}
 use Rattle.model.specs.Checking.{Checks, done, check, followed_by}
-use Rattle.grid.specs.Samples.{count_of}
+use Rattle.grid.specs.Samples.{count_of, pattern_of}
 use Rattle.lanes.specs.declared.block_samples.BlockSamples.{BlockSamples}
 use Rattle.canvas.specs.declared.canvas.Canvas.{Canvas}
 use Rattle.canvas.specs.declared.misfit.Misfit.{Misfit}
@@ -11,14 +11,14 @@ use Rattle.canvas.specs.Tiles.{tile_entries, IsUniform, AreTileIds}
 use Rattle.c_abi.specs.declared.status.Status.{Status}
 use Rattle.c_abi.specs.declared.status.Status.TheVariants.{BufferTooSmall, BadFormat, BadSample, BadTile}
 use Rattle.canvas_c.specs.declared.piece.CanvasHead.{CanvasHead}
-use Rattle.canvas_c.specs.Pieces.{samples_listed, HasRoom, IsFormat, format_of, stride_of, piece_checks}
+use Rattle.canvas_c.specs.Pieces.{HasRoom, IsFormat, format_of, stride_of, piece_checks}
 
 -- The colours of one sample index are read or written in `size` bytes, whose rows begin `stride` bytes behind each other.
 abbrev pub colours_checks : CanvasHead → ℕ → ℕ → ℕ → ℕ → ℕ → Checks Status
 colours_checks head planes sample format stride size =
     followed_by (piece_checks head planes) (
     check (IsFormat format) BadFormat (
-    check (sample < count_of (samples_listed head.samples)) BadSample (
+    check (sample < count_of (pattern_of head.samples)) BadSample (
     check (HasRoom head (pixel_bytes (format_of format)) (stride_of (head.width * pixel_bytes (format_of format)) stride) size) BufferTooSmall
     done)))
 
@@ -30,7 +30,7 @@ pub record NamesTile (head : CanvasHead) (column row : ℕ) : Type 0 where
 
 -- How many entries a tile of the canvas has.
 abbrev pub entries_in_tile : CanvasHead → ℕ
-entries_in_tile head = 4096 * count_of (samples_listed head.samples)
+entries_in_tile head = 4096 * count_of (pattern_of head.samples)
 
 -- The samples of a tile are read to `size` entries.
 abbrev pub tile_ids_checks : CanvasHead → ℕ → ℕ → ℕ → ℕ → Checks Status

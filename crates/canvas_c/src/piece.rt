@@ -2,7 +2,8 @@
 ghost use Rattle.std.specs.Prelude.{◌≡◌, ◌↔◌, ◌⊎◌, ◌+◌, ◌*◌, ◌/◌, ◌≤◌, length, IsTrue, IsSome, IfSome, IsOk, IfOk, IfErr};
 ghost use Rattle.model.specs.Checking.{IsJudged};
 ghost use Rattle.canvas.specs.Layout.{planes_of_rows};
-ghost use Rattle.canvas_c.specs.Pieces.{IsCount, samples_listed, AreChannels, IsCanvas, IsWhole, has_alpha, planes_listed, tile_rows_of, AreRowsOf, piece_checks};
+ghost use Rattle.grid.specs.Samples.{pattern_of};
+ghost use Rattle.canvas_c.specs.Pieces.{IsCount, AreChannels, IsCanvas, IsWhole, has_alpha, planes_listed, tile_rows_of, AreRowsOf, piece_checks};
 
 use c_abi::{Status, is_own_size};
 use canvas::{Canvas, Misfit, TileRows};
@@ -61,7 +62,7 @@ pub struct CanvasPiece<'a> {
 /// This number of samples of a pixel, with 0 for one.
 fn count_of(samples: u32) -> Option<SampleCount>
     ensures some { IsSome result ↔ IsCount samples }
-    ensures value { IfSome result (λ count. count ≡ samples_listed samples) }
+    ensures value { IfSome result (λ count. count ≡ pattern_of samples) }
 {
     match samples {
         0 => Some(SampleCount::One),
@@ -80,7 +81,7 @@ fn has_channels(channels: u32) -> bool
 fn canvas(head: &CanvasHead) -> Option<Canvas>
     ensures some { IsSome result ↔ IsCanvas head.now }
     ensures value { IfSome result (λ c. (c.width ≡ head.now.width) × (c.height ≡ head.now.height) ×
-        (c.count ≡ samples_listed head.now.samples)) }
+        (c.count ≡ pattern_of head.now.samples)) }
 {
     let count = count_of(head.samples)?;
     if !has_channels(head.channels) {
@@ -93,7 +94,7 @@ fn canvas(head: &CanvasHead) -> Option<Canvas>
 fn whole(head: &CanvasHead) -> Option<Canvas>
     ensures some { IsSome result ↔ IsWhole head.now }
     ensures value { IfSome result (λ c. (c.width ≡ head.now.width) × (c.height ≡ head.now.height) ×
-        (c.count ≡ samples_listed head.now.samples)) }
+        (c.count ≡ pattern_of head.now.samples)) }
 {
     if !is_own_size(head.struct_size, PIECE_SIZE) {
         return None;

@@ -10,7 +10,7 @@ use crate::polygon_arrays::{PolygonArrays, is_in_band, rule_of};
 use c_abi::{CallError, Error, Status, report};
 use canvas::Origin;
 use lanes::BlockSamples;
-use painting::{Paints, clear, clear_counters, draw_polygons, scratch_columns};
+use painting::{Style, clear, clear_counters, draw_polygons, scratch_columns};
 use polygons::{Counters, Flags};
 
 /// Draws polygons, in their colours or by ids.
@@ -48,7 +48,7 @@ fn draw_into(
         Ok(polygons) => polygons,
         Err(fault) => return Err(CallError::of_batch(fault)),
     };
-    let paints = Paints {
+    let style = Style {
         rule: rule_of(arrays.fill_rule),
         colours: arrays.colours,
         depths: arrays.depths,
@@ -61,7 +61,7 @@ fn draw_into(
     let counters = &mut counters[..counted];
     clear_counters(counters);
     let mut piece = rows.over(planes);
-    draw_polygons(&mut piece, &polygons, &paints, &origin, flags, counters);
+    draw_polygons(&mut piece, &polygons, &style, &origin, flags, counters);
     Ok(())
 }
 

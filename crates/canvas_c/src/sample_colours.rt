@@ -1,6 +1,6 @@
 //! The colours of the samples of one index, in the caller's memory.
 ghost use Rattle.std.specs.Prelude.{◌≡◌, ◌≢◌, ◌*◌, ◌<◌, length, IfOk, OnOk, OnErr, ⊤};
-ghost use Rattle.grid.specs.Samples.{count_of};
+ghost use Rattle.grid.specs.Samples.{count_of, pattern_of};
 ghost use Rattle.canvas.specs.Layout.{planes_of_rows};
 ghost use Rattle.canvas.specs.Pixels.{pixel_bytes};
 ghost use Rattle.canvas.specs.Colours.{AreColours};
@@ -8,7 +8,7 @@ ghost use Rattle.canvas.specs.Loaded.{AreStored};
 ghost use Rattle.model.specs.Checking.{IsJudged, check, followed_by, done as checked};
 ghost use Rattle.c_abi.specs.Calls.{IsStatus};
 ghost use Rattle.c_abi.specs.declared.status.Status.TheVariants as failed;
-ghost use Rattle.canvas_c.specs.Pieces.{samples_listed, has_alpha, AreRowsOf, OnRows, IsFormat, format_of as format_named, stride_of as row_stride, piece_checks};
+ghost use Rattle.canvas_c.specs.Pieces.{has_alpha, AreRowsOf, OnRows, IsFormat, format_of as format_named, stride_of as row_stride, piece_checks};
 ghost use Rattle.canvas_c.specs.Samples.{colours_checks};
 
 use crate::images::{image_rows, stride_of};
@@ -26,7 +26,7 @@ fn sample_rows(
 ) -> Result<(TileRows, Format), Status>
     ensures judged { IsJudged (followed_by (piece_checks head.now (length planes.now))
         (check (IsFormat format) failed.BadFormat
-        (check (sample < count_of (samples_listed head.now.samples)) failed.BadSample checked)))
+        (check (sample < count_of (pattern_of head.now.samples)) failed.BadSample checked)))
         (λ found. AreRowsOf head.now found.0) result }
     ensures planes { IfOk result (λ found. length planes.now ≡
         planes_of_rows found.0.canvas found.0.first found.0.end) }

@@ -7,7 +7,7 @@ use Rattle.shade.specs.declared.placed.Placed.{Placed}
 use Rattle.shade.specs.Ending.{Ends}
 use Rattle.shade.specs.Canvas.{with_alpha, colour_and_depth, CanvasEnds}
 use Rattle.shade.proofs.CanvasDrawn.{keeping_ends}
-use Rattle.shade.proofs.CanvasEndings.{ends-append}
+use Rattle.shade.proofs.Endings.{of_canvas, ends-append}
 use Rattle.model.specs.Scene.{Scene}
 use Rattle.model.specs.Picture.{IsEnd, IsPixel}
 use Rattle.canvas.specs.declared.canvas.Canvas.{Canvas}
@@ -18,7 +18,7 @@ batches_end : (c : Canvas) (batches : List (List Placed)) (old new : List BlockS
     → CanvasEnds (all_of batches) c.count i j s (stored c 0 old i j s) (stored c 0 new i j s)
 batches_end c [] old new same i j s h = ap (λ samples. stored c 0 samples i j s) same
 batches_end c (ts ∷ batches) old new d i j s h =
-    ends-append c.count i j s ts (all_of batches) (stored c 0 old i j s) (stored c 0 d.0 i j s) (stored c 0 new i j s) (d.1 i j s h) (batches_end c batches d.0 new d.2 i j s h)
+    ends-append (of_canvas c.count i j s) ts (all_of batches) (stored c 0 old i j s) (stored c 0 d.0 i j s) (stored c 0 new i j s) (d.1 i j s h) (batches_end c batches d.0 new d.2 i j s h)
 
 module _ (l : Scene) (c : Canvas) (batches : List (List Placed)) (samples : List BlockSamples) (of : IsCanvasOf l c) (listed : AreListed l batches) (made : AreMade l c batches samples) (i j : ℕ) (wide : i < l.width) (high : j < l.height) where
   pub has_pixel : HasPixel c 0 (rows_of c) i j

@@ -8,7 +8,7 @@ use Rattle.shade.specs.declared.sample.Sample.{Sample}
 use Rattle.shade.specs.declared.placed.Placed.{Placed}
 use Rattle.shade.specs.Placed.{Meets, Draws}
 use Rattle.shade.specs.Ending.{Ends}
-use Rattle.shade.proofs.Endings.{ends-unique, ends-append}
+use Rattle.shade.proofs.Endings.{of_list, ends-unique, ends-append}
 use Rattle.history.specs.declared.followed.Followed.{Followed}
 use Rattle.history.specs.Changed.{IsChangedBy, Shows, IsFollowed}
 
@@ -19,7 +19,7 @@ module _ (count : SampleCount) (i j s : ℕ) (start : Sample) where
   none_past ts m past h =
       let old : Ends ts count i j s start h.before = rw (take_all m ts past) at h.old in
       let new : Ends ts count i j s start h.after = rw (take_all (m + 1) ts (omega (arith, past))) at h.new in
-      h.differs (ends-unique count i j s ts start h.after h.before new old)
+      h.differs (ends-unique (of_list count i j s) ts start h.after h.before new old)
 
   -- ---- one more triangle
   module _ (ts : List Placed) (t : Placed) where
@@ -46,7 +46,7 @@ module _ (count : SampleCount) (i j s : ℕ) (start : Sample) where
 
     module _ (old new : Sample) (ends : Ends ts count i j s start old) (draws : Draws t count i j s old new) where
       all : Ends (ts ++ t ∷ []) count i j s start new
-      all = ends-append count i j s ts (t ∷ []) start old new ends (new, draws, refl)
+      all = ends-append (of_list count i j s) ts (t ∷ []) start old new ends (new, draws, refl)
 
       at_last : new ≢ old → IsChangedBy (ts ++ t ∷ []) (length ts) count i j s start
       at_last other = record {
@@ -62,8 +62,8 @@ module _ (count : SampleCount) (i j s : ℕ) (start : Sample) where
           let before : Ends ts count i j s start h.before =
           rw (take-append-le (length ts) ts (t ∷ []) (omega arith), take_all (length ts) ts (omega arith)) at h.old in
           let after : Ends (ts ++ t ∷ []) count i j s start h.after = rw (take_all (length ts + 1) (ts ++ t ∷ []) (omega (arith, longer))) at h.new in
-          let e : h.before ≡ old = ends-unique count i j s ts start h.before old before ends in
-          let f : h.after ≡ new = ends-unique count i j s (ts ++ t ∷ []) start h.after new after all in
+          let e : h.before ≡ old = ends-unique (of_list count i j s) ts start h.before old before ends in
+          let f : h.after ≡ new = ends-unique (of_list count i j s) (ts ++ t ∷ []) start h.after new after all in
           h.differs (f ∙ same ∙ sym e)
 
       -- a triangle that changes nothing
@@ -164,5 +164,5 @@ module _ (count : SampleCount) (i j s : ℕ) (start : Sample) where
   unchanged ts n t is missed h =
       let long = first_length ts n t is in
       let more : Ends (take n ts ++ t ∷ []) count i j s start h.after = rw (first_more ts n t is) at h.new in
-      h.differs (ends-unique count i j s (take n ts ++ t ∷ []) start h.after h.before more
-      (ends-append count i j s (take n ts) (t ∷ []) start h.before h.before h.old (h.before, unmet t h.before missed, refl)))
+      h.differs (ends-unique (of_list count i j s) (take n ts ++ t ∷ []) start h.after h.before more
+      (ends-append (of_list count i j s) (take n ts) (t ∷ []) start h.before h.before h.old (h.before, unmet t h.before missed, refl)))

@@ -12,14 +12,14 @@ use Rattle.model.specs.PixelPrefix.{IsPixelPrefix}
 use Rattle.model.specs.Scene.{Scene}
 use Rattle.model.specs.Picture.{IsEnd, IsColour, IsPixel, PixelOf, IsPicturePart}
 use Rattle.model.proofs.PixelPrefix.{empty_prefix, run_of_one, prefix_run, part_of_rows}
-use Rattle.shade.proofs.Endings.{ends}
+use Rattle.shade.proofs.Endings.{of_list, ends}
 use Rattle.shade.proofs.Resolved.{by_mean_of}
 
 resolved : (count : SampleCount) (channel : ℕ → ℕ) → (q : ℕ) × IsResolved count channel q
 resolved count channel = (_, by_mean_of count channel (mean_of (count_of count) channel) refl)
 
 end_of : (l : Scene) (i j s : ℕ) → (end : Sample) × IsEnd l i j s end
-end_of l i j s = ends l.count i j s l.triangles l.clear
+end_of l i j s = ends (of_list l.count i j s) l.triangles l.clear
 
 colour-exists : (l : Scene) (i j : ℕ) → (r : ℕ) × ((g : ℕ) × ((b : ℕ) × IsColour l i j r g b))
 colour-exists l i j =

@@ -8,11 +8,11 @@ use Rattle.model.specs.declared.output.Output.{Output}
 use Rattle.model.specs.declared.output.Output.TheVariants.{Color, Depth}
 use Rattle.model.specs.Picture.{IsEnd, IsColour, IsPixel, PixelOf, IsPicturePart, pixel_at}
 use Rattle.model.proofs.Pixels.{same_pixels}
-use Rattle.shade.proofs.Endings.{ends-unique}
+use Rattle.shade.proofs.Endings.{of_list, ends-unique}
 use Rattle.shade.proofs.Resolved.{resolved-unique}
 
 pub end-unique : (l : Scene) (i j s : ℕ) (x y : Sample) → IsEnd l i j s x → IsEnd l i j s y → x ≡ y
-end-unique l i j s x y h k = ends-unique l.count i j s l.triangles l.clear x y h k
+end-unique l i j s x y h k = ends-unique (of_list l.count i j s) l.triangles l.clear x y h k
 
 colour-unique : (l : Scene) (i j r g b r' g' b' : ℕ) → IsColour l i j r g b → IsColour l i j r' g' b' → (r ≡ r') × (g ≡ g') × (b ≡ b')
 colour-unique l i j r g b r' g' b' h k =

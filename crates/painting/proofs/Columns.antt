@@ -1,5 +1,5 @@
 -- The blocks of a column, one after another.
-use Rattle.std.proofs.Common.{◌≡◌, ◌⊎◌, inl, inr, sym, subst, ap, ◌∙◌, arith, ℕ, ◌+◌, ◌-◌, ◌*◌, ◌/◌, ◌%◌, ◌<◌, ◌≤◌, List, slice_index, IsBitSet}
+use Rattle.std.proofs.Common.{◌≡◌, inl, inr, sym, subst, ap, ◌∙◌, arith, ℕ, ◌+◌, ◌-◌, ◌*◌, ◌/◌, ◌%◌, ◌<◌, ◌≤◌, List, slice_index, IsBitSet}
 use Rattle.std.proofs.lemmas.Bool.{cases_lt}
 use Rattle.std.proofs.lemmas.Nat.Bits.{bit_at-zero}
 use Rattle.grid.specs.Samples.{part_size}
@@ -7,7 +7,6 @@ use Rattle.lanes.specs.declared.block_samples.BlockSamples.{BlockSamples}
 use Rattle.shade.specs.declared.placed.Placed.{Placed}
 use Rattle.raster.specs.declared.tile.Tile.{Tile}
 use Rattle.raster.specs.Drawing.{IsChosen}
-use Rattle.raster.specs.Samples.{IsSampleOf}
 use Rattle.raster.proofs.Bits.{is_one}
 use Rattle.raster.proofs.BlockDrawn.{part_at_most}
 use Rattle.painting.specs.Parts.{IsInColumn, TilePaints}

@@ -7,7 +7,7 @@ use Rattle.polygons.specs.declared.corner.Corner.{Corner}
 use Rattle.polygons.specs.declared.rule.Rule.{Rule}
 use Rattle.polygons.specs.Arrays.{rings_of}
 use Rattle.canvas.specs.Ids.{colour_of_id, replacing}
-use Rattle.painting.specs.declared.batch.Paints.{Paints}
+use Rattle.painting.specs.declared.batch.Style.{Style}
 use Rattle.painting.specs.Painting.{Shape}
 
 -- The colour of polygon k: one of these, or that of its id, which is counted from the first one on.
@@ -31,13 +31,13 @@ shape_by corners ring_ends polygon_ends rule colours depths ids state k = record
 }
 
 -- Polygon k as it is drawn.
-abbrev pub shape_in : Polygons → Paints → ℕ → Shape
-shape_in polygons paints =
-    shape_by polygons.corners.now polygons.ring_ends.now polygons.polygon_ends.now paints.rule paints.colours.now paints.depths.now paints.ids paints.state
+abbrev pub shape_in : Polygons → Style → ℕ → Shape
+shape_in polygons style =
+    shape_by polygons.corners.now polygons.ring_ends.now polygons.polygon_ends.now style.rule style.colours.now style.depths.now style.ids style.state
 
 -- The polygons as they are drawn, in their order.
-abbrev pub shapes_of : Polygons → Paints → List Shape
-shapes_of polygons paints = map (shape_in polygons paints) (range_with_len 0 (length polygons.polygon_ends.now))
+abbrev pub shapes_of : Polygons → Style → List Shape
+shapes_of polygons style = map (shape_in polygons style) (range_with_len 0 (length polygons.polygon_ends.now))
 
 -- There is a colour for each of n polygons, or an id of 24 bits.
 abbrev pub HasColours : Option ℕ → List (List ℕ) → ℕ → Type 0

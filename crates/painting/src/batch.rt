@@ -13,7 +13,7 @@ use shade::State;
 
 /// How polygons are drawn: by which rule, each in which colour and at which depth, and in which state.
 #[derive(Clone, Copy, Debug)]
-pub struct Paints<'a> {
+pub struct Style<'a> {
     /// Which points are inside.
     pub rule: Rule,
     /// Red, green, blue and alpha of each polygon. They are not read where ids are drawn.
@@ -36,7 +36,7 @@ fn depth_of(depths: &[u16], number: usize) -> u16
     }
 }
 
-impl Paints<'_> {
+impl Style<'_> {
     /// The polygon of this number as it is drawn.
     fn polygon<'a>(&self, polygons: &Polygons<'a>, number: usize) -> Polygon<'a>
         requires number { number < length polygons.now.polygon_ends.now }
@@ -60,22 +60,24 @@ impl Paints<'_> {
     }
 }
 
-/// Draws polygons at each sample of these tile rows, one after another, as `draw_polygon` draws each.
+/// Draws polygons, one after another, at each sample of these tile rows of a canvas whose upper left pixel is `origin`
+/// on the screen: what stood there is what each is merged with. The flags, of which there is one column for each column
+/// of blocks, and for the nonzero rule as many counters, are zeros, and are zeros again afterwards.
 pub fn draw_polygons(
     piece: &mut Piece<'_>,
     polygons: &Polygons<'_>,
-    paints: &Paints<'_>,
+    style: &Style<'_>,
     origin: &Origin,
     flags: &mut [Flags],
     counters: &mut [Counters],
 )
-    requires colours { HasColours paints.now.ids paints.now.colours.now (length polygons.now.polygon_ends.now) }
+    requires colours { HasColours style.now.ids style.now.colours.now (length polygons.now.polygon_ends.now) }
     requires origin { IsOriginInBand origin.now }
     requires columns { 8 * columns_of piece.old.rows.canvas ≤ length flags.old }
     requires flags { AreZeros flags.old }
     requires counters { AreZeros counters.old }
-    requires counted { HasCounters paints.now.rule flags.old counters.old }
-    ensures painted { ArePainted (shapes_of polygons.now paints.now) origin.now piece.old.rows.canvas
+    requires counted { HasCounters style.now.rule flags.old counters.old }
+    ensures painted { ArePainted (shapes_of polygons.now style.now) origin.now piece.old.rows.canvas
         piece.old.rows.first piece.old.rows.end piece.old.planes.now piece.new.planes.now }
     ensures rows { piece.new.rows ≡ piece.old.rows }
     ensures same { piece.new.planes.ghost_name ≡ piece.old.planes.ghost_name }
@@ -84,7 +86,7 @@ pub fn draw_polygons(
 {
     let mut runs = Runs::none();
     for number in 0..polygons.count() {
-        let polygon = paints.polygon(polygons, number);
+        let polygon = style.polygon(polygons, number);
         paint_rows(
             &piece.rows,
             &polygon,

@@ -12,7 +12,5 @@ mod strip;
 mod whole;
 mod window;
 
-pub use batch::{Paints, draw_polygons};
-pub use polygon::Polygon;
-pub use rows::draw_polygon;
+pub use batch::{Style, draw_polygons};
 pub use scratch::{clear, clear_counters, scratch_columns};

@@ -11,7 +11,7 @@ use shade::{BlendFactor, Equation, Placed, State};
 /// A polygon as it is drawn: its rings, its rule, one colour and one depth for all of its samples, and its draw's
 /// state.
 #[derive(Clone, Copy, Debug)]
-pub struct Polygon<'a> {
+pub(crate) struct Polygon<'a> {
     /// Its rings.
     pub rings: Rings<'a>,
     /// Which points are inside of them.

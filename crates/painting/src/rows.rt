@@ -7,7 +7,7 @@ ghost use Rattle.painting.specs.Painting.{ArePainted, IsOriginInBand, shape_of};
 use crate::polygon::Polygon;
 use crate::row::paint_row;
 use crate::window::Window;
-use canvas::{Origin, Piece, TileRows};
+use canvas::{Origin, TileRows};
 use lanes::{BlockSamples, Interpolants};
 use polygons::{Counters, Flags, Runs};
 
@@ -56,38 +56,4 @@ pub(crate) fn paint_rows(
             &mut samples[from..from + each],
         );
     }
-}
-
-/// Draws the polygon at each sample of these tile rows of a canvas whose upper left pixel is `origin` on the screen:
-/// what stood there is what it is merged with. The flags, of which there is one column for each column of blocks, and
-/// for the nonzero rule as many counters, are zeros, and are zeros again afterwards.
-pub fn draw_polygon(
-    piece: &mut Piece<'_>,
-    polygon: &Polygon<'_>,
-    origin: &Origin,
-    flags: &mut [Flags],
-    counters: &mut [Counters],
-)
-    requires origin { IsOriginInBand origin.now }
-    requires columns { 8 * columns_of piece.old.rows.canvas ≤ length flags.old }
-    requires flags { AreZeros flags.old }
-    requires counters { AreZeros counters.old }
-    requires counted { HasCounters polygon.now.rule flags.old counters.old }
-    ensures painted { ArePainted (shape_of polygon.now ∷ []) origin.now piece.old.rows.canvas piece.old.rows.first
-        piece.old.rows.end piece.old.planes.now piece.new.planes.now }
-    ensures rows { piece.new.rows ≡ piece.old.rows }
-    ensures same { piece.new.planes.ghost_name ≡ piece.old.planes.ghost_name }
-    ensures flags { AreZeros flags.new }
-    ensures counters { AreZeros counters.new }
-{
-    let mut runs = Runs::none();
-    paint_rows(
-        &piece.rows,
-        polygon,
-        origin,
-        &mut runs,
-        flags,
-        counters,
-        piece.planes,
-    );
 }

@@ -16,10 +16,10 @@ use Rattle.polygons.specs.Rows.{direction}
 use Rattle.polygons.specs.Rings.{IsInExtent, IsInClosedExtent, HoldsInside}
 use Rattle.polygons.proofs.Cancel.{opposite}
 use Rattle.polygons.proofs.Columns.{between, at_right}
-use Rattle.polygons.proofs.Flags.{above_or_not}
 use Rattle.polygons.proofs.Outside.{direction_over, direction_under, direction_right}
 use Rattle.polygons.proofs.Plotted.{winding-cons, path_closed}
 use Rattle.polygons.proofs.Tests.{le_yes, le_no, down_yes, up_below}
+use Rattle.polygons.proofs.Triangle.{above_or_not}
 
 -- ---- edges that are left of a point are crossed by their heights alone
 -- 1 if the corner is not below p

@@ -1,14 +1,8 @@
 -- Eight rows of eight bits in a word.
-use Rattle.std.proofs.Common.{◌≡◌, ◌↔◌, inl, inr, sym, subst, ap, ◌∙◌, arith, ℕ, ◌+◌, ◌-◌, ◌*◌, ◌/◌, ◌%◌, ◌^◌, ◌<◌, ◌≤◌, true, false, ltb, List, length, slice_index, max, bit_or, bit_and}
+use Rattle.std.proofs.Common.{◌≡◌, inl, inr, sym, ap, ◌∙◌, arith, ℕ, ◌+◌, ◌-◌, ◌*◌, ◌%◌, ◌^◌, ◌<◌, ◌≤◌, true, false, ltb, max, bit_or, bit_and}
 use Rattle.std.proofs.lemmas.Bool.{cases_lt, cases_eq, lt-ltb, le-ltb}
 use Rattle.std.proofs.lemmas.Nat.Bits.{bit_at_and, bit_at_or, bit_at_ones, bit_at_above, bit_at-lt}
 use Rattle.std.specs.Int.{bit_at}
-use Rattle.grid.specs.Position.{Position}
-use Rattle.polygons.specs.declared.edge.Edge.{Edge}
-use Rattle.polygons.specs.declared.rule.Rule.{Rule}
-use Rattle.polygons.specs.Crossing.{IsInside}
-use Rattle.polygons.specs.Rows.{bit_of, IsRowOf}
-use Rattle.polygons.specs.Blocks.{down, in_block, IsBlockRow}
 use Rattle.polygons.proofs.Parity.{bit_of_shifted}
 
 -- ---- the first eight bits of a row
@@ -18,15 +12,6 @@ low_byte word k h =
     let b : bit_at 255 k ≡ 1 = bit_at_ones 8 k h in
     let l = bit_at-lt word k in
     omega arith
-
-pub first_bits : (rule : Rule) (edges : List Edge) (start : Position) (words : List ℕ) → length words ≡ 1 → IsRowOf rule edges start words → IsBlockRow rule edges start (bit_and (slice_index words 0) 255)
-first_bits rule edges start words one row k h =
-    let in_row = row k (omega arith) in
-    let d : k / 64 ≡ 0 = omega arith in
-    let r : k % 64 ≡ k = omega arith in
-    let e : bit_of words k ≡ bit_at (slice_index words 0) k = λ i. bit_at (slice_index words (d i)) (r i) in
-    let same : bit_at (bit_and (slice_index words 0) 255) k ≡ bit_of words k = low_byte (slice_index words 0) k h ∙ sym e in
-    (λ x. in_row.0 (sym same ∙ x), λ x. same ∙ in_row.1 x)
 
 -- ---- one more row in a mask
 below : (bits row k : ℕ) → k < 8 * row → row < 8 → bit_at (bits * 2 ^ (8 * row) % 2 ^ 64) k ≡ 0
@@ -50,49 +35,6 @@ above bits row k small h l = elim (cases_lt k 64) [
       (rw c at e) ∙ bit_at_above bits 8 (k - 8 * row) small (omega arith)
   | inr m ↦ bit_at_above (bits * 2 ^ (8 * row) % 2 ^ 64) 64 k (omega arith) m
 ]
-
--- the rows so far
-pub record AreRows (rule : Rule) (edges : List Edge) (start : Position) (rows mask : ℕ) : Type 0 where
-  pub done : (row column : ℕ) → row < rows → column < 8 → ((bit_at mask (8 * row + column) ≡ 1) ↔ IsInside rule edges (in_block start row column))
-  pub rest : (k : ℕ) → 8 * rows ≤ k → bit_at mask k ≡ 0
-
-pub no_rows : (rule : Rule) (edges : List Edge) (start : Position) → AreRows rule edges start 0 0
-no_rows rule edges start = record { done = λ row column h l. absurd (omega arith); rest = λ k h. bit_at_above 0 0 k (omega arith) (omega arith) }
-
-pub one_row_more : (rule : Rule) (edges : List Edge) (start p : Position) (row mask bits : ℕ) → row < 8 → bits < 256 → p ≡ down start row → IsBlockRow rule edges p bits
-    → AreRows rule edges start row mask → AreRows rule edges start (row + 1) (bit_or mask (bits * 2 ^ (8 * row) % 2 ^ 64))
-one_row_more rule edges start p row mask bits small byte is in_row rows = record {
-  done = λ r column h l. elim (cases_eq r row) [
-    | inl e ↦
-        let old : bit_at mask (8 * r + column) ≡ 0 = rows.rest (8 * r + column) (omega arith) in
-        let new : bit_at (bits * 2 ^ (8 * row) % 2 ^ 64) (8 * r + column) ≡ bit_at bits column = ap (λ n. bit_at (bits * 2 ^ (8 * row) % 2 ^ 64) (8 * n + column)) e ∙ inside bits row column l small in
-        let both : bit_at (bit_or mask (bits * 2 ^ (8 * row) % 2 ^ 64)) (8 * r + column) ≡ bit_at bits column = bit_at_or mask (bits * 2 ^ (8 * row) % 2 ^ 64) (8 * r + column) ∙ (either old new) in
-        let there : IsBlockRow rule edges (down start r) bits = subst (λ (q : Position). IsBlockRow rule edges q bits) (is ∙ ap (down start) (sym e)) in_row in
-        let exact = there column l in
-        (λ x. exact.0 (sym both ∙ x), λ x. both ∙ exact.1 x)
-    | inr e ↦
-        let new : bit_at (bits * 2 ^ (8 * row) % 2 ^ 64) (8 * r + column) ≡ 0 = below bits row (8 * r + column) (lower r h e column l) small in
-        let both : bit_at (bit_or mask (bits * 2 ^ (8 * row) % 2 ^ 64)) (8 * r + column) ≡ bit_at mask (8 * r + column) = bit_at_or mask (bits * 2 ^ (8 * row) % 2 ^ 64) (8 * r + column) ∙ (first new) in
-        let exact = rows.done r column (before r h e) l in
-        (λ x. exact.0 (sym both ∙ x), λ x. both ∙ exact.1 x)
-  ];
-  rest = λ k h.
-      let old = rows.rest k (omega arith) in
-      let new = above bits row k byte h small in
-      bit_at_or mask (bits * 2 ^ (8 * row) % 2 ^ 64) k ∙ (omega arith);
-}
-  where
-    either : {x y z : ℕ} → x ≡ 0 → y ≡ z → max x y ≡ z
-    either e f = omega arith
-
-    first : {x y : ℕ} → y ≡ 0 → max x y ≡ x
-    first e = omega arith
-
-    before : (r : ℕ) → r < row + 1 → (r ≡ row → ⊥) → r < row
-    before r h e = elim (cases_lt r row) [ inl m ↦ m | inr m ↦ absurd (e (omega arith)) ]
-
-    lower : (r : ℕ) → r < row + 1 → (r ≡ row → ⊥) → (column : ℕ) → column < 8 → 8 * r + column < 8 * row
-    lower r h e column l = let m = before r h e in omega arith
 
 -- ---- the bytes of rows
 -- the first rows of a mask, whose bits are to be those of `want`

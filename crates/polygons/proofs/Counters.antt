@@ -1,24 +1,20 @@
 -- What the counters of a row say of the edges.
-use Rattle.std.proofs.Common.{◌≡◌, ◌≢◌, inl, inr, refl, sym, ap, ◌∙◌, arith, ℕ, zero, suc, ◌+◌, ◌*◌, ◌/◌, ◌%◌, ◌^◌, ◌<◌, ◌≤◌, Bool, true, false, cond, eqb, List, length, set, get_or, slice_index, take, get_or-set_same, get_or-set_other, bit_or, ℤ, pos, negsuc, neg_ℤ, nat_abs, w64, to_z, of_z, FitsSigned, ◌+ℤ◌, ◌<ℤ◌, ◌≤ℤ◌}
+use Rattle.std.proofs.Common.{◌≡◌, inl, inr, refl, sym, ap, ◌∙◌, arith, ℕ, zero, suc, ◌+◌, ◌<◌, ◌≤◌, Bool, true, false, cond, eqb, ℤ, pos, negsuc, neg_ℤ, nat_abs, w64, to_z, of_z, FitsSigned, ◌+ℤ◌, ◌<ℤ◌, ◌≤ℤ◌}
 use Rattle.std.proofs.lemmas.Int.{ints, clamps}
 use Rattle.std.proofs.lemmas.Bool.{cases_lt, cases_eq, eq-eqb, ne_eqb}
-use Rattle.std.proofs.lemmas.Nat.Bits.{bit_at_set_same, bit_at_set_other}
-use Rattle.std.proofs.lemmas.List.Sums.{fold_more}
-use Rattle.std.specs.Int.{bit_at, int_max}
+use Rattle.std.specs.Int.{int_max}
 use Rattle.std.specs.Int.RustNames.{int_le}
-use Rattle.grid.specs.Bounds.{IsWithin}
 use Rattle.grid.specs.Position.{Position}
 use Rattle.grid.specs.Edge.{side}
 use Rattle.polygons.specs.declared.edge.Edge.{Edge}
-use Rattle.polygons.specs.Crossing.{is_crossed_down, is_crossed_up, winding}
+use Rattle.polygons.specs.Crossing.{is_crossed_down, is_crossed_up}
 use Rattle.polygons.specs.Columns.{along, HasHeight, IsFirstColumn}
 use Rattle.polygons.specs.Laws.{reversed}
-use Rattle.polygons.specs.Rows.{bit_of, direction, sum_to, counter_of, from_column, AreWithin}
+use Rattle.polygons.specs.Rows.{direction, sum_to, from_column}
 use Rattle.polygons.proofs.Tests.{le_yes, le_no, down_yes, down_above, down_below, down_left, up_above, up_below}
-use Rattle.polygons.proofs.Triangle.{at_most_or_over}
+use Rattle.polygons.proofs.Triangle.{at_most_or_over, above_or_not}
 use Rattle.polygons.proofs.Cancel.{opposite}
 use Rattle.polygons.proofs.Exact.{exact64}
-use Rattle.polygons.proofs.Flags.{above_or_not, not_negative}
 
 -- ---- sums of counters
 pub sum-add : (f g h : ℕ → ℤ) (n : ℕ) → ((k : ℕ) → k < n → g k ≡ f k +ℤ h k) → sum_to g n ≡ sum_to f n +ℤ sum_to h n
@@ -60,21 +56,6 @@ sum-number_after c v (suc n) h = elim (cases_eq n c) [
     not_last : (n : ℕ) → c < suc n → (n ≡ c → ⊥) → c < n
     not_last n l e = elim (cases_lt c n) [ inl m ↦ m | inr m ↦ absurd (e (omega arith)) ]
 
--- ---- one counter more
-counter-added : (counters : List ℤ) (c : ℕ) (v w : ℤ) (k : ℕ) → c < length counters → w ≡ counter_of counters c +ℤ v → counter_of (set counters c w) k ≡ counter_of counters k +ℤ number_at c v k
-counter-added counters c v w k h e = elim (cases_eq k c) [
-  | inl f ↦
-      let here : counter_of (set counters c w) c ≡ w = rw get_or-set_same refl in
-      let z = number-here c v k f in
-      let k_is : counter_of counters k ≡ counter_of counters c = ap (counter_of counters) f in
-      ap (counter_of (set counters c w)) f ∙ here ∙ (omega (arith, ints))
-  | inr f ↦
-      let other : k ≢ c = f in
-      let there : counter_of (set counters c w) k ≡ counter_of counters k = rw get_or-set_other refl in
-      let z = number-elsewhere c v k f in
-      there ∙ (omega (arith, ints))
-]
-
 pub sums-added : (f g : ℕ → ℤ) (c : ℕ) (v : ℤ) (k : ℕ) → ((j : ℕ) → g j ≡ f j +ℤ number_at c v j) → sum_to g (k + 1) ≡ sum_to f (k + 1) +ℤ from_column (pos c) v k
 sums-added f g c v k h =
     let a = sum-add f g (number_at c v) (k + 1) (λ j l. h j) in
@@ -101,26 +82,15 @@ same-test column c k e = elim (above_or_not (pos k) column) [
       a ∙ sym b
 ]
 
+not_negative : (z : ℤ) → pos 0 ≤ℤ z → pos (nat_abs z) ≡ z
+not_negative (pos n) h = refl
+not_negative (negsuc n) h = absurd (omega (arith, ints))
+
 -- the column of the code as a place, which is the first for a column left of the row
 pub place_is : (column m : ℤ) → FitsSigned w64 m → m ≡ int_max column (pos 0) → pos (nat_abs (to_z w64 (of_z w64 m))) ≡ int_max column (pos 0)
 place_is column m fits e =
     let same = exact64 m fits in
     not_negative (to_z w64 (of_z w64 m)) (rw same (omega (arith, ints, clamps))) ∙ same ∙ e
-
-pub row-added : (counters : List ℤ) (column v w : ℤ) (c : ℕ) → pos c ≡ int_max column (pos 0) → c < length counters → w ≡ counter_of counters c +ℤ v
-    → (k : ℕ) → sum_to (counter_of (set counters c w)) (k + 1) ≡ sum_to (counter_of counters) (k + 1) +ℤ from_column column v k
-row-added counters column v w c is lt e k =
-    let t = same-test column c k is in
-    rw (← t) (sums-added (counter_of counters) (counter_of (set counters c w)) c v k (λ j. counter-added counters c v w j lt e))
-
-pub within-added : (counters : List ℤ) (c n : ℕ) (v w : ℤ) → c < length counters → w ≡ counter_of counters c +ℤ v → IsWithin 1 v → AreWithin n counters → AreWithin (n + 1) (set counters c w)
-within-added counters c n v w lt e small h j =
-    let a = counter-added counters c v w j lt e in
-    let b = h j in
-    elim (cases_eq j c) [
-      | inl f ↦ let z = number-here c v j f in record { low = omega (arith, ints); high = omega (arith, ints) }
-      | inr f ↦ let z = number-elsewhere c v j f in record { low = omega (arith, ints); high = omega (arith, ints) }
-    ]
 
 -- ---- one edge
 pub direction-from : (e : Edge) (p : Position) (c : ℤ) (k : ℕ) → HasHeight e p.y → IsFirstColumn e p c → direction e (along p (pos k)) ≡ from_column c (pos 1) k
@@ -148,12 +118,6 @@ direction-reversed e p =
     let u : cond {A = ℕ} (is_crossed_up (reversed e) p) 1 0 ≡ cond {A = ℕ} (is_crossed_down e p) 1 0 = ap (λ (b : Bool). cond {A = ℕ} b 1 0) o.up in
     omega (arith, ints)
 
-pub from_column-negated : (c : ℤ) (k : ℕ) → neg_ℤ (from_column c (pos 1) k) ≡ from_column c (negsuc 0) k
-from_column-negated c k = elim (above_or_not (pos k) c) [
-  | inl l ↦ let t = le_no c (pos k) l in rw t refl
-  | inr l ↦ let t = le_yes c (pos k) l in rw t refl
-]
-
 pub direction-none : (e : Edge) (p : Position) (k : ℤ) → ((e.a.y ≤ℤ p.y) × (p.y <ℤ e.b.y) → ⊥) → ((e.b.y ≤ℤ p.y) × (p.y <ℤ e.a.y) → ⊥) → direction e (along p k) ≡ pos 0
 direction-none e p k h l =
     elim (above_or_not p.y e.a.y) [
@@ -169,36 +133,4 @@ direction-none e p k h l =
             | inl b ↦ absurd (h (a, b))
             | inr b ↦ let down = down_below e (along p k) b in rw (down, up) refl
           ]
-    ]
-
--- ---- all edges
-pub winding-more : (edges : List Edge) (i : ℕ) (d : Edge) (p : Position) → i < length edges → winding (take (i + 1) edges) p ≡ winding (take i edges) p +ℤ direction (get_or edges i d) p
-winding-more edges i d p h =
-    let a = fold_more (λ (n : ℕ) (e : Edge). n + cond {A = ℕ} (is_crossed_down e p) 1 0) 0 edges i d h in
-    let b = fold_more (λ (n : ℕ) (e : Edge). n + cond {A = ℕ} (is_crossed_up e p) 1 0) 0 edges i d h in
-    omega (arith, ints)
-
-pub no_counters : (counters : List ℤ) → ((j : ℕ) → counter_of counters j ≡ pos 0) → (n : ℕ) → sum_to (counter_of counters) n ≡ pos 0
-no_counters counters h n = sum-none (counter_of counters) n (λ k l. h k)
-
--- ---- one bit set in a row
-pub bit-set : (words : List ℕ) (c k : ℕ) → c / 64 < length words → k ≡ c → bit_of (set words (c / 64) (bit_or (slice_index words (c / 64)) (1 * 2 ^ (c % 64) % 2 ^ 64))) k ≡ 1
-bit-set words c k h e =
-    let v : ℕ = bit_or (slice_index words (c / 64)) (1 * 2 ^ (c % 64) % 2 ^ 64) in
-    let here : slice_index (set words (c / 64) v) (c / 64) ≡ v = rw get_or-set_same refl in
-    ap (bit_of (set words (c / 64) v)) e ∙ ap (λ w. bit_at w (c % 64)) here ∙ bit_at_set_same w64 (slice_index words (c / 64)) (c % 64) (omega arith)
-
-pub bit-unset : (words : List ℕ) (c k : ℕ) → c / 64 < length words → k ≢ c → bit_of (set words (c / 64) (bit_or (slice_index words (c / 64)) (1 * 2 ^ (c % 64) % 2 ^ 64))) k ≡ bit_of words k
-bit-unset words c k h n =
-    let v : ℕ = bit_or (slice_index words (c / 64)) (1 * 2 ^ (c % 64) % 2 ^ 64) in
-    elim (cases_eq (k / 64) (c / 64)) [
-      | inl e ↦
-          let here : slice_index (set words (c / 64) v) (c / 64) ≡ v = rw get_or-set_same refl in
-          let a : bit_of (set words (c / 64) v) k ≡ bit_at v (k % 64) = ap (λ j. bit_at (slice_index (set words (c / 64) v) j) (k % 64)) e ∙ ap (λ w. bit_at w (k % 64)) here in
-          let b : bit_of words k ≡ bit_at (slice_index words (c / 64)) (k % 64) = ap (λ j. bit_at (slice_index words j) (k % 64)) e in
-          a ∙ bit_at_set_other w64 (slice_index words (c / 64)) (c % 64) (omega arith) (k % 64) (λ f. n (omega arith)) ∙ sym b
-      | inr e ↦
-          let other : k / 64 ≢ c / 64 = e in
-          let there : slice_index (set words (c / 64) v) (k / 64) ≡ slice_index words (k / 64) = rw get_or-set_other refl in
-          ap (λ w. bit_at w (k % 64)) there
     ]

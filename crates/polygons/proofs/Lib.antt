@@ -15,8 +15,6 @@ pub mod Columns
 pub mod Division
 pub mod Exact
 pub mod Parity
-pub mod Filled
-pub mod Flags
 pub mod Counters
 pub mod Quads
 pub mod Bytes

@@ -11,9 +11,9 @@ use Rattle.polygons.specs.Apart.{IsApart}
 use Rattle.polygons.specs.Strip.{strip_sample}
 use Rattle.polygons.proofs.Cancel.{opposite}
 use Rattle.polygons.proofs.Columns.{between, at_left}
-use Rattle.polygons.proofs.Flags.{above_or_not}
 use Rattle.polygons.proofs.Samples.{offset_x, offset_y}
 use Rattle.polygons.proofs.Tests.{down_above, down_below, down_left, up_above, up_below}
+use Rattle.polygons.proofs.Triangle.{above_or_not}
 
 none : (e : Edge) (p : Position) → is_crossed_down e p ≡ false → is_crossed_up e p ≡ false → direction e p ≡ pos 0
 none e p d u = rw (d, u) refl

@@ -16,8 +16,7 @@ use Rattle.polygons.specs.Polygon.{PolygonCovers}
 use Rattle.polygons.specs.Laws.{translated, translated_edge, MovesAlong}
 use Rattle.polygons.proofs.Cancel.{opposite}
 use Rattle.polygons.proofs.Tests.{le_yes, le_no, lt_yes, lt_no}
-use Rattle.polygons.proofs.Flags.{above_or_not}
-use Rattle.polygons.proofs.Triangle.{Verdict, upwards, downwards, outside, verdict, down_count, up_count}
+use Rattle.polygons.proofs.Triangle.{Verdict, upwards, downwards, outside, verdict, down_count, up_count, above_or_not}
 
 -- ---- the quad abcd
 abbrev downs_of : Position → Position → Position → ℕ

@@ -1,6 +1,6 @@
 -- The edges of a triangle are crossed as the top-left rule says: an odd number of times, and more often one way than the other, at
 -- the points that the triangle covers and nowhere else.
-use Rattle.std.proofs.Common.{◌≡◌, ◌≢◌, ◌⊎◌, ◌↔◌, inl, inr, refl, sym, ◌∙◌, arith, ℕ, ◌+◌, ◌*◌, Bool, true, false, cond, [], ◌∷◌, ℤ, pos, negsuc, ◌+ℤ◌, ◌-ℤ◌, ◌*ℤ◌, ◌<ℤ◌, ◌≤ℤ◌}
+use Rattle.std.proofs.Common.{◌≡◌, ◌≢◌, ◌⊎◌, ◌↔◌, inl, inr, refl, sym, ◌∙◌, arith, ℕ, ◌+◌, ◌*◌, Bool, true, false, cond, [], ◌∷◌, ℤ, pos, negsuc, neg_ℤ, ◌+ℤ◌, ◌-ℤ◌, ◌*ℤ◌, ◌<ℤ◌, ◌≤ℤ◌}
 use Rattle.std.proofs.lemmas.Int.{ints, clamps}
 use Rattle.grid.specs.Position.{Position}
 use Rattle.grid.specs.Edge.{side, PassesEdge}
@@ -24,6 +24,9 @@ at_most_or_over x = elim (sign x) [ negative h ↦ inl (omega (arith, ints)) | n
 
 pub under_or_at_least : (x : ℤ) → (x <ℤ pos 0) ⊎ (pos 0 ≤ℤ x)
 under_or_at_least x = elim (sign x) [ negative h ↦ inl h | null h ↦ inr (omega (arith, ints)) | positive h ↦ inr (omega (arith, ints)) ]
+
+pub above_or_not : (x y : ℤ) → (x <ℤ y) ⊎ (y ≤ℤ x)
+above_or_not x y = elim (at_most_or_over (y +ℤ neg_ℤ x)) [ inl h ↦ inr (omega (arith, ints)) | inr h ↦ inl (omega (arith, ints)) ]
 
 less : Term → Term → Term
 less s t = plus s (neg t)

@@ -1,9 +1,7 @@
 -- Blocks of 8 by 8 samples as bits of one word.
-use Rattle.std.specs.Prelude.{◌≡◌, ◌↔◌, ℕ, ◌+◌, ◌*◌, ◌<◌, pos, ◌+ℤ◌, List, IsBitSet}
+use Rattle.std.specs.Prelude.{◌≡◌, ◌↔◌, ℕ, ◌+◌, ◌*◌, ◌<◌, pos, ◌+ℤ◌, List}
 use Rattle.std.specs.Int.{bit_at}
 use Rattle.grid.specs.Position.{Position}
-use Rattle.grid.specs.Samples.{sample_position}
-use Rattle.grid.specs.declared.sample_count.SampleCount.{SampleCount}
 use Rattle.polygons.specs.declared.edge.Edge.{Edge}
 use Rattle.polygons.specs.declared.rule.Rule.{Rule}
 use Rattle.polygons.specs.Crossing.{IsInside}
@@ -21,13 +19,3 @@ in_block p row column = along (down p row) (pos column)
 abbrev pub IsBlockMask : Rule → List Edge → Position → ℕ → Type 0
 IsBlockMask rule edges p mask =
     (row column : ℕ) → row < 8 → column < 8 → ((bit_at mask (8 * row + column) ≡ 1) ↔ IsInside rule edges (in_block p row column))
-
--- The first eight bits say it of a row.
-abbrev pub IsBlockRow : Rule → List Edge → Position → ℕ → Type 0
-IsBlockRow rule edges p bits = (column : ℕ) → column < 8 → ((bit_at bits column ≡ 1) ↔ IsInside rule edges (along p (pos column)))
-
--- Bit 8 row + column of the mask says whether sample s of the pixel there is inside of the edges by the rule. The first pixel of
--- block (bx, by) is (8 bx, 8 by).
-abbrev pub IsSampleMask : Rule → List Edge → ℕ → ℕ → ℕ → SampleCount → ℕ → Type 0
-IsSampleMask rule edges bx by s count mask =
-    (row column : ℕ) → row < 8 → column < 8 → (IsBitSet mask (8 * row + column) ↔ IsInside rule edges (sample_position (8 * bx + column) (8 * by + row) s count))

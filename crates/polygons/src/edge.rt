@@ -47,7 +47,7 @@ impl Edge {
 }
 
 /// Whether `p` is at the height of `top`, or below it and above `bottom`.
-pub(crate) fn is_in_range(top: Point, bottom: Point, p: Point) -> bool
+fn is_in_range(top: Point, bottom: Point, p: Point) -> bool
     ensures value { result ≡ (int_le top.y p.y && int_lt p.y bottom.y) }
     ensures meaning { IsTrue result ↔ ((top.y ≤ℤ p.y) × (p.y <ℤ bottom.y)) }
 {

@@ -3,7 +3,6 @@
 
 mod apart;
 mod arrays;
-mod block;
 mod byte_rows;
 mod cells;
 mod corner;
@@ -17,19 +16,15 @@ mod partition;
 mod plot;
 mod polygon;
 mod rings;
-mod rows;
 mod rule;
 mod runs;
-mod spread;
 mod starts;
 mod strip;
 mod strip_masks;
 mod sum;
 mod walk;
-mod windings;
 
 pub use arrays::{ArraysError, Polygons};
-pub use block::{block_mask, sample_mask};
 pub use cells::{Counters, Flags};
 pub use corner::Corner;
 pub use crossings::{Crossings, count_edges};
@@ -39,9 +34,7 @@ pub use laws::{count_both, edges_cover, quad_covers, triangle_covers};
 pub use partition::count_covering;
 pub use polygon::polygon_covers;
 pub use rings::Rings;
-pub use rows::even_odd_row;
 pub use rule::Rule;
 pub use runs::Runs;
 pub use strip::Strip;
 pub use strip_masks::cover_strip;
-pub use windings::nonzero_row;

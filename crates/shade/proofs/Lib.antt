@@ -3,8 +3,7 @@ pub mod Steps
 pub mod Blended
 pub mod Decided
 pub mod Drawn
-pub mod Endings
 pub mod Merged
 pub mod Resolved
 pub mod CanvasDrawn
-pub mod CanvasEndings
+pub mod Endings

@@ -1,12 +1,12 @@
 //! What follows from the definition of blending, for all channels. Each law is the contract of a call that does
 //! nothing.
-ghost use Rattle.std.specs.Prelude.{◌≡◌, ◌↔◌, ℕ, ◌+◌, ◌*◌, ◌≤◌, min, ℤ, pos, ◌+ℤ◌, ◌*ℤ◌, ◌<ℤ◌, ◌≤ℤ◌, false, slice_index_or};
+ghost use Rattle.std.specs.Prelude.{◌≡◌, ◌↔◌, ℕ, ◌+◌, ◌*◌, ◌/◌, ◌≤◌, min, ℤ, pos, ◌+ℤ◌, ◌*ℤ◌, ◌<ℤ◌, ◌≤ℤ◌, false, slice_index_or};
 ghost use Rattle.shade.specs.declared.equation.Equation.{Equation};
 ghost use Rattle.shade.specs.declared.operands.Channel.{Channel};
 ghost use Rattle.shade.specs.declared.operands.Operands.{Operands};
 ghost use Rattle.shade.specs.declared.sample.Merge.{Merge};
 ghost use Rattle.shade.specs.Blend.{IsNearest, IsBlended, IsOver};
-ghost use Rattle.shade.specs.Presets.{AreBytes, clamped, replace, keep, over, premultiplied_over, add, multiply, multiply_stored, none_blend, over_blend};
+ghost use Rattle.shade.specs.Presets.{AreBytes, clamped, replace, keep, over, premultiplied_over, add, add_by_alpha, multiply, multiply_stored, none_blend, over_blend};
 ghost use Rattle.shade.specs.Merging.{IsChannelMerged, IsWritten};
 
 /// A channel has exactly one blended value, a byte.
@@ -43,6 +43,13 @@ pub fn keep_is_blended()
 pub fn add_is_blended()
     ensures { (channel : Channel) (o : Operands) (n : ℕ) → AreBytes o →
         IsBlended add channel o n ↔ (n ≡ min 255 (o.source + o.stored)) }
+{}
+
+/// Source alpha, one, add is the sum of the stored channel and of the source times its alpha, rounded to nearest and
+/// clamped to 255.
+pub fn add_by_alpha_is_blended()
+    ensures { (channel : Channel) (o : Operands) (n : ℕ) → AreBytes o →
+        IsBlended add_by_alpha channel o n ↔ (n ≡ min 255 ((o.source * o.source_alpha + 127) / 255 + o.stored)) }
 {}
 
 /// The product of both channels, whichever of them is taken as the factor of the other.

@@ -22,8 +22,9 @@ mod weights;
 
 pub use blend::{Blend, over};
 pub use blend_laws::{
-    add_is_blended, is_clamped, is_determined, keep_is_blended, lists_are_blended,
-    multiply_is_blended, over_is_blended, premultiplied_is_blended, replace_is_blended,
+    add_by_alpha_is_blended, add_is_blended, is_clamped, is_determined, keep_is_blended,
+    lists_are_blended, multiply_is_blended, over_is_blended, premultiplied_is_blended,
+    replace_is_blended,
 };
 pub use depth::DepthTest;
 pub use equation::{BlendOperation, Equation};

@@ -1,7 +1,7 @@
 use Rattle.std.proofs.Common.{rules, ◌≡◌, ◌∙◌, ap, ℕ, ◌+◌, ◌-◌, ◌*◌, ◌/◌, max, length, inl, inr, refl}
-use Rattle.grid.specs.Samples.{count_of}
+use Rattle.grid.specs.Samples.{count_of, pattern_of}
 use Rattle.c_abi.specs.Sizes.{IsOwnSize}
-use Rattle.canvas_c.specs.Pieces.{IsCanvas, HasRows, samples_listed, planes_listed, AreRowsOf}
+use Rattle.canvas_c.specs.Pieces.{IsCanvas, HasRows, planes_listed, AreRowsOf}
 use Rattle.canvas_c.proofs.Ended.{count_is}
 use Rattle.canvas_c.proofs.piece.rows_of.Goals as goal
 
@@ -29,7 +29,7 @@ returns-clause-judged c =
     let canvas : IsCanvas head = search rules in
     let rows : HasRows head.height head.first head.end = search rules in
     let are : AreRowsOf head c.in-Some-rows.rows = search rules in
-    let planes : length c.args.planes.now ≡ (head.end - head.first) * ((head.width + 63) / 64 * (1 + 65 * count_of (samples_listed head.samples))) = search rules in
+    let planes : length c.args.planes.now ≡ (head.end - head.first) * ((head.width + 63) / 64 * (1 + 65 * count_of (pattern_of head.samples))) = search rules in
     let fits : length c.args.planes.now ≡ planes_listed head.width head.samples head.first head.end =
     planes ∙ ap (λ count. (head.end - head.first) * ((head.width + 63) / 64 * (1 + 65 * count))) (count_is head.samples canvas.pattern) in
     ((size, (canvas, (rows, (fits, record {})))), are)

@@ -1,13 +1,13 @@
 use Rattle.std.proofs.Common.{◌≡◌, ◌↔◌, rules, subst, ℕ, ◌*◌, ◌<◌, ◌≤◌, length, IsOk}
 use Rattle.std.proofs.lemmas.Result.{err_from_is_err_and}
-use Rattle.grid.specs.Samples.{count_of}
+use Rattle.grid.specs.Samples.{count_of, pattern_of}
 use Rattle.canvas.specs.Pixels.{pixel_bytes}
 use Rattle.canvas.specs.Entries.{FitEntries}
 use Rattle.canvas.specs.Loaded.{AreStored}
 use Rattle.model.specs.Checking.{done, check, followed_by}
 use Rattle.model.proofs.Checking.{fails_before}
 use Rattle.c_abi.specs.declared.status.Status.TheVariants.{BufferTooSmall, BadFormat, BadSample}
-use Rattle.canvas_c.specs.Pieces.{has_alpha, samples_listed, HasRoom, format_of, stride_of, piece_checks, IsFormat}
+use Rattle.canvas_c.specs.Pieces.{has_alpha, HasRoom, format_of, stride_of, piece_checks, IsFormat}
 use Rattle.canvas_c.proofs.Ended.{on_done, room_of, large_of, fitted_is}
 use Rattle.canvas_c.proofs.sample_colours.store_into.Goals as goal
 
@@ -17,7 +17,7 @@ returns-in_err-rows-clause-judged c =
     let planes : ℕ = length c.args.planes.now in
     let p = err_from_is_err_and c.from_residual.result c.from_residual.ensures.1 in
     rw (p.1, p.2)
-    (fails_before (followed_by (piece_checks head planes) (check (IsFormat c.args.format) BadFormat (check (c.args.sample < count_of (samples_listed head.samples)) BadSample done)))
+    (fails_before (followed_by (piece_checks head planes) (check (IsFormat c.args.format) BadFormat (check (c.args.sample < count_of (pattern_of head.samples)) BadSample done)))
     (check (HasRoom head (pixel_bytes (format_of c.args.format)) (stride_of (head.width * pixel_bytes (format_of c.args.format)) c.args.stride) (length c.args.pixels.now)) BufferTooSmall done) _ c.in_err-rows.ensures.judged)
 
 pub returns-clause-judged : goal.returns-clause-judged
@@ -32,7 +32,7 @@ returns-clause-judged c =
     let judged = c.in_ok-rows.ensures.judged in
     let sample : c.args.sample < count_of rows.canvas.count = rw judged.1.count (judged.0.1.1.1.1.1.0) in
     let fits : IsOk c.store.result ↔ FitEntries rows.canvas rows.first rows.end c.args.sample unit stride size = rw (c.stride_of.ensures, c.in_ok-rows.ensures.format, c.over-piece.ensures.rows) at c.store.ensures.fits in
-    fitted_is (followed_by (piece_checks head planes) (check (IsFormat c.args.format) BadFormat (check (c.args.sample < count_of (samples_listed head.samples)) BadSample done))) (HasRoom head unit stride size) c.store.result c.fitted.result judged.0 c.fitted.ensures.done c.fitted.ensures.small
+    fitted_is (followed_by (piece_checks head planes) (check (IsFormat c.args.format) BadFormat (check (c.args.sample < count_of (pattern_of head.samples)) BadSample done))) (HasRoom head unit stride size) c.store.result c.fitted.result judged.0 c.fitted.ensures.done c.fitted.ensures.small
     ((λ ok. room_of head rows unit stride size judged.1 (fits.0 ok).1), (λ room. fits.1 (sample, large_of head rows unit stride size judged.1 room)))
 
 pub returns-clause-stored : goal.returns-clause-stored

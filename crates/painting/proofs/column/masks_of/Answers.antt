@@ -1,4 +1,4 @@
-use Rattle.std.proofs.Common.{◌≡◌, refl, ap, arith, ℕ, ◌+◌, ◌*◌, ◌<◌, List, [], ◌∷◌, slice_index}
+use Rattle.std.proofs.Common.{◌≡◌, refl, ap, arith, ℕ, ◌+◌, ◌*◌, List, [], ◌∷◌, slice_index}
 use Rattle.raster.proofs.BlockDrawn.{each_of_four}
 use Rattle.painting.proofs.column.masks_of.Goals as goal
 

@@ -1,4 +1,4 @@
-use Rattle.std.proofs.Common.{arith, ◌≡◌, ◌∙◌, sym, subst, ℕ, ◌+◌, ◌*◌, ◌<◌, List, slice_index, IsTrue}
+use Rattle.std.proofs.Common.{arith, sym, subst, ◌+◌, List, IsTrue}
 use Rattle.shade.specs.declared.placed.Placed.{Placed}
 use Rattle.lanes.specs.declared.block_samples.BlockSamples.{BlockSamples}
 use Rattle.raster.specs.Region.{HoldsTile}

@@ -1,4 +1,4 @@
-use Rattle.std.proofs.Common.{◌≡◌, ◌+◌, length}
+use Rattle.std.proofs.Common.{◌+◌}
 use Rattle.polygons.specs.Cells.{AreZeros}
 use Rattle.painting.specs.Parts.{RowsPaint}
 use Rattle.painting.proofs.Strips.{PartsMet}

@@ -1,13 +1,12 @@
-use Rattle.std.proofs.Common.{◌≡◌, ◌∙◌, sym, ap, subst, arith, rules, ℕ, ◌+◌, ◌-◌, ◌*◌, ◌/◌, ◌<◌, ◌≤◌, min, List, length, take}
+use Rattle.std.proofs.Common.{◌≡◌, ◌∙◌, ap, subst, arith, rules, ℕ, ◌+◌, ◌-◌, ◌*◌, ◌/◌, ◌<◌, ◌≤◌, min, length}
 use Rattle.std.proofs.lemmas.List.{length-take}
 use Rattle.grid.specs.declared.sample_count.SampleCount.TheVariants.{One}
-use Rattle.lanes.specs.declared.block_samples.BlockSamples.{BlockSamples}
 use Rattle.shade.specs.declared.placed.Placed.{Placed}
-use Rattle.canvas.specs.Layout.{columns_of, planes_of_row}
+use Rattle.canvas.specs.Layout.{planes_of_row}
 use Rattle.canvas.proofs.Places.{part_within}
 use Rattle.painting.specs.Parts.{MeetsHere, RowsPaint}
 use Rattle.painting.proofs.Joined.{rows_none, rows_same}
-use Rattle.painting.proofs.TileRows.{Before, one_row_more, in_window, polygon_painted, zeros_of_part, zeros_put}
+use Rattle.painting.proofs.TileRows.{one_row_more, in_window, polygon_painted, zeros_of_part, zeros_put}
 use Rattle.painting.proofs.rows.paint_rows.Goals as goal
 
 pub new-triangle-requires : goal.new-triangle-requires

@@ -1,4 +1,4 @@
-use Rattle.std.proofs.Common.{ℕ, ◌/◌, ◌<◌}
+use Rattle.std.proofs.Common.{◌/◌, ◌<◌}
 use Rattle.polygons.specs.Cells.{AreZeros}
 use Rattle.painting.specs.Parts.{MeetsHere, RowsPaint}
 use Rattle.painting.proofs.rows.paint_rows.Given as goal

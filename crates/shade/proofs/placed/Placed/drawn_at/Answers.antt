@@ -1,6 +1,5 @@
 use Rattle.std.proofs.Common.{subst}
-use Rattle.shade.specs.Canvas.{colour_and_depth, IsCanvasDrawnAt}
-use Rattle.shade.specs.Placed.{IsDrawnAt}
+use Rattle.shade.specs.Canvas.{IsCanvasDrawnAt}
 use Rattle.shade.proofs.CanvasDrawn.{drawn_alike}
 use Rattle.shade.proofs.placed.Placed.drawn_at.Goals as goal
 
