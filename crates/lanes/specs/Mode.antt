@@ -48,65 +48,57 @@ pub record IsColourBy (t : Placed) (c : Colour) : Type 0 where
   pub is_mode : IsColourMode t c.mode
   pub are_planes : IsByPlanes c.mode → AreColourPlanes t c.planes
 
--- The colour equation of a draw list's `over`, or of its `none`.
-abbrev pub known_of : Bool → KnownEquation
-known_of false = Replace
-known_of true = Over
+-- Where alpha is written, the equation of alpha is that of the blend state `over`, or of `none`.
+abbrev pub IsAlphaKnown : Bool → Bool → Equation → Type 0
+IsAlphaKnown over false e = Unit {0}
+IsAlphaKnown false true e = AreAlike e replace
+IsAlphaKnown true true e = AreAlike e premultiplied_over
 
--- The colour equation of draw lists, or any equation.
-abbrev pub equation_of : Bool → Bool → KnownEquation
-equation_of false over = Other
-equation_of true over = known_of over
-
--- Where alpha is written with an equation of draw lists, the equation of alpha is that of the blend state `over`, or of `none`.
-abbrev pub IsAlphaKnown : Bool → Bool → Bool → Equation → Type 0
-IsAlphaKnown false over alpha e = Unit {0}
-IsAlphaKnown true over false e = Unit {0}
-IsAlphaKnown true false true e = AreAlike e replace
-IsAlphaKnown true true true e = AreAlike e premultiplied_over
+-- The merge writes red, green and blue.
+abbrev pub WritesAll : Merge → Type 0
+WritesAll m = m.write ≡ true ∷ true ∷ true ∷ []
 
 -- The merge writes red, green and blue, and alpha or not.
-pub record WritesColours (alpha : Bool) (m : Merge) : Type 0 where
-  pub colours : m.write ≡ true ∷ true ∷ true ∷ []
+pub record WritesColours (over alpha : Bool) (m : Merge) : Type 0 where
+  pub colours : WritesAll m
   pub with_alpha : m.blend.write_alpha ≡ alpha
+  pub alpha_known : IsAlphaKnown over alpha m.blend.alpha
 
--- The merge writes red, green and blue, by an equation of draw lists or by any, and alpha or not.
-pub record WritesColoursBy (listed over alpha : Bool) (m : Merge) : Type 0 where
-  pub known : IsKnown (equation_of listed over) m.blend.colour
-  pub colours : WritesColours alpha m
-  pub alpha_known : IsAlphaKnown listed over alpha m.blend.alpha
-
--- Samples can be merged in this mode: one after another always, and sixteen at once by the equation of the merge. Where red, green and
--- blue are written, and alpha is or is not, there are modes for the two equations of draw lists, with alpha by the same blend state,
--- and for any equation.
+-- Samples can be merged in this mode: one after another always, and sixteen at once by the equation of the merge. The two
+-- equations of draw lists have modes of their own, in which red, green and blue are written, and alpha is not, or by the blend state
+-- of this equation. Any equation has a mode in which red, green and blue are written.
 abbrev pub IsMergeMode : Merge → DrawMode → Type 0
 IsMergeMode m draw.Each = Unit {0}
-IsMergeMode m draw.Replace = WritesColoursBy true false false m
-IsMergeMode m draw.Over = WritesColoursBy true true false m
-IsMergeMode m draw.ReplaceWithAlpha = WritesColoursBy true false true m
-IsMergeMode m draw.OverWithAlpha = WritesColoursBy true true true m
-IsMergeMode m draw.Blend = WritesColoursBy false false false m
-IsMergeMode m draw.BlendWithAlpha = WritesColoursBy false false true m
+IsMergeMode m draw.Replace = IsKnown Replace m.blend.colour × WritesColours false false m
+IsMergeMode m draw.Over = IsKnown Over m.blend.colour × WritesColours true false m
+IsMergeMode m draw.ReplaceWithAlpha = IsKnown Replace m.blend.colour × WritesColours false true m
+IsMergeMode m draw.OverWithAlpha = IsKnown Over m.blend.colour × WritesColours true true m
+IsMergeMode m draw.Blend = WritesAll m
 IsMergeMode m (draw.Otherwise known) = IsKnown known m.blend.colour
 
--- The triangle can be drawn sixteen samples at once by this depth and this colour.
-pub record IsDrawnBy (t : Placed) (depth : Depth) (colour : Colour) : Type 0 where
+-- The triangle can be drawn sixteen samples at once by this depth and this colour, and its draw blends by the known equation.
+pub record IsDrawnBy (t : Placed) (known : KnownEquation) (depth : Depth) (colour : Colour) : Type 0 where
+  pub known_of : IsKnown known t.state.merge.blend.colour
   pub depth_of : IsDepthBy t depth
   pub colour_of : IsColourBy t colour
 
 -- The triangle can be drawn in this mode, by this depth and this colour if sixteen samples are drawn at once.
 abbrev pub IsDrawModeOf : Placed → DrawMode → Depth → Colour → Type 0
 IsDrawModeOf t draw.Each depth colour = Unit {0}
-IsDrawModeOf t draw.Replace depth colour = IsDrawnBy t depth colour × WritesColoursBy true false false t.state.merge
-IsDrawModeOf t draw.Over depth colour = IsDrawnBy t depth colour × WritesColoursBy true true false t.state.merge
-IsDrawModeOf t draw.ReplaceWithAlpha depth colour = IsDrawnBy t depth colour × WritesColoursBy true false true t.state.merge
-IsDrawModeOf t draw.OverWithAlpha depth colour = IsDrawnBy t depth colour × WritesColoursBy true true true t.state.merge
-IsDrawModeOf t draw.Blend depth colour = IsDrawnBy t depth colour × WritesColoursBy false false false t.state.merge
-IsDrawModeOf t draw.BlendWithAlpha depth colour = IsDrawnBy t depth colour × WritesColoursBy false false true t.state.merge
-IsDrawModeOf t (draw.Otherwise known) depth colour = IsDrawnBy t depth colour × IsKnown known t.state.merge.blend.colour
+IsDrawModeOf t draw.Replace depth colour = IsDrawnBy t Replace depth colour × WritesColours false false t.state.merge
+IsDrawModeOf t draw.Over depth colour = IsDrawnBy t Over depth colour × WritesColours true false t.state.merge
+IsDrawModeOf t draw.ReplaceWithAlpha depth colour = IsDrawnBy t Replace depth colour × WritesColours false true t.state.merge
+IsDrawModeOf t draw.OverWithAlpha depth colour = IsDrawnBy t Over depth colour × WritesColours true true t.state.merge
+IsDrawModeOf t draw.Blend depth colour = IsDrawnBy t Other depth colour × WritesAll t.state.merge
+IsDrawModeOf t (draw.Otherwise known) depth colour = IsDrawnBy t known depth colour
 
 -- What a triangle is drawn by: the merge of its draw, its depth and its colour.
 pub record AreSourcesOf (t : Placed) (merge : Merge) (depth : DepthSource) (colour : ColourSource) : Type 0 where
   pub merge_of : t.state.merge ≡ merge
   pub depth_of : IsDepthOf t depth
   pub colour_of : IsColourOf t colour
+
+-- The colour equation of a draw list's `over`, or of its `none`.
+abbrev pub known_of : Bool → KnownEquation
+known_of false = Replace
+known_of true = Over

@@ -3,17 +3,18 @@ ghost use Rattle.std.specs.Prelude.{◌≡◌, ℕ, ◌+◌, ◌*◌, ◌<◌, I
 ghost use Rattle.grid.specs.Samples.{part_size};
 ghost use Rattle.shade.specs.declared.placed.Placed.{Placed as Triangle};
 ghost use Rattle.shade.specs.Presets.{IsKnown};
+ghost use Rattle.shade.specs.declared.known.KnownEquation.TheVariants.{Other};
 ghost use Rattle.planes.specs.Group.{position_in};
 ghost use Rattle.lanes.specs.Block.{IsOnScreen, CoversMask, AreDrawn};
 ghost use Rattle.lanes.specs.BlockMask.{CoversBlock, IsBlockDrawn};
 ghost use Rattle.lanes.specs.Lanes.{IsMask};
-ghost use Rattle.lanes.specs.Mode.{AreSourcesOf, IsDrawnBy, WritesColoursBy};
+ghost use Rattle.lanes.specs.Mode.{AreSourcesOf, IsDrawnBy, WritesAll, WritesColours, known_of};
 
 use crate::block_mask::BlockMask;
 use crate::block_samples::BlockSamples;
 use crate::group::draw_group;
 use crate::interpolants::Interpolants;
-use crate::known::{whole, with_known};
+use crate::known::{whole, with_known, writing_all};
 use crate::lane_mask::lanes_of_mask;
 use crate::mode::{Colour, ColourMode, Depth, DepthMode, DrawMode};
 use crate::one_by_one::draw_each;
@@ -175,11 +176,11 @@ fn draw_planes(
     }
 }
 
-/// Draws a block's samples by a merge that writes all colour channels, if `LISTED` by an equation of draw lists, and alpha
-/// with `ALPHA`. Each source of colour and of depth has code of its own, since what is made here is known in the code that
+/// Draws a block's samples by a merge that writes all colour channels by an equation of draw lists, and alpha with
+/// `ALPHA`. Each source of colour and of depth has code of its own, since what is made here is known in the code that
 /// stands in line.
 #[inline(never)]
-fn draw_by_sources<const LISTED: bool, const OVER: bool, const ALPHA: bool>(
+fn draw_by_sources<const OVER: bool, const ALPHA: bool>(
     placed: &Placed,
     depth: &Depth,
     colour: &Colour,
@@ -187,13 +188,13 @@ fn draw_by_sources<const LISTED: bool, const OVER: bool, const ALPHA: bool>(
     samples: &mut [BlockSamples],
     corrections: &mut Corrections,
 )
-    requires by { IsDrawnBy placed.now depth.now colour.now }
-    requires all { WritesColoursBy LISTED OVER ALPHA placed.now.state.merge }
+    requires by { IsDrawnBy placed.now (known_of OVER) depth.now colour.now }
+    requires all { WritesColours OVER ALPHA placed.now.state.merge }
     requires samples { length samples.old ≡ part_size mask.now.count }
     ensures drawn { CoversBlock placed.now mask.now → IsBlockDrawn placed.now mask.now samples.old samples.new }
     ensures samples { length samples.new ≡ length samples.old }
 {
-    let merge = &whole::<LISTED, OVER, ALPHA>(&placed.state.merge);
+    let merge = &whole::<OVER, ALPHA>(&placed.state.merge);
     match colour.mode {
         ColourMode::Flat(rgba) => {
             let colour = &ColourSource::Flat(rgba);
@@ -232,6 +233,37 @@ fn draw_by_sources<const LISTED: bool, const OVER: bool, const ALPHA: bool>(
     }
 }
 
+/// Draws a block's samples by a merge that writes all colour channels by any equation. Each source of colour has code of
+/// its own.
+#[inline(never)]
+fn draw_blended(
+    placed: &Placed,
+    depth: &Depth,
+    colour: &Colour,
+    mask: &BlockMask,
+    samples: &mut [BlockSamples],
+    corrections: &mut Corrections,
+)
+    requires by { IsDrawnBy placed.now Other depth.now colour.now }
+    requires all { WritesAll placed.now.state.merge }
+    requires samples { length samples.old ≡ part_size mask.now.count }
+    ensures drawn { CoversBlock placed.now mask.now → IsBlockDrawn placed.now mask.now samples.old samples.new }
+    ensures samples { length samples.new ≡ length samples.old }
+{
+    let merge = &writing_all(&placed.state.merge);
+    let depth = &depth.source(placed);
+    match colour.mode {
+        ColourMode::Flat(rgba) => {
+            let colour = &ColourSource::Flat(rgba);
+            draw_planes(merge, depth, colour, mask, samples, corrections);
+        }
+        ColourMode::Planes => {
+            let colour = &ColourSource::Planes(placed, &colour.planes);
+            draw_planes(merge, depth, colour, mask, samples, corrections);
+        }
+    }
+}
+
 /// Draws a block's samples by any other merge. Each equation of draw lists has code of its own.
 #[inline(never)]
 fn draw_otherwise(
@@ -243,8 +275,7 @@ fn draw_otherwise(
     samples: &mut [BlockSamples],
     corrections: &mut Corrections,
 )
-    requires known { IsKnown known placed.now.state.merge.blend.colour }
-    requires by { IsDrawnBy placed.now depth.now colour.now }
+    requires by { IsDrawnBy placed.now known depth.now colour.now }
     requires samples { length samples.old ≡ part_size mask.now.count }
     ensures drawn { CoversBlock placed.now mask.now → IsBlockDrawn placed.now mask.now samples.old samples.new }
     ensures samples { length samples.new ≡ length samples.old }
@@ -283,7 +314,7 @@ impl Interpolants {
         let (placed, depth, colour) = (&self.placed, &self.depth, &self.colour);
         match self.mode {
             DrawMode::Each => draw_each(placed, mask, samples),
-            DrawMode::Replace => draw_by_sources::<true, false, false>(
+            DrawMode::Replace => draw_by_sources::<false, false>(
                 placed,
                 depth,
                 colour,
@@ -291,7 +322,7 @@ impl Interpolants {
                 samples,
                 corrections,
             ),
-            DrawMode::Over => draw_by_sources::<true, true, false>(
+            DrawMode::Over => draw_by_sources::<true, false>(
                 placed,
                 depth,
                 colour,
@@ -299,7 +330,7 @@ impl Interpolants {
                 samples,
                 corrections,
             ),
-            DrawMode::ReplaceWithAlpha => draw_by_sources::<true, false, true>(
+            DrawMode::ReplaceWithAlpha => draw_by_sources::<false, true>(
                 placed,
                 depth,
                 colour,
@@ -307,7 +338,7 @@ impl Interpolants {
                 samples,
                 corrections,
             ),
-            DrawMode::OverWithAlpha => draw_by_sources::<true, true, true>(
+            DrawMode::OverWithAlpha => draw_by_sources::<true, true>(
                 placed,
                 depth,
                 colour,
@@ -315,22 +346,7 @@ impl Interpolants {
                 samples,
                 corrections,
             ),
-            DrawMode::Blend => draw_by_sources::<false, false, false>(
-                placed,
-                depth,
-                colour,
-                mask,
-                samples,
-                corrections,
-            ),
-            DrawMode::BlendWithAlpha => draw_by_sources::<false, false, true>(
-                placed,
-                depth,
-                colour,
-                mask,
-                samples,
-                corrections,
-            ),
+            DrawMode::Blend => draw_blended(placed, depth, colour, mask, samples, corrections),
             DrawMode::Otherwise(known) => draw_otherwise(
                 known,
                 placed,

@@ -1,7 +1,7 @@
 //! A merge made again, so that its colour equation is known if the code is inlined.
 ghost use Rattle.std.specs.Prelude.{◌≡◌};
 ghost use Rattle.shade.specs.Presets.{IsKnown};
-ghost use Rattle.lanes.specs.Mode.{IsAlphaKnown, WritesColoursBy};
+ghost use Rattle.lanes.specs.Mode.{IsAlphaKnown, WritesAll, WritesColours, known_of};
 
 use shade::{Blend, Equation, KnownEquation, Merge};
 
@@ -56,14 +56,13 @@ pub(crate) fn with_known(known: KnownEquation, m: &Merge) -> Merge
     remade(known, m, m.blend.alpha, m.write, m.blend.write_alpha)
 }
 
-/// The equation of alpha made again, so that it is known if it is that of draw lists, alpha is written, and the code is
-/// inlined.
+/// The equation of alpha made again, so that it is known if alpha is written and the code is inlined.
 #[inline(always)]
-fn alpha_again<const LISTED: bool, const OVER: bool, const ALPHA: bool>(e: &Equation) -> Equation
-    requires { IsAlphaKnown LISTED OVER ALPHA e.now }
+fn alpha_again<const OVER: bool, const ALPHA: bool>(e: &Equation) -> Equation
+    requires { IsAlphaKnown OVER ALPHA e.now }
     ensures { result ≡ e.now }
 {
-    if !LISTED || !ALPHA {
+    if !ALPHA {
         *e
     } else if OVER {
         Equation::PREMULTIPLIED_OVER
@@ -72,20 +71,35 @@ fn alpha_again<const LISTED: bool, const OVER: bool, const ALPHA: bool>(e: &Equa
     }
 }
 
-/// A merge that writes red, green and blue, made again so that what it writes is known if the code is inlined, and with
-/// `LISTED` its equations, which are those of draw lists. With `ALPHA` it writes alpha.
+/// A merge that writes red, green and blue by an equation of draw lists, made again so that its equations and what it
+/// writes are known if the code is inlined. With `ALPHA` it writes alpha.
 #[inline(always)]
-pub(crate) fn whole<const LISTED: bool, const OVER: bool, const ALPHA: bool>(merge: &Merge) -> Merge
-    requires { WritesColoursBy LISTED OVER ALPHA merge.now }
+pub(crate) fn whole<const OVER: bool, const ALPHA: bool>(merge: &Merge) -> Merge
+    requires known { IsKnown (known_of OVER) merge.now.blend.colour }
+    requires all { WritesColours OVER ALPHA merge.now }
     ensures { result ≡ merge.now }
 {
-    let known = if !LISTED {
-        KnownEquation::Other
-    } else if OVER {
+    let known = if OVER {
         KnownEquation::Over
     } else {
         KnownEquation::Replace
     };
-    let alpha = alpha_again::<LISTED, OVER, ALPHA>(&merge.blend.alpha);
+    let alpha = alpha_again::<OVER, ALPHA>(&merge.blend.alpha);
     remade(known, merge, alpha, [true; 3], ALPHA)
+}
+
+/// A merge that writes red, green and blue, made again so that this is known if the code is inlined.
+#[inline(always)]
+pub(crate) fn writing_all(merge: &Merge) -> Merge
+    requires { WritesAll merge.now }
+    ensures { result ≡ merge.now }
+{
+    let blend = &merge.blend;
+    remade(
+        KnownEquation::Other,
+        merge,
+        blend.alpha,
+        [true; 3],
+        blend.write_alpha,
+    )
 }

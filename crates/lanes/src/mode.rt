@@ -1,7 +1,7 @@
 //! The mode in which a triangle is drawn, which is chosen once for all its samples.
 ghost use Rattle.std.specs.Prelude.{◌≡◌, ◌<◌, IsTrue, true, slice_index};
 ghost use Rattle.shade.specs.Placed.{channel, rgba_of};
-ghost use Rattle.lanes.specs.Mode.{IsDepthBy, IsColourBy, IsAlphaKnown, IsMergeMode, WritesColours};
+ghost use Rattle.lanes.specs.Mode.{IsDepthBy, IsColourBy, IsAlphaKnown, IsMergeMode, WritesAll, WritesColours};
 ghost use Rattle.lanes.specs.Sources.{IsDepthOf, IsColourOf, IsFlat};
 
 use crate::sources::{ColourSource, DepthSource};
@@ -43,8 +43,6 @@ pub(crate) enum DrawMode {
     OverWithAlpha,
     /// Sixteen samples at once; the colour is blended with the stored one by any equation.
     Blend,
-    /// Sixteen samples at once; the colour is blended with the stored one by any equation, and so is alpha.
-    BlendWithAlpha,
     /// Sixteen samples at once, by a merge that leaves a colour channel.
     Otherwise(KnownEquation),
 }
@@ -68,7 +66,7 @@ pub(crate) struct Colour {
 /// Whether an equation of alpha is that of `Blend::OVER`, or of `Blend::NONE`.
 #[inline(always)]
 fn is_alpha_known(over: bool, equation: &Equation) -> bool
-    ensures { IsTrue result → IsAlphaKnown true over true equation.now }
+    ensures { IsTrue result → IsAlphaKnown over true equation.now }
 {
     if over {
         *equation == Equation::PREMULTIPLIED_OVER
@@ -77,13 +75,23 @@ fn is_alpha_known(over: bool, equation: &Equation) -> bool
     }
 }
 
-/// Whether a merge writes red, green and blue, and alpha exactly if it is asked for.
+/// Whether a merge writes red, green and blue.
 #[inline(always)]
-fn writes_colours(merge: &Merge, alpha: bool) -> bool
-    ensures { IsTrue result → WritesColours alpha merge.now }
+fn writes_all(merge: &Merge) -> bool
+    ensures { IsTrue result → WritesAll merge.now }
 {
     let [red, green, blue] = merge.write;
-    red && green && blue && merge.blend.write_alpha == alpha
+    red && green && blue
+}
+
+/// Whether a merge writes red, green and blue, and alpha exactly if it is asked for, then by a known equation.
+#[inline(always)]
+fn writes_colours(merge: &Merge, over: bool, alpha: bool) -> bool
+    ensures { IsTrue result → WritesColours over alpha merge.now }
+{
+    writes_all(merge)
+        && merge.blend.write_alpha == alpha
+        && (!alpha || is_alpha_known(over, &merge.blend.alpha))
 }
 
 impl DrawMode {
@@ -93,22 +101,14 @@ impl DrawMode {
         ensures { IsMergeMode merge.now result }
     {
         let known = KnownEquation::of(&merge.blend.colour);
-        if writes_colours(merge, false) {
-            match known {
-                KnownEquation::Replace => DrawMode::Replace,
-                KnownEquation::Over => DrawMode::Over,
-                KnownEquation::Other => DrawMode::Blend,
-            }
-        } else if writes_colours(merge, true) {
-            match known {
-                KnownEquation::Replace if is_alpha_known(false, &merge.blend.alpha) =>
-                    DrawMode::ReplaceWithAlpha,
-                KnownEquation::Over if is_alpha_known(true, &merge.blend.alpha) =>
-                    DrawMode::OverWithAlpha,
-                _ => DrawMode::BlendWithAlpha,
-            }
-        } else {
-            DrawMode::Otherwise(known)
+        match known {
+            KnownEquation::Replace if writes_colours(merge, false, false) => DrawMode::Replace,
+            KnownEquation::Over if writes_colours(merge, true, false) => DrawMode::Over,
+            KnownEquation::Replace if writes_colours(merge, false, true) =>
+                DrawMode::ReplaceWithAlpha,
+            KnownEquation::Over if writes_colours(merge, true, true) => DrawMode::OverWithAlpha,
+            _ if writes_all(merge) => DrawMode::Blend,
+            _ => DrawMode::Otherwise(known),
         }
     }
 }

@@ -18,10 +18,7 @@ pub returns-in-Over-clause-drawn : goal.returns-in-Over-clause-drawn
 returns-in-Over-clause-drawn c = drawn _ _ c.args.mask.now _ _ c.self.view_is c.draw_by_sources-in-Over.ensures.drawn c.requires.covered
 
 pub returns-in-Blend-clause-drawn : goal.returns-in-Blend-clause-drawn
-returns-in-Blend-clause-drawn c = drawn _ _ c.args.mask.now _ _ c.self.view_is c.draw_by_sources-in-Blend.ensures.drawn c.requires.covered
-
-pub returns-in-BlendWithAlpha-clause-drawn : goal.returns-in-BlendWithAlpha-clause-drawn
-returns-in-BlendWithAlpha-clause-drawn c = drawn _ _ c.args.mask.now _ _ c.self.view_is c.draw_by_sources-in-BlendWithAlpha.ensures.drawn c.requires.covered
+returns-in-Blend-clause-drawn c = drawn _ _ c.args.mask.now _ _ c.self.view_is c.draw_blended.ensures.drawn c.requires.covered
 
 pub returns-in-Otherwise-clause-drawn : goal.returns-in-Otherwise-clause-drawn
 returns-in-Otherwise-clause-drawn c = drawn _ _ c.args.mask.now _ _ c.self.view_is c.draw_otherwise.ensures.drawn c.requires.covered

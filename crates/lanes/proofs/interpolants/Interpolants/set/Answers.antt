@@ -1,6 +1,6 @@
 use Rattle.shade.specs.declared.placed.Placed.{Placed}
 use Rattle.lanes.specs.declared.mode.DrawMode.{DrawMode}
-use Rattle.lanes.specs.declared.mode.DrawMode.TheVariants.{Each, Replace, Over, ReplaceWithAlpha, OverWithAlpha, Blend, BlendWithAlpha, Otherwise}
+use Rattle.lanes.specs.declared.mode.DrawMode.TheVariants.{Each, Replace, Over, ReplaceWithAlpha, OverWithAlpha, Blend, Otherwise}
 use Rattle.lanes.specs.declared.mode.Depth.{Depth}
 use Rattle.lanes.specs.declared.mode.Colour.{Colour}
 use Rattle.lanes.specs.Mode.{IsDepthBy, IsColourBy, IsMergeMode, IsDrawModeOf}
@@ -9,13 +9,12 @@ use Rattle.lanes.proofs.interpolants.Interpolants.set.Goals as goal
 -- a mode for the merge is one for a triangle with its depth and its colour
 mode_of : (t : Placed) (mode : DrawMode) (d : Depth) (k : Colour) → IsMergeMode t.state.merge mode → IsDepthBy t d → IsColourBy t k → IsDrawModeOf t mode d k
 mode_of t Each d k is depth colour = is
-mode_of t Replace d k is depth colour = (record { depth_of = depth; colour_of = colour }, is)
-mode_of t Over d k is depth colour = (record { depth_of = depth; colour_of = colour }, is)
-mode_of t ReplaceWithAlpha d k is depth colour = (record { depth_of = depth; colour_of = colour }, is)
-mode_of t OverWithAlpha d k is depth colour = (record { depth_of = depth; colour_of = colour }, is)
-mode_of t Blend d k is depth colour = (record { depth_of = depth; colour_of = colour }, is)
-mode_of t BlendWithAlpha d k is depth colour = (record { depth_of = depth; colour_of = colour }, is)
-mode_of t (Otherwise known) d k is depth colour = (record { depth_of = depth; colour_of = colour }, is)
+mode_of t Replace d k is depth colour = (record { known_of = is.0; depth_of = depth; colour_of = colour }, is.1)
+mode_of t Over d k is depth colour = (record { known_of = is.0; depth_of = depth; colour_of = colour }, is.1)
+mode_of t ReplaceWithAlpha d k is depth colour = (record { known_of = is.0; depth_of = depth; colour_of = colour }, is.1)
+mode_of t OverWithAlpha d k is depth colour = (record { known_of = is.0; depth_of = depth; colour_of = colour }, is.1)
+mode_of t Blend d k is depth colour = (record { known_of = _; depth_of = depth; colour_of = colour }, is)
+mode_of t (Otherwise known) d k is depth colour = record { known_of = is; depth_of = depth; colour_of = colour }
 
 pub invariant_of-self-2 : goal.invariant_of-self-2
 invariant_of-self-2 c =
