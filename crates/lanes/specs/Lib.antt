@@ -46,6 +46,7 @@
 --   IsByPlanes: The mode takes the colour from planes.
 --   IsColourBy: The triangle's colour can be computed in this mode, by these planes if the mode needs them.
 --   IsAlphaKnown: Where alpha is written, the equation of alpha is that of the blend state `over`, or of `none`.
+--   WritesEachColour: The merge writes red, green and blue.
 --   WritesColours: The merge writes red, green and blue, and alpha or not.
 --   IsMergeMode: Samples can be merged in this mode: one after another always, and sixteen at once by the equation of the merge.
 --   IsDrawnBy: The triangle can be drawn sixteen samples at once by this depth and this colour, and its draw blends by the known equation.
@@ -57,6 +58,7 @@
 --   IsTested: What the depth test makes of a stored depth, and the lane of its result: all ones if it passed, else 0.
 --   AreByteFragments: The fragments have sixteen lanes of at most 255 in each channel.
 --   ReadsColours: Lane i of the operands is what is read of fragment i and of stored sample k.
+--   AreMerged: The colours are those of fragments blended with the sixteen samples from k on.
 --   IsStored: The colour of a sample takes a value with each of these in the channels of the write mask.
 --   IsColoured: The colour of a sample is merged with a fragment's.
 --   AreMasked: Of the sixteen samples from k on P holds where the mask is set, and no other changes, nor any alpha or depth.

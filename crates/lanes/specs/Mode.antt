@@ -55,12 +55,12 @@ IsAlphaKnown false true e = AreAlike e replace
 IsAlphaKnown true true e = AreAlike e premultiplied_over
 
 -- The merge writes red, green and blue.
-abbrev pub WritesAll : Merge → Type 0
-WritesAll m = m.write ≡ true ∷ true ∷ true ∷ []
+abbrev pub WritesEachColour : Merge → Type 0
+WritesEachColour m = m.write ≡ true ∷ true ∷ true ∷ []
 
 -- The merge writes red, green and blue, and alpha or not.
 pub record WritesColours (over alpha : Bool) (m : Merge) : Type 0 where
-  pub colours : WritesAll m
+  pub colours : WritesEachColour m
   pub with_alpha : m.blend.write_alpha ≡ alpha
   pub alpha_known : IsAlphaKnown over alpha m.blend.alpha
 
@@ -73,7 +73,7 @@ IsMergeMode m draw.Replace = IsKnown Replace m.blend.colour × WritesColours fal
 IsMergeMode m draw.Over = IsKnown Over m.blend.colour × WritesColours true false m
 IsMergeMode m draw.ReplaceWithAlpha = IsKnown Replace m.blend.colour × WritesColours false true m
 IsMergeMode m draw.OverWithAlpha = IsKnown Over m.blend.colour × WritesColours true true m
-IsMergeMode m draw.Blend = WritesAll m
+IsMergeMode m draw.Blend = WritesEachColour m
 IsMergeMode m (draw.Otherwise known) = IsKnown known m.blend.colour
 
 -- The triangle can be drawn sixteen samples at once by this depth and this colour, and its draw blends by the known equation.
@@ -89,7 +89,7 @@ IsDrawModeOf t draw.Replace depth colour = IsDrawnBy t Replace depth colour × W
 IsDrawModeOf t draw.Over depth colour = IsDrawnBy t Over depth colour × WritesColours true false t.state.merge
 IsDrawModeOf t draw.ReplaceWithAlpha depth colour = IsDrawnBy t Replace depth colour × WritesColours false true t.state.merge
 IsDrawModeOf t draw.OverWithAlpha depth colour = IsDrawnBy t Over depth colour × WritesColours true true t.state.merge
-IsDrawModeOf t draw.Blend depth colour = IsDrawnBy t Other depth colour × WritesAll t.state.merge
+IsDrawModeOf t draw.Blend depth colour = IsDrawnBy t Other depth colour × WritesEachColour t.state.merge
 IsDrawModeOf t (draw.Otherwise known) depth colour = IsDrawnBy t known depth colour
 
 -- What a triangle is drawn by: the merge of its draw, its depth and its colour.

@@ -8,7 +8,7 @@ ghost use Rattle.planes.specs.Group.{position_in};
 ghost use Rattle.lanes.specs.Block.{IsOnScreen, CoversMask, AreDrawn};
 ghost use Rattle.lanes.specs.BlockMask.{CoversBlock, IsBlockDrawn};
 ghost use Rattle.lanes.specs.Lanes.{IsMask};
-ghost use Rattle.lanes.specs.Mode.{AreSourcesOf, IsDrawnBy, WritesAll, WritesColours, known_of};
+ghost use Rattle.lanes.specs.Mode.{AreSourcesOf, IsDrawnBy, WritesEachColour, WritesColours, known_of};
 
 use crate::block_mask::BlockMask;
 use crate::block_samples::BlockSamples;
@@ -245,7 +245,7 @@ fn draw_blended(
     corrections: &mut Corrections,
 )
     requires by { IsDrawnBy placed.now Other depth.now colour.now }
-    requires all { WritesAll placed.now.state.merge }
+    requires all { WritesEachColour placed.now.state.merge }
     requires samples { length samples.old ≡ part_size mask.now.count }
     ensures drawn { CoversBlock placed.now mask.now → IsBlockDrawn placed.now mask.now samples.old samples.new }
     ensures samples { length samples.new ≡ length samples.old }

@@ -1,7 +1,7 @@
 //! A merge made again, so that its colour equation is known if the code is inlined.
 ghost use Rattle.std.specs.Prelude.{◌≡◌};
 ghost use Rattle.shade.specs.Presets.{IsKnown};
-ghost use Rattle.lanes.specs.Mode.{IsAlphaKnown, WritesAll, WritesColours, known_of};
+ghost use Rattle.lanes.specs.Mode.{IsAlphaKnown, WritesEachColour, WritesColours, known_of};
 
 use shade::{Blend, Equation, KnownEquation, Merge};
 
@@ -91,7 +91,7 @@ pub(crate) fn whole<const OVER: bool, const ALPHA: bool>(merge: &Merge) -> Merge
 /// A merge that writes red, green and blue, made again so that this is known if the code is inlined.
 #[inline(always)]
 pub(crate) fn writing_all(merge: &Merge) -> Merge
-    requires { WritesAll merge.now }
+    requires { WritesEachColour merge.now }
     ensures { result ≡ merge.now }
 {
     let blend = &merge.blend;

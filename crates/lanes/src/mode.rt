@@ -1,7 +1,7 @@
 //! The mode in which a triangle is drawn, which is chosen once for all its samples.
 ghost use Rattle.std.specs.Prelude.{◌≡◌, ◌<◌, IsTrue, true, slice_index};
 ghost use Rattle.shade.specs.Placed.{channel, rgba_of};
-ghost use Rattle.lanes.specs.Mode.{IsDepthBy, IsColourBy, IsAlphaKnown, IsMergeMode, WritesAll, WritesColours};
+ghost use Rattle.lanes.specs.Mode.{IsDepthBy, IsColourBy, IsAlphaKnown, IsMergeMode, WritesEachColour, WritesColours};
 ghost use Rattle.lanes.specs.Sources.{IsDepthOf, IsColourOf, IsFlat};
 
 use crate::sources::{ColourSource, DepthSource};
@@ -78,7 +78,7 @@ fn is_alpha_known(over: bool, equation: &Equation) -> bool
 /// Whether a merge writes red, green and blue.
 #[inline(always)]
 fn writes_all(merge: &Merge) -> bool
-    ensures { IsTrue result → WritesAll merge.now }
+    ensures { IsTrue result → WritesEachColour merge.now }
 {
     let [red, green, blue] = merge.write;
     red && green && blue
