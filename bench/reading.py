@@ -6,7 +6,8 @@ Needs `make bin/list_bench`. `list::read` checks a list and builds it; `serde_js
 values, or goes over all values on demand, and neither knows what a list is. The programs take turns, each reads the same bytes seven
 times a turn, and the least time of each counts. simdjson's columns need its library (Debian: libsimdjson-dev) and a C++ compiler, and
 are left out without them. A layout puts blanks into a scene's text: behind each comma, a vertex or a triangle a line with blanks
-behind commas, or an element a line. With --before crates/list_bench of another build takes turns with them.
+behind commas, or an element a line; a text that is longer than a list may be is left out. With --before crates/list_bench of another
+build takes turns with them.
 """
 
 from __future__ import annotations
@@ -25,6 +26,8 @@ from tools.places import BENCH_OUT, READER_PROGRAM, TOP, is_built
 SCENES = ("long_list", "mesh", "small")
 PARSER = os.path.join(BENCH_OUT, "simdjson")
 LAYOUTS = ("plain", "commas", "lines", "elements")
+# A list has at most this many bytes.
+MOST_BYTES = 67_108_864
 COLUMNS = ("list", "MB", "`list::read`, ms", "GB/s", "serde_json's tree, ms", "ours / tree")
 BEFORE_COLUMNS = ("before, ms", "ours / before")
 PARSER_COLUMNS = ("simdjson's tape, ms", "ours / tape", "parser kept, ms", "ours / kept", "on demand, ms", "ours / on demand")
@@ -102,7 +105,11 @@ def main() -> int:
     report.print_head((*COLUMNS, *(BEFORE_COLUMNS if options.before else ()), *(PARSER_COLUMNS if with_parser else ())))
     for source in sources:
         for layout in options.layouts:
-            print(row_of(laid_out(source, layout), with_parser, options.runs, options.before), flush=True)
+            path = laid_out(source, layout)
+            if os.path.getsize(path) > MOST_BYTES:
+                print(f"{path} is longer than a list may be, and left out", file=sys.stderr)
+                continue
+            print(row_of(path, with_parser, options.runs, options.before), flush=True)
     report.print_end()
     return 0
 
