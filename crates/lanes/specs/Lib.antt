@@ -48,6 +48,7 @@
 --   IsAlphaKnown: Where alpha is written, the equation of alpha is that of the blend state `over`, or of `none`.
 --   WritesEachColour: The merge writes red, green and blue.
 --   WritesColours: The merge writes red, green and blue, and alpha or not.
+--   WritesNoColour: The merge writes neither red, green and blue nor alpha.
 --   IsMergeMode: Samples can be merged in this mode: one after another always, and sixteen at once by the equation of the merge.
 --   IsDrawnBy: The triangle can be drawn sixteen samples at once by this depth and this colour, and its draw blends by the known equation.
 --   IsDrawModeOf: The triangle can be drawn in this mode, by this depth and this colour if sixteen samples are drawn at once.

@@ -64,9 +64,14 @@ pub record WritesColours (over alpha : Bool) (m : Merge) : Type 0 where
   pub with_alpha : m.blend.write_alpha ≡ alpha
   pub alpha_known : IsAlphaKnown over alpha m.blend.alpha
 
+-- The merge writes neither red, green and blue nor alpha.
+pub record WritesNoColour (m : Merge) : Type 0 where
+  pub colours : m.write ≡ false ∷ false ∷ false ∷ []
+  pub without_alpha : m.blend.write_alpha ≡ false
+
 -- Samples can be merged in this mode: one after another always, and sixteen at once by the equation of the merge. The two
 -- equations of draw lists have modes of their own, in which red, green and blue are written, and alpha is not, or by the blend state
--- of this equation. Any equation has a mode in which red, green and blue are written.
+-- of this equation. Any equation has a mode in which red, green and blue are written, and that of `none` one in which nothing but depths is.
 abbrev pub IsMergeMode : Merge → DrawMode → Type 0
 IsMergeMode m draw.Each = Unit {0}
 IsMergeMode m draw.Replace = IsKnown Replace m.blend.colour × WritesColours false false m
@@ -74,6 +79,7 @@ IsMergeMode m draw.Over = IsKnown Over m.blend.colour × WritesColours true fals
 IsMergeMode m draw.ReplaceWithAlpha = IsKnown Replace m.blend.colour × WritesColours false true m
 IsMergeMode m draw.OverWithAlpha = IsKnown Over m.blend.colour × WritesColours true true m
 IsMergeMode m draw.Blend = WritesEachColour m
+IsMergeMode m draw.Depths = IsKnown Replace m.blend.colour × WritesNoColour m
 IsMergeMode m (draw.Otherwise known) = IsKnown known m.blend.colour
 
 -- The triangle can be drawn sixteen samples at once by this depth and this colour, and its draw blends by the known equation.
@@ -90,6 +96,7 @@ IsDrawModeOf t draw.Over depth colour = IsDrawnBy t Over depth colour × WritesC
 IsDrawModeOf t draw.ReplaceWithAlpha depth colour = IsDrawnBy t Replace depth colour × WritesColours false true t.state.merge
 IsDrawModeOf t draw.OverWithAlpha depth colour = IsDrawnBy t Over depth colour × WritesColours true true t.state.merge
 IsDrawModeOf t draw.Blend depth colour = IsDrawnBy t Other depth colour × WritesEachColour t.state.merge
+IsDrawModeOf t draw.Depths depth colour = IsDrawnBy t Replace depth colour × WritesNoColour t.state.merge
 IsDrawModeOf t (draw.Otherwise known) depth colour = IsDrawnBy t known depth colour
 
 -- What a triangle is drawn by: the merge of its draw, its depth and its colour.

@@ -3,18 +3,18 @@ ghost use Rattle.std.specs.Prelude.{◌≡◌, ℕ, ◌+◌, ◌*◌, ◌<◌, I
 ghost use Rattle.grid.specs.Samples.{part_size};
 ghost use Rattle.shade.specs.declared.placed.Placed.{Placed as Triangle};
 ghost use Rattle.shade.specs.Presets.{IsKnown};
-ghost use Rattle.shade.specs.declared.known.KnownEquation.TheVariants.{Other};
+ghost use Rattle.shade.specs.declared.known.KnownEquation.TheVariants.{Replace, Other};
 ghost use Rattle.planes.specs.Group.{position_in};
 ghost use Rattle.lanes.specs.Block.{IsOnScreen, CoversMask, AreDrawn};
 ghost use Rattle.lanes.specs.BlockMask.{CoversBlock, IsBlockDrawn};
 ghost use Rattle.lanes.specs.Lanes.{IsMask};
-ghost use Rattle.lanes.specs.Mode.{AreSourcesOf, IsDrawnBy, WritesEachColour, WritesColours, known_of};
+ghost use Rattle.lanes.specs.Mode.{AreSourcesOf, IsDrawnBy, WritesEachColour, WritesColours, WritesNoColour, known_of};
 
 use crate::block_mask::BlockMask;
 use crate::block_samples::BlockSamples;
 use crate::group::draw_group;
 use crate::interpolants::Interpolants;
-use crate::known::{whole, with_known, writing_all};
+use crate::known::{whole, with_known, writing_all, writing_no_colour};
 use crate::lane_mask::lanes_of_mask;
 use crate::mode::{Colour, ColourMode, Depth, DepthMode, DrawMode};
 use crate::one_by_one::draw_each;
@@ -264,6 +264,40 @@ fn draw_blended(
     }
 }
 
+/// Draws a block's samples by a merge that writes nothing but depths. Each source of depth has code of its own.
+#[inline(never)]
+fn draw_depths(
+    placed: &Placed,
+    depth: &Depth,
+    colour: &Colour,
+    mask: &BlockMask,
+    samples: &mut [BlockSamples],
+    corrections: &mut Corrections,
+)
+    requires by { IsDrawnBy placed.now Replace depth.now colour.now }
+    requires none { WritesNoColour placed.now.state.merge }
+    requires samples { length samples.old ≡ part_size mask.now.count }
+    ensures drawn { CoversBlock placed.now mask.now → IsBlockDrawn placed.now mask.now samples.old samples.new }
+    ensures samples { length samples.new ≡ length samples.old }
+{
+    let merge = &writing_no_colour(&placed.state.merge);
+    let colour = &colour.source(placed);
+    match depth.mode {
+        DepthMode::Unused => {
+            let depth = &DepthSource::Unused;
+            draw_planes(merge, depth, colour, mask, samples, corrections);
+        }
+        DepthMode::Flat(z) => {
+            let depth = &DepthSource::Flat(z);
+            draw_planes(merge, depth, colour, mask, samples, corrections);
+        }
+        DepthMode::Plane => {
+            let depth = &DepthSource::Plane(placed, &depth.plane);
+            draw_planes(merge, depth, colour, mask, samples, corrections);
+        }
+    }
+}
+
 /// Draws a block's samples by any other merge. Each equation of draw lists has code of its own.
 #[inline(never)]
 fn draw_otherwise(
@@ -347,6 +381,7 @@ impl Interpolants {
                 corrections,
             ),
             DrawMode::Blend => draw_blended(placed, depth, colour, mask, samples, corrections),
+            DrawMode::Depths => draw_depths(placed, depth, colour, mask, samples, corrections),
             DrawMode::Otherwise(known) => draw_otherwise(
                 known,
                 placed,

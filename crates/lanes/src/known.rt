@@ -1,7 +1,8 @@
 //! A merge made again, so that its colour equation is known if the code is inlined.
 ghost use Rattle.std.specs.Prelude.{◌≡◌};
 ghost use Rattle.shade.specs.Presets.{IsKnown};
-ghost use Rattle.lanes.specs.Mode.{IsAlphaKnown, WritesEachColour, WritesColours, known_of};
+ghost use Rattle.shade.specs.declared.known.KnownEquation.TheVariants.{Replace};
+ghost use Rattle.lanes.specs.Mode.{IsAlphaKnown, WritesEachColour, WritesColours, WritesNoColour, known_of};
 
 use shade::{Blend, Equation, KnownEquation, Merge};
 
@@ -101,5 +102,22 @@ pub(crate) fn writing_all(merge: &Merge) -> Merge
         blend.alpha,
         [true; 3],
         blend.write_alpha,
+    )
+}
+
+/// A merge that writes nothing but depths, by the equation of `none`, made again so that this is known if the code is
+/// inlined.
+#[inline(always)]
+pub(crate) fn writing_no_colour(merge: &Merge) -> Merge
+    requires known { IsKnown Replace merge.now.blend.colour }
+    requires none { WritesNoColour merge.now }
+    ensures { result ≡ merge.now }
+{
+    remade(
+        KnownEquation::Replace,
+        merge,
+        merge.blend.alpha,
+        [false; 3],
+        false,
     )
 }

@@ -1,7 +1,7 @@
 //! The mode in which a triangle is drawn, which is chosen once for all its samples.
 ghost use Rattle.std.specs.Prelude.{◌≡◌, ◌<◌, IsTrue, true, slice_index};
 ghost use Rattle.shade.specs.Placed.{channel, rgba_of};
-ghost use Rattle.lanes.specs.Mode.{IsDepthBy, IsColourBy, IsAlphaKnown, IsMergeMode, WritesEachColour, WritesColours};
+ghost use Rattle.lanes.specs.Mode.{IsDepthBy, IsColourBy, IsAlphaKnown, IsMergeMode, WritesEachColour, WritesColours, WritesNoColour};
 ghost use Rattle.lanes.specs.Sources.{IsDepthOf, IsColourOf, IsFlat};
 
 use crate::sources::{ColourSource, DepthSource};
@@ -43,6 +43,8 @@ pub(crate) enum DrawMode {
     OverWithAlpha,
     /// Sixteen samples at once; the colour is blended with the stored one by any equation.
     Blend,
+    /// Sixteen samples at once, of which nothing but depths is written.
+    Depths,
     /// Sixteen samples at once, by a merge that leaves a colour channel.
     Otherwise(KnownEquation),
 }
@@ -84,6 +86,15 @@ fn writes_all(merge: &Merge) -> bool
     red && green && blue
 }
 
+/// Whether a merge writes neither red, green and blue nor alpha.
+#[inline(always)]
+fn writes_no_colour(merge: &Merge) -> bool
+    ensures { IsTrue result → WritesNoColour merge.now }
+{
+    let [red, green, blue] = merge.write;
+    !red && !green && !blue && !merge.blend.write_alpha
+}
+
 /// Whether a merge writes red, green and blue, and alpha exactly if it is asked for, then by a known equation.
 #[inline(always)]
 fn writes_colours(merge: &Merge, over: bool, alpha: bool) -> bool
@@ -107,6 +118,7 @@ impl DrawMode {
             KnownEquation::Replace if writes_colours(merge, false, true) =>
                 DrawMode::ReplaceWithAlpha,
             KnownEquation::Over if writes_colours(merge, true, true) => DrawMode::OverWithAlpha,
+            KnownEquation::Replace if writes_no_colour(merge) => DrawMode::Depths,
             _ if writes_all(merge) => DrawMode::Blend,
             _ => DrawMode::Otherwise(known),
         }

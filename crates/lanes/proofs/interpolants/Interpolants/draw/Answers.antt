@@ -28,3 +28,6 @@ returns-in-ReplaceWithAlpha-clause-drawn c = drawn _ _ c.args.mask.now _ _ c.sel
 
 pub returns-in-OverWithAlpha-clause-drawn : goal.returns-in-OverWithAlpha-clause-drawn
 returns-in-OverWithAlpha-clause-drawn c = drawn _ _ c.args.mask.now _ _ c.self.view_is c.draw_by_sources-in-OverWithAlpha.ensures.drawn c.requires.covered
+
+pub returns-in-Depths-clause-drawn : goal.returns-in-Depths-clause-drawn
+returns-in-Depths-clause-drawn c = drawn _ _ c.args.mask.now _ _ c.self.view_is c.draw_depths.ensures.drawn c.requires.covered

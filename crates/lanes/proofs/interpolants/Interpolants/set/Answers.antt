@@ -1,6 +1,6 @@
 use Rattle.shade.specs.declared.placed.Placed.{Placed}
 use Rattle.lanes.specs.declared.mode.DrawMode.{DrawMode}
-use Rattle.lanes.specs.declared.mode.DrawMode.TheVariants.{Each, Replace, Over, ReplaceWithAlpha, OverWithAlpha, Blend, Otherwise}
+use Rattle.lanes.specs.declared.mode.DrawMode.TheVariants.{Each, Replace, Over, ReplaceWithAlpha, OverWithAlpha, Blend, Depths, Otherwise}
 use Rattle.lanes.specs.declared.mode.Depth.{Depth}
 use Rattle.lanes.specs.declared.mode.Colour.{Colour}
 use Rattle.lanes.specs.Mode.{IsDepthBy, IsColourBy, IsMergeMode, IsDrawModeOf}
@@ -14,6 +14,7 @@ mode_of t Over d k is depth colour = (record { known_of = is.0; depth_of = depth
 mode_of t ReplaceWithAlpha d k is depth colour = (record { known_of = is.0; depth_of = depth; colour_of = colour }, is.1)
 mode_of t OverWithAlpha d k is depth colour = (record { known_of = is.0; depth_of = depth; colour_of = colour }, is.1)
 mode_of t Blend d k is depth colour = (record { known_of = _; depth_of = depth; colour_of = colour }, is)
+mode_of t Depths d k is depth colour = (record { known_of = is.0; depth_of = depth; colour_of = colour }, is.1)
 mode_of t (Otherwise known) d k is depth colour = record { known_of = is; depth_of = depth; colour_of = colour }
 
 pub invariant_of-self-2 : goal.invariant_of-self-2
