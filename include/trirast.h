@@ -425,6 +425,14 @@ typedef struct trirast_canvas {
 /* The numbers of samples that a pixel of a canvas may have, for messages. */
 #define TRIRAST_SAMPLE_COUNTS "1, 2, 4, 8 or 16"
 
+/* Where they lie, of the least number first: an array of structs {uint32_t samples; signed char places[16][2];} is set by
+ * {TRIRAST_SAMPLE_PATTERNS}. A place is how far right of the pixel's centre and below it a sample lies, in 1/16 pixel. */
+#define TRIRAST_SAMPLE_PATTERNS \
+    {1, {{0, 0}}}, {2, {{4, 4}, {-4, -4}}}, {4, {{-2, -6}, {6, -2}, {-6, 2}, {2, 6}}}, \
+    {8, {{1, -3}, {-1, 3}, {5, 1}, {-3, -5}, {-5, 5}, {-7, -1}, {3, 7}, {7, -7}}}, \
+    {16, {{1, 1}, {-1, -3}, {-3, 2}, {4, -1}, {-5, -2}, {2, 5}, {5, 3}, {3, -5}, \
+          {-2, 6}, {0, -7}, {-4, -6}, {-6, 4}, {-8, 0}, {7, -4}, {6, 7}, {-7, -8}}}
+
 /* The width and height of a tile of a canvas, in pixels. */
 #define TRIRAST_TILE_SIZE 64
 

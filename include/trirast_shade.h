@@ -170,22 +170,20 @@ static inline void trirast_shade_value(const trirast_shade_attributes *attribute
     }
 }
 
+/* Where samples lie: see TRIRAST_SAMPLE_PATTERNS. */
+typedef struct trirast_shading_pattern {
+    uint32_t samples;
+    signed char places[16][2];
+} trirast_shading_pattern;
+
 /* Returns where sample `index` of a pixel with this number of samples lies: docs/rules.md. */
 static inline trirast_shade_place trirast_shade_sample_place(uint32_t samples, uint32_t index) {
-    /* From the pixel's centre, in 1/16 pixel: of 1, 2, 4, 8 and 16 samples. */
-    static const signed char patterns_x[5][16] = {{0},
-                                                  {4, -4},
-                                                  {-2, 6, -6, 2},
-                                                  {1, -1, 5, -3, -5, -7, 3, 7},
-                                                  {1, -1, -3, 4, -5, 2, 5, 3, -2, 0, -4, -6, -8, 7, 6, -7}};
-    static const signed char patterns_y[5][16] = {{0},
-                                                  {4, -4},
-                                                  {-6, -2, 2, 6},
-                                                  {-3, 3, 1, -5, 5, -1, 7, -7},
-                                                  {1, -3, 2, -1, -2, 5, 3, -5, 6, -7, -6, 4, 0, -4, 7, -8}};
-    const uint32_t pattern = samples >= 16 ? 4 : samples >= 8 ? 3 : samples >= 4 ? 2 : samples >= 2 ? 1 : 0;
+    static const trirast_shading_pattern patterns[] = {TRIRAST_SAMPLE_PATTERNS};
+    size_t pattern = sizeof patterns / sizeof patterns[0] - 1;
     trirast_shade_place found;
-    found.x = 128 + 16 * patterns_x[pattern][index % 16], found.y = 128 + 16 * patterns_y[pattern][index % 16];
+    while (pattern > 0 && patterns[pattern].samples > samples) pattern--;
+    found.x = 128 + 16 * patterns[pattern].places[index % 16][0];
+    found.y = 128 + 16 * patterns[pattern].places[index % 16][1];
     return found;
 }
 
