@@ -9,7 +9,7 @@ or later. If the library is missing, its import fails. A Figure() of your own, w
 
 Settings hold for all figures, from their next draw on:
 
-    RendererTrirast.samples = 16    # of a pixel: 1, 2, 4, 8 or 16. Fewer take less time and memory, and edges have fewer steps
+    RendererTrirast.samples = 16    # of a pixel: one of trirast.Canvas.SAMPLE_COUNTS. Fewer take less time and memory, and edges have fewer steps
     RendererTrirast.smooth = True   # or False: collections and meshes whose antialiasing is off are Agg's, as contourf is by default
     RendererTrirast.threads = 1     # 1 or more, which share the drawing, and change no pixel
 

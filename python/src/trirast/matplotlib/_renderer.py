@@ -33,7 +33,7 @@ class RendererTrirast(RendererAgg):
     """Agg's renderer, which draws faces and Gouraud triangles by samples. Settings are attributes of the class, which hold for all
     figures, from their next draw on:
 
-    samples -- of a pixel: 1, 2, 4, 8 or 16, which is the default. Fewer take less time and memory, and edges have fewer steps.
+    samples -- of a pixel: 16, the default, or another of trirast.Canvas.SAMPLE_COUNTS. Fewer take less time and memory, and edges have fewer steps.
     smooth -- True, the default: faces of collections and meshes are drawn so too if their antialiasing is off, as it is in
         `contourf`, `pcolormesh`, `pcolor` and `tripcolor` by default. False: these are Agg's, byte for byte.
     threads -- 1, the default, or more: they share the drawing, and change no pixel.

@@ -50,11 +50,12 @@ def draw_poster(
     """Draws a scene, up to 32,768 pixels wide and high, to a file or to a folder of tiles or to both.
 
     `out` is a PNG file if its name ends in .png, in small or capital letters, a TIFF file if in .tif or .tiff, which tifffile writes, and
-    a PPM file (of depths a PGM file) if it ends in .ppm or .pgm or has no end; `tiles` is a new folder. `samples` is the number of samples of a pixel in place of the scene's: 1, 2,
-    4, 8 or 16. `dpi` is the number of pixels per inch, which PNG and TIFF files alone have. `window` is the side in pixels of the
-    squares that are drawn by themselves, 64 to 4096; `workers` how many draw at once (one a core). These two do not change a
-    byte. Without `scheduler` threads of this process draw; with "local" Dask's processes, and with an address the workers of
-    that cluster. `resume` goes on with what a stopped run left. Under the final names are whole files alone.
+    a PPM file (of depths a PGM file) if it ends in .ppm or .pgm or has no end; `tiles` is a new folder. `samples` is the number of
+    samples of a pixel in place of the scene's, one of trirast.Canvas.SAMPLE_COUNTS. `dpi` is the number of pixels per inch, which PNG
+    and TIFF files alone have. `window` is the side in pixels of the squares that are drawn by themselves, 64 to 4096; `workers` how
+    many draw at once (one a core). These two do not change a byte. Without `scheduler` threads of this process draw; with "local"
+    Dask's processes, and with an address the workers of that cluster. `resume` goes on with what a stopped run left. Under the final
+    names are whole files alone.
 
     Raises PosterError and trirast.Error, ValueError at a number that is out of range and at `dpi` without such a file, and
     OSError if a file cannot be written.
