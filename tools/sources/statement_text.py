@@ -84,8 +84,8 @@ What the page uses of the toolchain's crates, in one line each. What counts is t
 GROUPS = (
     Group(
         "Positions and samples",
-        "x runs to the right and y downwards, in 1/256 pixel. A pixel has one sample in its centre, or two, four, eight or sixteen in "
-        "a standard pattern; a draw list has one or four. Each coordinate of a vertex lies in the guard band.",
+        "x runs to the right and y downwards, in 1/256 pixel. A pixel has one sample in its centre, or several in a standard "
+        "pattern; a draw list has one or four. Each coordinate of a vertex lies in the guard band.",
         "Direct3D 11, positions with 8 fractional bits, pixel centres and the standard patterns; the guard band is this project's "
         "limit.",
         (
