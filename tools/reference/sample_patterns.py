@@ -1,4 +1,4 @@
-"""Draws where the samples of a pixel lie, in the five patterns of docs/rules.md, as an SVG file.
+"""Draws where the samples of a pixel lie, in the patterns of docs/rules.md, as an SVG file.
 
     python3 -m tools.reference.sample_patterns > docs/samples.svg
 """
