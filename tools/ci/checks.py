@@ -104,7 +104,7 @@ CHECKS = (
     ),
     Check(
         name="edits",
-        about="must-fail edits by name, the statuses and causes of header, Rust and Python, names that two crates have, and how contracts are compared",
+        about="must-fail edits by name, the statuses, causes and numbers of samples of header, bindings and page, names that two crates have, and how contracts are compared",
         command="pytest tools/sources --ignore tools/sources/test_statement.py", seconds=2,
     ),
     Check(
