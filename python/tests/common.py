@@ -6,7 +6,8 @@ import os
 import subprocess
 import sys
 import textwrap
-from typing import Any, List, Sequence
+from contextlib import contextmanager
+from typing import Any, Dict, Iterator, List, Sequence
 
 import trirast
 
@@ -30,6 +31,20 @@ def run(text: str, under: Sequence[str] = (), **more: str) -> "subprocess.Comple
     environment = {**os.environ, "PYTHONPATH": os.path.join(PYTHON, "src"), **more}
     command = [*under, sys.executable, "-c", textwrap.dedent(text)]
     return subprocess.run(command, env=environment, capture_output=True, timeout=SECONDS)
+
+
+@contextmanager
+def without(name: str) -> Iterator[None]:
+    """Lets the import of a module fail meanwhile. Other modules that are imported meanwhile stay, unlike by mock.patch.dict: Dask has
+    exceptions pickled by functions of tblib, and pickle refuses these if tblib is imported a second time."""
+    modules: Dict[str, Any] = sys.modules
+    kept = {name: modules[name]} if name in modules else {}
+    modules[name] = None
+    try:
+        yield
+    finally:
+        del modules[name]
+        modules.update(kept)
 
 
 def bytes_of(buffer: Any) -> bytes:

@@ -20,7 +20,7 @@ from trirast import poster
 from trirast.poster import _command, _draw_list, _index, _journal, _part, _png, _scene, _threads, _tiles_writer, _windows
 from trirast.poster._dask import draw_by_dask
 
-from .common import DRAW_LIST, FILE, VERTICES, run
+from .common import DRAW_LIST, FILE, VERTICES, run, without
 from .poster_common import Commands, Files, as_list, random_scene
 
 SHEET = poster.Sheet(3, 3)
@@ -291,7 +291,7 @@ class Pictures(Files):
         self.assertEqual(self.content("small.png"), self.content("wanted.png"))
 
     def test_without_dask_an_error_names_it(self) -> None:
-        with mock.patch.dict("sys.modules", {"distributed": None}), self.assertRaises(poster.EngineMissingError):
+        with without("distributed"), self.assertRaises(poster.EngineMissingError):
             next(draw_by_dask([], lambda window: None, 1, "local"))  # type: ignore[arg-type, return-value]
 
 

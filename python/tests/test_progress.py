@@ -2,10 +2,8 @@
 
 import importlib.util
 import io
-import sys
 import unittest
 from contextlib import redirect_stderr
-from unittest import mock
 
 for needed in ("numpy", "tqdm"):
     if importlib.util.find_spec(needed) is None:
@@ -16,6 +14,7 @@ from trirast.poster._progress import progress
 from trirast.poster._scene import Sheet
 from trirast.poster._windows import Windows
 
+from .common import without
 from .poster_common import Files, random_scene
 
 
@@ -46,7 +45,7 @@ class Progress(Files):
     def test_is_left_out(self) -> None:
         self.assertEqual(self.drawn(io.StringIO()), "")
         self.assertEqual(self.drawn(Terminal(), False), "")
-        with mock.patch.dict(sys.modules, {"tqdm": None}):
+        with without("tqdm"):
             self.assertEqual(self.drawn(Terminal()), "")
 
 

@@ -2,13 +2,10 @@
 
 import importlib.util
 import math
-import sys
 import unittest
-from contextlib import contextmanager
 from decimal import Decimal
 from fractions import Fraction
-from typing import Any, Iterator, List, Tuple
-from unittest import mock
+from typing import Any, List, Tuple
 
 for needed in ("numpy", "hypothesis"):
     if importlib.util.find_spec(needed) is None:
@@ -20,17 +17,13 @@ from hypothesis import strategies as st
 
 import trirast
 
+from .common import without
+
 LOW, HIGH = -8388608, 8388607
 BAND = "-32768 to 32767.99609375 pixels"
 NEAR = st.floats(-32767, 32767)
 PAIRS = st.lists(st.tuples(NEAR, NEAR), max_size=9)
 SCALES = st.floats(-1, 1)
-
-
-@contextmanager
-def without_numpy() -> Iterator[None]:
-    with mock.patch.dict(sys.modules, {"numpy": None}):
-        yield
 
 
 def exact(value: Any, scale: Any = 1) -> int:
@@ -46,7 +39,7 @@ class Snapped(unittest.TestCase):
             found = trirast.snap(given_as, scale)
             self.assertEqual((found.dtype, found.shape), (np.int32, (len(pairs), 2)))
             self.assertEqual(found.tolist(), [list(pair) for pair in wanted])
-        with without_numpy():
+        with without("numpy"):
             self.assertEqual(trirast.snap(pairs, scale), wanted)
 
     @given(st.integers(LOW, HIGH - 1), st.booleans())
@@ -63,7 +56,7 @@ class Snapped(unittest.TestCase):
     @given(st.floats(), st.floats(), st.floats())
     def test_is_refused_alike_with_and_without_numpy(self, x: float, y: float, scale: float) -> None:
         answers = [answer([[0, 0], [x, y]], scale), answer(np.array([[0, 0], [x, y]]), scale)]
-        with without_numpy():
+        with without("numpy"):
             answers.append(answer([[0.0, 0.0], [x, y]], scale))
         fits = all(map(math.isfinite, (x, y, scale))) and all(
             math.isfinite(each * scale) and LOW <= exact(each, scale) <= HIGH for each in (x, y)
@@ -143,7 +136,7 @@ class Refused(unittest.TestCase):
 
     def test_without_numpy_buffers_too(self) -> None:
         pairs = memoryview(bytearray(np.array([[1.5, 2], [3, 4]]).tobytes())).cast("d", shape=[2, 2])
-        with without_numpy():
+        with without("numpy"):
             self.assertEqual(trirast.snap(pairs), [(384, 512), (768, 1024)])
             self.must_say(TypeError, "xy: rows of x and y, and not None", None)
 

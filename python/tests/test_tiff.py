@@ -4,12 +4,12 @@ import contextlib
 import importlib.util
 import io
 import os
-import sys
 import unittest
 from dataclasses import replace
 from typing import Any
 from unittest import mock
 
+from .common import without
 from .poster_common import Files, random_scene
 
 import numpy as np
@@ -74,7 +74,7 @@ class Tiff(Files):
             self.assertEqual(errors.getvalue(), f"poster: stopped; {text}\n")
 
     def test_without_tifffile(self) -> None:
-        with mock.patch.dict(sys.modules, {"tifffile": None}):
+        with without("tifffile"):
             with self.assertRaisesRegex(poster.EngineMissingError, "python3-tifffile"):
                 poster.draw_poster(random_scene(1), self.path("a.tif"))
         self.assertEqual(os.listdir(self.folder), [])
