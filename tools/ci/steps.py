@@ -58,16 +58,24 @@ class Steps:
 
     def prove(self, crate: str, jobs: int) -> Outcome:
         """Proves a library that others stand on, and keeps it for these."""
+        return self.library(crate, jobs, "prove", "proved", os.path.join("rlib", f"{crate}.rlib"))
+
+    def archive(self, crate: str, jobs: int) -> Outcome:
+        """Builds a static library over what is proved."""
+        return self.library(crate, jobs, "archive", "built", f"lib{crate}.a")
+
+    def library(self, crate: str, jobs: int, step: str, done: str, made: str) -> Outcome:
+        """Has rt make a library, the file `made`."""
 
         def run() -> Outcome:
             with self.rooms.room(crate) as folder:
                 ran = self.rt(folder, "lib", "--jobs", str(jobs), seconds=SECONDS)
                 if ran.status != 0:
-                    return failed("NOT PROVED", ran)
+                    return failed(f"NOT {done.upper()}", ran)
                 self.rooms.take_over(crate, folder)
-            return Outcome(True, "proved", ran.seconds)
+            return Outcome(True, done, ran.seconds)
 
-        return self.kept(crate, "prove", os.path.join("rlib", f"{crate}.rlib"), run)
+        return self.kept(crate, step, made, run)
 
     def stand(self, crate: str, jobs: int) -> Outcome:
         """Checks a crate as it stands: its last line, contracts that no call can meet, and its layout."""
@@ -91,19 +99,6 @@ class Steps:
         """Lays a crate out in its room, and says what is wrong if that changes anything."""
         ran = self.rt(folder, "fmt", seconds=SECONDS)
         return ran, "run rt fmt in its folder" if ran.status != 0 or "rt: formatted" in ran.text else ""
-
-    def archive(self, crate: str, jobs: int) -> Outcome:
-        """Builds a static library over what is proved."""
-
-        def run() -> Outcome:
-            with self.rooms.room(crate) as folder:
-                ran = self.rt(folder, "lib", "--jobs", str(jobs), seconds=SECONDS)
-                if ran.status != 0:
-                    return failed("NOT BUILT", ran)
-                self.rooms.take_over(crate, folder)
-            return Outcome(True, "built", ran.seconds)
-
-        return self.kept(crate, "archive", f"lib{crate}.a", run)
 
     def test(self, crate: str, jobs: int) -> Outcome:
         """Proves a crate's tests and runs them."""
