@@ -59,7 +59,7 @@ impl Sides {
 
 /// Which samples of block (bx, by) the quad covers, by the top-left rule at its four edges; the block's first pixel is
 /// (8 * bx, 8 * by). With one sample the words 1 to 3 are zero. These are the samples that the two triangles of either
-/// diagonal cover, and no sample is covered by both. Of 8 or 16 samples of a pixel they are the first four.
+/// diagonal cover, and no sample is covered by both. Of more than four samples of a pixel they are the first four.
 pub fn quad_masks(quad: &Quad, bx: u32, by: u32, count: SampleCount) -> Masks
     requires column { bx < 512 }
     requires row { by < 512 }
