@@ -7,7 +7,9 @@
 // with a depth test, and panes of glass blended over them. For each rate a line of names and numbers goes to standard
 // output: the least wall and processor times of a frame by both, in milliseconds, and the least processor times of the
 // parts of ours, in frames that do them one after another. `plain` is shading by one colour: reading ids, finding
-// pairs, storing colours. `calls` are trirast_canvas_tile_ids and trirast_canvas_tile_store alone.
+// pairs, storing colours. `calls` is by how much a frame takes longer in which each tile is read by
+// trirast_canvas_tile_ids and stored by trirast_canvas_tile_store once more, right behind its shading: what both take
+// beside waiting for the memory of the tile, for which any shading has to wait.
 #include <algorithm>
 #include <chrono>
 #include <cstdio>
@@ -86,34 +88,22 @@ public:
         return found;
     }
 
-    // A frame whose parts are timed together: wall and processor time.
-    std::pair<double, double> frame(trirast::Rate rate) {
+    // A frame whose parts are timed together: wall and processor time. If `is_twice`, the two calls of a tile are made
+    // once more behind its shading, which leaves the same samples.
+    std::pair<double, double> frame(trirast::Rate rate, bool is_twice = false) {
         const double spent = processor();
         const Clock::time_point begin = Clock::now();
         set_up();
         const scene::Textured shader = seen_.shader(model_);
         const auto shade = [&](trirast::TileRows &rows, std::uint32_t column, std::uint32_t row, const auto *own) {
             shade_tile(rows, column, row, own, rate, shader);
+            if (is_twice) read_and_store(rows, column, row);
         };
         rows_.draw(seen_, ByPool{pool_}, shade, [this](trirast::TileRows &rows) {
             scene::draw_glass(rows, seen_);
             resolve(rows);
         });
         return {milliseconds(begin), processor() - spent};
-    }
-
-    // The two calls of all tiles, without shading between them.
-    double calls() {
-        const double begin = processor();
-        each_tile([&](std::uint32_t column, std::uint32_t row) {
-            thread_local trirast::TileEntries entries;
-            trirast_canvas canvas = canvas_.in_c();
-            std::uint32_t uniform = 0;
-            entries.resize(64 * 64 * 4);
-            trirast_canvas_tile_ids(&canvas, column, row, entries.data(), entries.size(), &uniform);
-            trirast_canvas_tile_store(&canvas, column, row, entries.data(), uniform ? 1 : entries.size());
-        });
-        return processor() - begin;
     }
 
     const std::vector<std::uint8_t> &pixels() const { return pixels_; }
@@ -134,6 +124,16 @@ private:
             scene::clip_of(static_cast<std::int32_t>(canvas_.width()), static_cast<std::int32_t>(canvas_.height()));
         seen_.project(model_, model_.scene.matrix, clip, pool_.threads(), ByPool{pool_});
         seen_.prepare(model_, pool_.threads(), ByPool{pool_});
+    }
+
+    // The two calls of a tile, without shading between them: what is read is stored again.
+    static void read_and_store(trirast::TileRows &rows, std::uint32_t column, std::uint32_t row) {
+        thread_local trirast::TileEntries entries;
+        trirast_canvas canvas = rows.in_c();
+        std::uint32_t uniform = 0;
+        entries.resize(64 * 64 * 4);
+        trirast_canvas_tile_ids(&canvas, column, row, entries.data(), entries.size(), &uniform);
+        trirast_canvas_tile_store(&canvas, column, row, entries.data(), uniform ? 1 : entries.size());
     }
 
     template <class Shader>
@@ -362,14 +362,14 @@ Options read_options(int count, char **words) {
 void time_rate(Ours &ours, Theirs &theirs, trirast::Rate rate, const Options &options) {
     const bool each_sample = rate == trirast::Rate::sample;
     Times least, plain;
-    double our_wall = 0, our_processor = 0, their_wall = 0, their_processor = 0, calls = 0;
+    double our_wall = 0, our_processor = 0, their_wall = 0, their_processor = 0, twice = 0;
     for (int k = 0; k < options.frames; k++) {
         const auto keep = [k](double &a, double b) { a = k == 0 ? b : std::min(a, b); };
         keep_least(plain, ours.parts(rate, true), k == 0);
-        keep(calls, ours.calls());
         keep_least(least, ours.parts(rate, false), k == 0);
         const auto [wall, spent] = ours.frame(rate);
         keep(our_wall, wall), keep(our_processor, spent);
+        keep(twice, ours.frame(rate, true).second);
         const auto [theirs_wall, theirs_spent] = theirs.frame(each_sample);
         keep(their_wall, theirs_wall), keep(their_processor, theirs_spent);
     }
@@ -377,7 +377,7 @@ void time_rate(Ours &ours, Theirs &theirs, trirast::Rate rate, const Options &op
                 "%.3f plain %.3f calls %.3f "
                 "glass %.3f resolve %.3f far %.3f triangles %zu cuts %zu\n",
                 each_sample ? "sample" : "pixel", our_wall, our_processor, their_wall, their_processor,
-                least.setup, least.ids, least.shading, plain.shading, calls, least.glass, least.resolve,
+                least.setup, least.ids, least.shading, plain.shading, twice - our_processor, least.glass, least.resolve,
                 far_pixels(ours.pixels(), theirs.pixels()), ours.seen().mesh.sources.size(),
                 ours.seen().mesh.cuts.size());
     if (options.picture.empty() || each_sample) return;

@@ -6,10 +6,11 @@
 A frame of 1280 by 720 pixels with four samples goes from the model's vertices to pixels in memory: textured triangles
 under a light, and five panes of glass. The frames of both take turns in one process; the least of each counts. The
 parts of ours are shares of the processor time of frames that do them one after another: setup is clipping, projection
-and look-up tables; ids with the clear; shading, of which `plain` is that by one colour, and `calls` are the two calls
-of the library for tiles; glass; resolve. `by in place's` is the time by calls, divided by what would be left if the two
-calls took none: at most what a layout in place could save. The last column is the share of pixels of which a channel is
-more than 4 away. Below the table stands which of the aims are missed. --write puts all of it into
+and look-up tables; ids with the clear; shading, of which `plain` is that by one colour; glass; resolve. `calls` is by
+how much a frame takes longer if the two calls of the library for tiles are made once more for each, right behind its
+shading. `by in place's` is the processor time of a frame, divided by what would be left if these two calls took none:
+at most what a layout in place could save, which waits for the same memory. The last column is the share of pixels of
+which a channel is more than 4 away. Below the table stands which of the aims are missed. --write puts all of it into
 docs/shaded_frames.md.
 
 --probe asks llvmpipe where it takes w when it shades each sample. It needs `make library`, g++, libegl-dev and
@@ -83,7 +84,7 @@ class Frame(NamedTuple):
         return self.number(name) / self.number(f"their_{name}")
 
     def by_in_place(self) -> float:
-        return self.whole() / (self.whole() - self.number("calls"))
+        return self.number("processor") / (self.number("processor") - self.number("calls"))
 
     def times_one(self) -> float:
         return self.alone / self.number("wall")
