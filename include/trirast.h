@@ -82,24 +82,31 @@ uint32_t trirast_interface(void);
 /* What a call returns. */
 typedef enum trirast_status {
     TRIRAST_STATUS_OK = 0,               /* done */
-    TRIRAST_STATUS_BAD_LIST = 1,         /* the text is no draw list: `cause` and `draw` of the error say why and where */
+    TRIRAST_STATUS_BAD_LIST = 1,         /* the text is no draw list: `cause` and `draw` of the error
+                                          * say why and where */
     TRIRAST_STATUS_INPUT_TOO_LONG = 2,   /* the draw list has more than 67,108,864 bytes */
     TRIRAST_STATUS_OUT_OF_MEMORY = 3,    /* malloc or realloc returned NULL */
-    TRIRAST_STATUS_BUFFER_TOO_SMALL = 4, /* the buffer has fewer bytes than the call would write, or its rows are too short */
+    TRIRAST_STATUS_BUFFER_TOO_SMALL = 4, /* the buffer has fewer bytes than the call would write, or its
+                                          * rows are too short */
     TRIRAST_STATUS_BAD_TILE_SIZE = 5,    /* the tile size is none of 8, 16, 32 and 64 */
-    TRIRAST_STATUS_BAD_TILE_ROWS = 6,    /* the picture or the canvas has no such tile rows: the call says which it takes */
+    TRIRAST_STATUS_BAD_TILE_ROWS = 6,    /* the picture or the canvas has no such tile rows: the call
+                                          * says which it takes */
     TRIRAST_STATUS_BAD_STRUCT_SIZE = 7,  /* a size member is neither 0 nor the library's own */
-    TRIRAST_STATUS_BAD_CANVAS = 8,       /* no such canvas: the members of trirast_canvas say which sides, samples and channels it has */
-    TRIRAST_STATUS_BAD_MEMORY = 9,       /* the memory of the samples is not of the size that the tile rows need, NULL or misaligned */
+    TRIRAST_STATUS_BAD_CANVAS = 8,       /* no such canvas: the members of trirast_canvas say which sides, samples
+                                          * and channels it has */
+    TRIRAST_STATUS_BAD_MEMORY = 9,       /* the memory of the samples is not of the size that the tile rows need,
+                                          * NULL or misaligned */
     TRIRAST_STATUS_BAD_FORMAT = 10,      /* the number is no trirast_format */
     TRIRAST_STATUS_BAD_SAMPLE = 11,      /* a pixel has no sample of this index: 0 to its samples less 1 */
-    TRIRAST_STATUS_BAD_POSITION = 12,    /* a position is outside of -8388608 to 8388607 in 1/256 pixel, which is -32768 to before 32768
-                                          * pixels, or an origin outside of -32768 to 28672 pixels */
+    TRIRAST_STATUS_BAD_POSITION = 12,    /* a position is outside of -8388608 to 8388607 in 1/256 pixel, which is -32768
+                                          * to before 32768 pixels, or an origin outside of -32768 to 28672 pixels */
     TRIRAST_STATUS_BAD_PIXEL = 13,       /* the picture has no such pixel */
     TRIRAST_STATUS_BAD_TRIANGLE = 14,    /* the list has no such draw, or the draw no such triangle */
-    TRIRAST_STATUS_BAD_BATCH = 15,       /* the batch cannot be drawn: `cause`, `draw` and `element` of the error say why and where */
-    TRIRAST_STATUS_BAD_STRIDE = 16,      /* a stride of vertices is no multiple of 4 from 16 to TRIRAST_MAX_STRIDE bytes, one of points
-                                          * none from 8 on, or one of entries no multiple of their 2 or 4 bytes; 0 is always right */
+    TRIRAST_STATUS_BAD_BATCH = 15,       /* the batch cannot be drawn: `cause`, `draw` and `element` of the error
+                                          * say why and where */
+    TRIRAST_STATUS_BAD_STRIDE = 16,      /* a stride of vertices is no multiple of 4 from 16 to TRIRAST_MAX_STRIDE
+                                          * bytes, one of points none from 8 on, or one of entries no multiple of their
+                                          * 2 or 4 bytes; 0 is always right */
     TRIRAST_STATUS_BAD_TILE = 17,        /* the tile rows have no such tile */
     TRIRAST_STATUS_BAD_INDEX_SIZE = 18   /* an index has none of these sizes: 2 or 4 bytes */
 } trirast_status;
@@ -123,16 +130,21 @@ typedef enum trirast_batch_cause {
     TRIRAST_BATCH_TOO_FEW_VERTICES = 1, /* fewer vertices are left than the draw has */
     TRIRAST_BATCH_TOO_FEW_INDICES = 2,  /* fewer indices are left than the draw has */
     TRIRAST_BATCH_BAD_STATE = 3,        /* not reported: 15 to 23 say which number is outside of its range */
-    TRIRAST_BATCH_NOT_WHOLE = 4,        /* the indices of the draw, or without any its vertices, make no whole triangles or quads */
-    TRIRAST_BATCH_TOO_MANY_IDS = 5,     /* the id of a triangle would be greater than 16,777,215 (trirast_canvas_draw_ids) */
-    TRIRAST_BATCH_BAD_INDEX = 6,        /* an index is not less than the draw's vertex_count; element: its place; value */
-    TRIRAST_BATCH_BAD_POSITION = 7,     /* a vertex that an index names, or a corner, is outside of -8388608 to 8388607 in 1/256 pixel,
-                                         * on the screen or as seen from the canvas's origin; element: the vertex or corner */
+    TRIRAST_BATCH_NOT_WHOLE = 4,        /* the indices of the draw, or without any its vertices, make no whole
+                                         * triangles or quads */
+    TRIRAST_BATCH_TOO_MANY_IDS = 5,     /* the id of a triangle would be greater than 16,777,215
+                                         * (trirast_canvas_draw_ids) */
+    TRIRAST_BATCH_BAD_INDEX = 6,        /* an index is not less than the draw's vertex_count; element:
+                                         * its place; value */
+    TRIRAST_BATCH_BAD_POSITION = 7,     /* a vertex that an index names, or a corner, is outside of -8388608 to 8388607
+                                         * in 1/256 pixel, on the screen or as seen from the canvas's origin; element:
+                                         * the vertex or corner */
     TRIRAST_BATCH_NOT_CONVEX = 8,       /* a quad is not strictly convex; element: the quad */
     TRIRAST_BATCH_LEFT_OVER = 9,        /* a vertex or an index is in no draw, or a corner or a ring is in no polygon */
     TRIRAST_BATCH_TOO_MANY_CORNERS = 10, /* polygons have 2^32 corners or more */
     TRIRAST_BATCH_BAD_RING = 11,        /* a ring ends before it begins, or behind the last corner; element: the ring */
-    TRIRAST_BATCH_BAD_POLYGON = 12,     /* a polygon ends before it begins, or behind the last ring; element: the polygon */
+    TRIRAST_BATCH_BAD_POLYGON = 12,     /* a polygon ends before it begins, or behind the last ring;
+                                         * element: the polygon */
     TRIRAST_BATCH_TOO_FEW_COLORS = 13,  /* there are fewer colours than polygons */
     TRIRAST_BATCH_TOO_FEW_DEPTHS = 14,  /* there are depths, but fewer than polygons */
     TRIRAST_BATCH_BAD_TOPOLOGY = 15,    /* topology is no trirast_topology */
@@ -149,10 +161,11 @@ typedef enum trirast_batch_cause {
 /* Why a call failed. */
 typedef struct trirast_error {
     uint32_t status; /* the trirast_status that the call returned */
-    uint32_t cause;  /* a trirast_list_cause or a trirast_batch_cause if the status is one of a list or of a batch, else 0 */
+    uint32_t cause;  /* a trirast_list_cause or a trirast_batch_cause if the status is one of a list or
+                      * of a batch, else 0 */
     size_t draw;     /* the index of the draw in which the error is, from 0; TRIRAST_NONE if it is in none */
-    size_t element;  /* which one of the draw's indices, vertices or quads it is, or of the polygons' corners, rings or polygons,
-                      * from 0: the cause says of which. TRIRAST_NONE if it is none */
+    size_t element;  /* which one of the draw's indices, vertices or quads it is, or of the polygons' corners, rings or
+                      * polygons, from 0: the cause says of which. TRIRAST_NONE if it is none */
     size_t value;    /* the index itself if the cause is TRIRAST_BATCH_BAD_INDEX, else TRIRAST_NONE */
 } trirast_error;
 
@@ -340,22 +353,25 @@ typedef struct trirast_draw {
 /* Draws with their vertices and indices. If draw_count is 0, they are one draw of {0} with all vertices and indices. */
 typedef struct trirast_batch {
     uint32_t struct_size;   /* 0 or sizeof(trirast_batch) */
-    uint32_t vertex_stride; /* bytes from a vertex to the next, a multiple of 4 from 16 to TRIRAST_MAX_STRIDE; 0 is 16 */
+    uint32_t vertex_stride; /* bytes from a vertex to the next, a multiple of 4 from 16 to
+                             * TRIRAST_MAX_STRIDE; 0 is 16 */
     uint32_t index_size;    /* bytes of an index: 2 or 4; 0 is 4 */
     const trirast_draw *draws; /* in the order in which they are drawn */
     size_t draw_count;
-    const void *vertices;   /* trirast_vertex, of all draws, one draw's after another's; aligned to 4. With a vertex_stride each lies
-                             * in the 16 bytes at its index times that, and nothing else is read */
+    const void *vertices;   /* trirast_vertex, of all draws, one draw's after another's; aligned to 4. With
+                             * a vertex_stride each lies in the 16 bytes at its index times that, and
+                             * nothing else is read */
     size_t vertex_count;
-    const void *indices;    /* uint32_t or uint16_t by index_size, of all draws, one draw's after another's; 0 is the first vertex of
-                             * the draw. NULL if there are none at all: each draw has its vertices in their order */
+    const void *indices;    /* uint32_t or uint16_t by index_size, of all draws, one draw's after another's; 0 is
+                             * the first vertex of the draw. NULL if there are none at all: each draw has its
+                             * vertices in their order */
     size_t index_count;
 } trirast_batch;
 
-/* If indices is NULL and index_count is 0, each draw is of its vertices in their order, and its own index_count has to be
- * 0: else it is TRIRAST_BATCH_TOO_FEW_INDICES. So whoever has indices, but in this batch none, as behind clipping, passes
- * a pointer that is not NULL, or no vertices: then nothing is drawn. A draw without indices in a batch that has some
- * draws nothing. */
+/* If indices is NULL and index_count is 0, each draw is of its vertices in their order, and its own index_count has to
+ * be 0: else it is TRIRAST_BATCH_TOO_FEW_INDICES. So whoever has indices, but in this batch none, as behind clipping,
+ * passes a pointer that is not NULL, or no vertices: then nothing is drawn. A draw without indices in a batch that has
+ * some draws nothing. */
 
 /* A batch as the functions that are proved take it. trirast_canvas_draw makes it of its caller's. */
 typedef struct trirast_proved_batch {
@@ -381,7 +397,8 @@ inline trirast_proved_batch trirast_proved_batch_of(const trirast_batch *batch) 
     const int is_packed = stride == 0 || stride == sizeof(trirast_vertex);
     const int is_strided = stride > sizeof(trirast_vertex) && stride <= TRIRAST_MAX_STRIDE && stride % 4 == 0;
     /* The last vertex has its 16 bytes, and none behind them. */
-    const size_t size = is_strided && batch->vertex_count ? (batch->vertex_count - 1) * stride + sizeof(trirast_vertex) : 0;
+    const size_t size =
+        is_strided && batch->vertex_count ? (batch->vertex_count - 1) * stride + sizeof(trirast_vertex) : 0;
     const trirast_proved_batch proved = {
         batch->struct_size, batch->vertex_stride, batch->index_size, batch->indices || batch->index_count ? 0u : 1u,
         batch->draws, batch->draw_count, is_packed ? batch->vertices : NULL, is_packed ? batch->vertex_count : 0,
@@ -413,20 +430,23 @@ typedef struct trirast_canvas {
     uint32_t height;      /* of the whole canvas, in pixels: 1 to 4096 */
     uint32_t samples;     /* samples of a pixel: 1, 2, 4, 8 or 16; 0 for 1 */
     uint32_t channels;    /* 3, without alpha; 0 for 3; 4, with alpha */
-    int32_t origin_x;     /* the pixel of the screen at which the upper left one of the canvas lies; 0, 0 without a window */
+    int32_t origin_x;     /* the pixel of the screen at which the upper left one of the canvas lies; 0,
+                           * 0 without a window */
     int32_t origin_y;
-    uint32_t first;       /* the first of these tile rows. trirast_canvas_init sets this and what follows, for the whole canvas */
+    uint32_t first;       /* the first of these tile rows. trirast_canvas_init sets this and what follows,
+                           * for the whole canvas */
     uint32_t end;         /* the tile row behind the last one */
-    void *memory;         /* the samples of these tile rows. Their layout is not specified. Clear them before the first draw: till
-                           * then they are unspecified */
+    void *memory;         /* the samples of these tile rows. Their layout is not specified. Clear them before the first
+                           * draw: till then they are unspecified */
     size_t plane_count;   /* the size of the memory in units of TRIRAST_PLANE_BYTES */
 } trirast_canvas;
 
 /* The numbers of samples that a pixel of a canvas may have, for messages. */
 #define TRIRAST_SAMPLE_COUNTS "1, 2, 4, 8 or 16"
 
-/* Where they lie, of the least number first: an array of structs {uint32_t samples; signed char places[16][2];} is set by
- * {TRIRAST_SAMPLE_PATTERNS}. A place is how far right of the pixel's centre and below it a sample lies, in 1/16 pixel. */
+/* Where they lie, of the least number first: an array of structs {uint32_t samples; signed char places[16][2];}
+ * is set by {TRIRAST_SAMPLE_PATTERNS}. A place is how far right of the pixel's centre and below it a sample
+ * lies, in 1/16 pixel. */
 #define TRIRAST_SAMPLE_PATTERNS \
     {1, {{0, 0}}}, {2, {{4, 4}, {-4, -4}}}, {4, {{-2, -6}, {6, -2}, {-6, 2}, {2, 6}}}, \
     {8, {{1, -3}, {-1, 3}, {5, 1}, {-3, -5}, {-5, 5}, {-7, -1}, {3, 7}, {7, -7}}}, \
@@ -436,8 +456,8 @@ typedef struct trirast_canvas {
 /* The width and height of a tile of a canvas, in pixels. */
 #define TRIRAST_TILE_SIZE 64
 
-/* Bytes of one sample index over a block of 8 by 8 pixels, 64 samples of 6 bytes: the unit of a canvas's memory. A canvas
- * without alpha has room for it too, which is 255 once it was cleared or loaded. */
+/* Bytes of one sample index over a block of 8 by 8 pixels, 64 samples of 6 bytes: the unit of a canvas's memory. A
+ * canvas without alpha has room for it too, which is 255 once it was cleared or loaded. */
 #define TRIRAST_PLANE_BYTES 384
 
 /* Returns the bytes of the samples of a whole canvas, by struct_size, width, height, samples and channels alone.
@@ -470,9 +490,10 @@ inline trirast_status trirast_canvas_init(trirast_canvas *canvas, void *memory, 
 }
 
 /* Checks of every call on a canvas, of which the first that fails is reported: TRIRAST_STATUS_BAD_STRUCT_SIZE,
- * TRIRAST_STATUS_BAD_CANVAS, TRIRAST_STATUS_BAD_TILE_ROWS if first is greater than end, or end is greater than the
- * number of tile rows, TRIRAST_STATUS_BAD_MEMORY if plane_count is not exactly as great as these tile rows need. Then
- * come those that the call's own text names. `first` may be `end`: then there are no samples, and memory may be NULL. */
+ * TRIRAST_STATUS_BAD_CANVAS, TRIRAST_STATUS_BAD_TILE_ROWS if first is greater than end, or end is greater than
+ * the number of tile rows, TRIRAST_STATUS_BAD_MEMORY if plane_count is not exactly as great as these tile rows
+ * need. Then come those that the call's own text names. `first` may be `end`: then there are no samples, and
+ * memory may be NULL. */
 
 /* Makes a struct for some of the tile rows of another. The piece has no memory of its own: it is a part of the whole's.
  *
@@ -483,11 +504,13 @@ inline trirast_status trirast_canvas_init(trirast_canvas *canvas, void *memory, 
  * Returns TRIRAST_STATUS_OK; TRIRAST_STATUS_BAD_CANVAS if there is no such canvas or its struct_size is wrong;
  * TRIRAST_STATUS_BAD_TILE_ROWS if the whole lacks one of the tile rows; or TRIRAST_STATUS_BAD_MEMORY, also if the
  * memory of the whole is NULL or not aligned to 2, which no other call can see. */
-inline trirast_status trirast_canvas_split(const trirast_canvas *whole, uint32_t first, uint32_t end, trirast_canvas *piece) {
+inline trirast_status trirast_canvas_split(const trirast_canvas *whole, uint32_t first, uint32_t end,
+                                           trirast_canvas *piece) {
     const uint32_t rows = trirast_canvas_tile_rows(whole);
     size_t row; /* planes of a tile row */
     if (rows == 0) return TRIRAST_STATUS_BAD_CANVAS;
-    if (first < whole->first || first > end || end > whole->end || whole->end > rows) return TRIRAST_STATUS_BAD_TILE_ROWS;
+    if (first < whole->first || first > end || end > whole->end || whole->end > rows)
+        return TRIRAST_STATUS_BAD_TILE_ROWS;
     row = trirast_canvas_size(whole) / TRIRAST_PLANE_BYTES / rows;
     if (whole->plane_count != (whole->end - whole->first) * row) return TRIRAST_STATUS_BAD_MEMORY;
     if (row != 0 && whole->plane_count != 0 && (!whole->memory || (uintptr_t)whole->memory % 2 != 0))
@@ -530,11 +553,11 @@ inline trirast_status trirast_canvas_clear(trirast_canvas *canvas, const trirast
  * when they are loaded, so that a canvas that was cleared to 0, 0, 0 and alpha 0, and drawn on with TRIRAST_BLEND_OVER
  * or TRIRAST_BLEND_PREMULTIPLIED, is the picture of what was drawn, without a background. A channel c with alpha a is
  * written as 0 where a is 0, else as the q with a q <= 255 c + a / 2 < a (q + 1), of which a / 2 is rounded down, or as
- * 255 if that is less; and it is loaded as the q with 255 q <= c a + 127 < 255 (q + 1). What was written of colours that
- * are at most alpha, is loaded as it was stored.
+ * 255 if that is less; and it is loaded as the q with 255 q <= c a + 127 < 255 (q + 1). What was written of colours
+ * that are at most alpha, is loaded as it was stored.
  *
- * A canvas without alpha has 255 there since it was cleared or loaded, which is written, and alpha that is loaded is not
- * stored. A picture in RGB8 is loaded with alpha 255. */
+ * A canvas without alpha has 255 there since it was cleared or loaded, which is written, and alpha that is loaded is
+ * not stored. A picture in RGB8 is loaded with alpha 255. */
 typedef enum trirast_format {
     TRIRAST_FORMAT_RGB8 = 0,
     TRIRAST_FORMAT_RGBA8 = 1,
@@ -562,7 +585,8 @@ typedef enum trirast_format {
 trirast_status trirast_canvas_load(trirast_canvas *canvas, trirast_format format, const void *pixels, size_t size,
                                    size_t stride);
 
-trirast_status trirast_proved_canvas_draw(trirast_canvas *canvas, const trirast_proved_batch *batch, trirast_error *error);
+trirast_status trirast_proved_canvas_draw(trirast_canvas *canvas, const trirast_proved_batch *batch,
+                                          trirast_error *error);
 
 /* Draws a batch over what is stored: each sample ends as the batch's triangles make it, one after another, in the order
  * in which they stand. So a picture does not depend on the batches into which its triangles are split.
@@ -575,11 +599,11 @@ trirast_status trirast_proved_canvas_draw(trirast_canvas *canvas, const trirast_
  * @error: why nothing was drawn, or NULL.
  *
  * Returns TRIRAST_STATUS_OK; or the first check that fails, then TRIRAST_STATUS_BAD_STRUCT_SIZE of the batch, then
- * TRIRAST_STATUS_BAD_STRIDE by its vertex_stride, then TRIRAST_STATUS_BAD_INDEX_SIZE, then TRIRAST_STATUS_BAD_BATCH with
- * the first error of the first draw that has one:
+ * TRIRAST_STATUS_BAD_STRIDE by its vertex_stride, then TRIRAST_STATUS_BAD_INDEX_SIZE, then TRIRAST_STATUS_BAD_BATCH
+ * with the first error of the first draw that has one:
  * - TRIRAST_BATCH_TOO_FEW_VERTICES or TRIRAST_BATCH_TOO_FEW_INDICES if fewer are left than the draw has;
- * - TRIRAST_BATCH_BAD_TOPOLOGY, _CULL, _DEPTH_TEST, _DEPTH_WRITE, _KEEP, _SCISSOR_ENABLE, _FACTOR or _OPERATION, in this
- *   order, if that number of the draw is outside of its range;
+ * - TRIRAST_BATCH_BAD_TOPOLOGY, _CULL, _DEPTH_TEST, _DEPTH_WRITE, _KEEP, _SCISSOR_ENABLE, _FACTOR or _OPERATION, in
+ *   this order, if that number of the draw is outside of its range;
  * - TRIRAST_BATCH_NOT_WHOLE if its indices, or without any its vertices, make no whole triangles or quads;
  * - TRIRAST_BATCH_TOO_MANY_IDS if the id of a triangle would be greater than 16,777,215, or first_id is greater than
  *   16,777,216 (trirast_canvas_draw_ids alone);
@@ -594,8 +618,8 @@ inline trirast_status trirast_canvas_draw(trirast_canvas *canvas, const trirast_
     return trirast_proved_canvas_draw(canvas, &proved, error ? error : &unread);
 }
 
-trirast_status trirast_proved_canvas_draw_ids(trirast_canvas *canvas, const trirast_proved_batch *batch, uint32_t first_id,
-                                              trirast_error *error);
+trirast_status trirast_proved_canvas_draw_ids(trirast_canvas *canvas, const trirast_proved_batch *batch,
+                                              uint32_t first_id, trirast_error *error);
 
 /* Draws a batch over what is stored, with the id of each triangle in place of a colour: first_id and its index in the
  * batch, counted over all draws. Ids are written unblended, whatever channels a draw keeps; the alpha of a canvas that
@@ -647,8 +671,9 @@ typedef struct trirast_polygons {
     size_t color_count;
     const uint16_t *depths;         /* of each polygon its depth; NULL with depth_count 0: 0 */
     size_t depth_count;
-    trirast_draw state;             /* how they are drawn. Its vertex_count and index_count are not looked at. Its topology and cull
-                                     * have to be in range and change nothing: a polygon may run either way round */
+    trirast_draw state;             /* how they are drawn. Its vertex_count and index_count are not looked at.
+                                     * Its topology and cull have to be in range and change nothing: a polygon
+                                     * may run either way round */
 } trirast_polygons;
 
 /* Scratch memory of a column of 8 pixels of a canvas, in bytes: its flags, and by the nonzero rule its counters. */
@@ -659,19 +684,22 @@ typedef struct trirast_polygons {
  * its width, rounded up to whole tiles, 256 bytes by the even-odd rule, and 8,448 by the nonzero rule. So that is 32 KB
  * or 1 MB for 1,024 pixels. Returns 0 if there is no such canvas. */
 inline size_t trirast_polygons_scratch(const trirast_canvas *canvas, trirast_fill_rule fill_rule) {
-    const size_t columns = ((size_t)canvas->width + TRIRAST_TILE_SIZE - 1) / TRIRAST_TILE_SIZE * (TRIRAST_TILE_SIZE / 8);
+    const size_t columns =
+        ((size_t)canvas->width + TRIRAST_TILE_SIZE - 1) / TRIRAST_TILE_SIZE * (TRIRAST_TILE_SIZE / 8);
     if (trirast_canvas_size(canvas) == 0) return 0;
-    return columns * (fill_rule == TRIRAST_FILL_EVEN_ODD ? TRIRAST_FLAGS_BYTES : TRIRAST_FLAGS_BYTES + TRIRAST_COUNTERS_BYTES);
+    return columns *
+           (fill_rule == TRIRAST_FILL_EVEN_ODD ? TRIRAST_FLAGS_BYTES : TRIRAST_FLAGS_BYTES + TRIRAST_COUNTERS_BYTES);
 }
 
-trirast_status trirast_proved_canvas_draw_polygons(trirast_canvas *canvas, const trirast_polygons *polygons, void *flags,
-                                                   size_t flag_columns, void *counters, size_t counter_columns,
-                                                   trirast_error *error);
+trirast_status trirast_proved_canvas_draw_polygons(trirast_canvas *canvas, const trirast_polygons *polygons,
+                                                   void *flags, size_t flag_columns, void *counters,
+                                                   size_t counter_columns, trirast_error *error);
 
 /* Draws polygons over what is stored: each sample ends as the polygons make it, one after another, in their order. A
  * polygon makes of a sample that it covers what a triangle of one colour and one depth does in this state.
  *
- * @canvas: the tile rows. Threads may draw the same polygons on pieces of a canvas, each with scratch memory of its own.
+ * @canvas: the tile rows. Threads may draw the same polygons on pieces of a canvas, each with scratch
+ * memory of its own.
  * @polygons: what is drawn on them.
  * @scratch: memory that the call uses, aligned to 8. What is in it before does not matter. After TRIRAST_STATUS_OK its
  *     first trirast_polygons_scratch(canvas, polygons->fill_rule) bytes are zeros; otherwise it is unchanged.
@@ -694,10 +722,11 @@ trirast_status trirast_proved_canvas_draw_polygons(trirast_canvas *canvas, const
  * - TRIRAST_BATCH_TOO_MANY_IDS if the id of a polygon would be greater than 16,777,215, or first_id is greater than
  *   16,777,216 (trirast_canvas_draw_polygon_ids alone);
  * - TRIRAST_BATCH_TOO_FEW_DEPTHS if there are depths, but fewer than polygons. */
-inline trirast_status trirast_canvas_draw_polygons(trirast_canvas *canvas, const trirast_polygons *polygons, void *scratch,
-                                                   size_t scratch_size, trirast_error *error) {
+inline trirast_status trirast_canvas_draw_polygons(trirast_canvas *canvas, const trirast_polygons *polygons,
+                                                   void *scratch, size_t scratch_size, trirast_error *error) {
     const size_t columns = trirast_polygons_scratch(canvas, TRIRAST_FILL_EVEN_ODD) / TRIRAST_FLAGS_BYTES;
-    const int fits = (uintptr_t)scratch % 8 == 0 && scratch_size >= trirast_polygons_scratch(canvas, (trirast_fill_rule)polygons->fill_rule);
+    const int fits = (uintptr_t)scratch % 8 == 0 &&
+                     scratch_size >= trirast_polygons_scratch(canvas, (trirast_fill_rule)polygons->fill_rule);
     const size_t counters = fits && polygons->fill_rule != TRIRAST_FILL_EVEN_ODD ? columns : 0;
     /* Scratch memory of no bytes may be NULL, to which nothing is added. */
     void *behind = fits && columns ? (unsigned char *)scratch + columns * TRIRAST_FLAGS_BYTES : scratch;
@@ -707,8 +736,8 @@ inline trirast_status trirast_canvas_draw_polygons(trirast_canvas *canvas, const
 }
 
 trirast_status trirast_proved_canvas_draw_polygon_ids(trirast_canvas *canvas, const trirast_polygons *polygons,
-                                                      uint32_t first_id, void *flags, size_t flag_columns, void *counters,
-                                                      size_t counter_columns, trirast_error *error);
+                                                      uint32_t first_id, void *flags, size_t flag_columns,
+                                                      void *counters, size_t counter_columns, trirast_error *error);
 
 /* Draws polygons over what is stored, with the id of each in place of a colour: first_id and its index. What the state
  * keeps and its blending are not used.
@@ -717,16 +746,18 @@ trirast_status trirast_proved_canvas_draw_polygon_ids(trirast_canvas *canvas, co
  * @first_id: the id of the first polygon.
  *
  * Returns what trirast_canvas_draw_polygons returns. */
-inline trirast_status trirast_canvas_draw_polygon_ids(trirast_canvas *canvas, const trirast_polygons *polygons, uint32_t first_id,
-                                                      void *scratch, size_t scratch_size, trirast_error *error) {
+inline trirast_status trirast_canvas_draw_polygon_ids(trirast_canvas *canvas, const trirast_polygons *polygons,
+                                                      uint32_t first_id, void *scratch, size_t scratch_size,
+                                                      trirast_error *error) {
     const size_t columns = trirast_polygons_scratch(canvas, TRIRAST_FILL_EVEN_ODD) / TRIRAST_FLAGS_BYTES;
-    const int fits = (uintptr_t)scratch % 8 == 0 && scratch_size >= trirast_polygons_scratch(canvas, (trirast_fill_rule)polygons->fill_rule);
+    const int fits = (uintptr_t)scratch % 8 == 0 &&
+                     scratch_size >= trirast_polygons_scratch(canvas, (trirast_fill_rule)polygons->fill_rule);
     const size_t counters = fits && polygons->fill_rule != TRIRAST_FILL_EVEN_ODD ? columns : 0;
     /* Scratch memory of no bytes may be NULL, to which nothing is added. */
     void *behind = fits && columns ? (unsigned char *)scratch + columns * TRIRAST_FLAGS_BYTES : scratch;
     trirast_error unread;
-    return trirast_proved_canvas_draw_polygon_ids(canvas, polygons, first_id, scratch, fits ? columns : 0, behind, counters,
-                                                  error ? error : &unread);
+    return trirast_proved_canvas_draw_polygon_ids(canvas, polygons, first_id, scratch, fits ? columns : 0, behind,
+                                                  counters, error ? error : &unread);
 }
 
 /* Writes the colour of each pixel: each channel is the mean of its samples, rounded to the nearest, halves up. Bytes
@@ -755,21 +786,22 @@ trirast_status trirast_canvas_resolve(const trirast_canvas *canvas, trirast_form
 trirast_status trirast_canvas_depths(const trirast_canvas *canvas, uint32_t sample, uint16_t *depths, size_t count,
                                      size_t stride);
 
-/* Writes the id of one sample of each pixel: its red + 256 * green + 65536 * blue. Entries between the rows of pixels are
- * unchanged.
+/* Writes the id of one sample of each pixel: its red + 256 * green + 65536 * blue. Entries between the rows of
+ * pixels are unchanged.
  *
  * @canvas, @sample, @count, @stride: as for trirast_canvas_depths.
  * @ids: where that of the first pixel of the first row of pixels of these tile rows goes.
  *
  * Returns what trirast_canvas_depths returns. */
-trirast_status trirast_canvas_ids(const trirast_canvas *canvas, uint32_t sample, uint32_t *ids, size_t count, size_t stride);
+trirast_status trirast_canvas_ids(const trirast_canvas *canvas, uint32_t sample, uint32_t *ids, size_t count,
+                                  size_t stride);
 
 /* ---- The colours of samples, to be shaded ---- */
 
 /* A caller who draws ids can shade what is seen, and put colours in their place: trirast_canvas_draw_ids, then for each
  * tile trirast_canvas_tile_ids, colours of the caller's own, and trirast_canvas_tile_store. Depths stay, so more can be
- * drawn over it, and trirast_canvas_resolve gives the picture. By trirast_canvas_ids and trirast_canvas_store it does so
- * for one sample index of all pixels at a time.
+ * drawn over it, and trirast_canvas_resolve gives the picture. By trirast_canvas_ids and trirast_canvas_store it does
+ * so for one sample index of all pixels at a time.
  *
  * trirast_canvas_colors and trirast_canvas_tile_ids only read samples, and the other two change them: what the comment
  * of trirast_canvas says of threads holds for them too. */
@@ -785,13 +817,13 @@ trirast_status trirast_canvas_ids(const trirast_canvas *canvas, uint32_t sample,
  *     these.
  *
  * Returns TRIRAST_STATUS_OK; or the first check that fails, then TRIRAST_STATUS_BAD_FORMAT, then
- * TRIRAST_STATUS_BAD_SAMPLE, then TRIRAST_STATUS_BUFFER_TOO_SMALL if the stride is less than a row of pixels, or the last
- * row of pixels ends behind size. */
+ * TRIRAST_STATUS_BAD_SAMPLE, then TRIRAST_STATUS_BUFFER_TOO_SMALL if the stride is less than a row of pixels, or the
+ * last row of pixels ends behind size. */
 trirast_status trirast_canvas_colors(const trirast_canvas *canvas, uint32_t sample, trirast_format format, void *pixels,
                                      size_t size, size_t stride);
 
-/* Makes a picture the colour of one sample of its pixels, whose alpha is 255 on a canvas without alpha. Depths and other
- * samples are unchanged. What trirast_canvas_colors then writes are the same colours.
+/* Makes a picture the colour of one sample of its pixels, whose alpha is 255 on a canvas without alpha. Depths and
+ * other samples are unchanged. What trirast_canvas_colors then writes are the same colours.
  *
  * @canvas, @sample, @format, @size, @stride: as for trirast_canvas_colors.
  * @pixels: the first pixel of the first row of pixels of these tile rows.
@@ -806,8 +838,8 @@ trirast_status trirast_canvas_store(trirast_canvas *canvas, uint32_t sample, tri
 #define TRIRAST_TILE_ENTRIES(samples) (4096 * (size_t)(samples))
 
 /* Writes the ids of all samples of one tile, red + 256 * green + 65536 * blue each, those of pixels beside the picture
- * too. Of a tile that is unchanged since it was cleared one entry is written, which is the id of all of its samples, and
- * the others are unchanged.
+ * too. Of a tile that is unchanged since it was cleared one entry is written, which is the id of all of its samples,
+ * and the others are unchanged.
  *
  * @canvas: the tile rows.
  * @column: of tiles, from 0 at the left: less than width / TRIRAST_TILE_SIZE, rounded up.
@@ -911,7 +943,8 @@ typedef struct trirast_image_info {
     uint64_t file_bytes;   /* bytes of the whole file */
 } trirast_image_info;
 
-trirast_status trirast_proved_list_info(const char *json, size_t json_len, trirast_image_info *info, trirast_error *error);
+trirast_status trirast_proved_list_info(const char *json, size_t json_len, trirast_image_info *info,
+                                        trirast_error *error);
 
 /* Reads a draw list, and writes the size of its picture. Nothing is drawn.
  *
@@ -922,14 +955,15 @@ trirast_status trirast_proved_list_info(const char *json, size_t json_len, trira
  *
  * Returns TRIRAST_STATUS_OK; TRIRAST_STATUS_INPUT_TOO_LONG if the list is too long; TRIRAST_STATUS_BAD_LIST if the
  * bytes are no draw list; or TRIRAST_STATUS_OUT_OF_MEMORY if an allocation fails. */
-inline trirast_status trirast_list_info(const char *json, size_t json_len, trirast_image_info *info, trirast_error *error) {
+inline trirast_status trirast_list_info(const char *json, size_t json_len, trirast_image_info *info,
+                                        trirast_error *error) {
     trirast_image_info unread;
     trirast_error unread_error;
     return trirast_proved_list_info(json, json_len, info ? info : &unread, error ? error : &unread_error);
 }
 
-trirast_status trirast_proved_list_draw(const char *json, size_t json_len, uint32_t tile_size, uint8_t *buffer, size_t buffer_size,
-                                        trirast_error *error);
+trirast_status trirast_proved_list_draw(const char *json, size_t json_len, uint32_t tile_size, uint8_t *buffer,
+                                        size_t buffer_size, trirast_error *error);
 
 /* Draws the picture of a draw list, and writes its file, header and pixels, at the beginning of the buffer.
  *
@@ -945,14 +979,14 @@ trirast_status trirast_proved_list_draw(const char *json, size_t json_len, uint3
  * TRIRAST_STATUS_INPUT_TOO_LONG if the list is too long; TRIRAST_STATUS_BAD_LIST if the bytes are no draw list;
  * TRIRAST_STATUS_BUFFER_TOO_SMALL if the file has more than buffer_size bytes; or TRIRAST_STATUS_OUT_OF_MEMORY if an
  * allocation fails. */
-inline trirast_status trirast_list_draw(const char *json, size_t json_len, uint32_t tile_size, uint8_t *buffer, size_t buffer_size,
-                                        trirast_error *error) {
+inline trirast_status trirast_list_draw(const char *json, size_t json_len, uint32_t tile_size, uint8_t *buffer,
+                                        size_t buffer_size, trirast_error *error) {
     trirast_error unread;
     return trirast_proved_list_draw(json, json_len, tile_size, buffer, buffer_size, error ? error : &unread);
 }
 
-trirast_status trirast_proved_list_draw_rows(const char *json, size_t json_len, uint32_t tile_size, uint32_t first, uint32_t end,
-                                             uint8_t *buffer, size_t buffer_size, trirast_error *error);
+trirast_status trirast_proved_list_draw_rows(const char *json, size_t json_len, uint32_t tile_size, uint32_t first,
+                                             uint32_t end, uint8_t *buffer, size_t buffer_size, trirast_error *error);
 
 /* Draws some tile rows of the picture of a draw list, and writes their rows of pixels, without a header, at the
  * beginning of the buffer.
@@ -977,10 +1011,11 @@ trirast_status trirast_proved_list_draw_rows(const char *json, size_t json_len, 
  * TRIRAST_STATUS_BAD_TILE_ROWS if first is not less than end, or end is greater than the number of tile rows;
  * TRIRAST_STATUS_BUFFER_TOO_SMALL if the rows of pixels have more than buffer_size bytes; or
  * TRIRAST_STATUS_OUT_OF_MEMORY if an allocation fails. */
-inline trirast_status trirast_list_draw_rows(const char *json, size_t json_len, uint32_t tile_size, uint32_t first, uint32_t end,
-                                             uint8_t *buffer, size_t buffer_size, trirast_error *error) {
+inline trirast_status trirast_list_draw_rows(const char *json, size_t json_len, uint32_t tile_size, uint32_t first,
+                                             uint32_t end, uint8_t *buffer, size_t buffer_size, trirast_error *error) {
     trirast_error unread;
-    return trirast_proved_list_draw_rows(json, json_len, tile_size, first, end, buffer, buffer_size, error ? error : &unread);
+    return trirast_proved_list_draw_rows(json, json_len, tile_size, first, end, buffer, buffer_size,
+                                         error ? error : &unread);
 }
 
 /* What a picture shows. */
@@ -1019,7 +1054,8 @@ typedef enum trirast_result {
 typedef enum trirast_reason {
     TRIRAST_REASON_CULLED = 1,
     TRIRAST_REASON_ZERO_AREA = 2,
-    TRIRAST_REASON_NOT_COVERED = 4,     /* the sample fails the top-left rule at an edge: failure_ab, failure_bc, failure_ca */
+    TRIRAST_REASON_NOT_COVERED = 4,     /* the sample fails the top-left rule at an edge: failure_ab,
+                                         * failure_bc, failure_ca */
     TRIRAST_REASON_OUTSIDE_SCISSOR = 8, /* the pixel is outside of the scissor */
     TRIRAST_REASON_MASKED = 16,         /* the sample's bit in the sample mask is 0 */
     TRIRAST_REASON_DEPTH_FAILED = 32    /* the triangle covers the sample with a fragment that fails the depth test */
@@ -1027,7 +1063,8 @@ typedef enum trirast_reason {
 
 /* How a sample fails the top-left rule at an edge. */
 typedef enum trirast_failure {
-    TRIRAST_FAILURE_NONE = 0,    /* it passes; or the triangle has zero area, and the sample is not on the edge's line */
+    TRIRAST_FAILURE_NONE = 0,    /* it passes; or the triangle has zero area, and the sample is not on
+                                  * the edge's line */
     TRIRAST_FAILURE_OUTSIDE = 1, /* the signs of the edge function and of the doubled area are opposite */
     TRIRAST_FAILURE_ON_EDGE = 2  /* the edge function is zero, and the edge is neither a top nor a left edge */
 } trirast_failure;
@@ -1048,7 +1085,8 @@ typedef struct trirast_event {
     int64_t edge_ca;
     size_t number;             /* of the triangle in draw order, from 0 */
     size_t draw;               /* the index of its draw, from 0 */
-    size_t triangle;           /* its number in the draw, from 0; a strip and quads count the triangles as which they are drawn */
+    size_t triangle;           /* its number in the draw, from 0; a strip and quads count the triangles as
+                                * which they are drawn */
     uint32_t failure_ab;       /* a trirast_failure at the edge from a to b */
     uint32_t failure_bc;
     uint32_t failure_ca;
@@ -1084,7 +1122,8 @@ typedef struct trirast_history_request {
 } trirast_history_request;
 
 trirast_status trirast_proved_list_history(const char *json, size_t json_len, const trirast_history_request *request,
-                                           trirast_event *events, size_t capacity, trirast_sample_info *info, trirast_error *error);
+                                           trirast_event *events, size_t capacity, trirast_sample_info *info,
+                                           trirast_error *error);
 
 /* Writes the history of a sample of a draw list's picture: an event for each triangle, in draw order, at the beginning
  * of the array, as many as it holds. Nothing is drawn.
@@ -1105,7 +1144,8 @@ trirast_status trirast_proved_list_history(const char *json, size_t json_len, co
  * TRIRAST_STATUS_BAD_LIST if the bytes are no draw list; TRIRAST_STATUS_BAD_PIXEL if the picture has no such pixel;
  * TRIRAST_STATUS_BAD_SAMPLE if the pixel has no such sample; or TRIRAST_STATUS_OUT_OF_MEMORY if an allocation fails. */
 inline trirast_status trirast_list_history(const char *json, size_t json_len, const trirast_history_request *request,
-                                           trirast_event *events, size_t capacity, trirast_sample_info *info, trirast_error *error) {
+                                           trirast_event *events, size_t capacity, trirast_sample_info *info,
+                                           trirast_error *error) {
     trirast_sample_info unread;
     trirast_error unread_error;
     return trirast_proved_list_history(json, json_len, request, events, capacity, info ? info : &unread,

@@ -178,7 +178,8 @@ private:
 
     /* Moves a part behind the `cuts` and `triangles` that are in place, and counts it. `first` is its first cut. */
     void move(const Clipped::Part &part, std::size_t first, std::size_t &cuts, std::size_t &triangles) {
-        const std::size_t made = part.in_c.cut_count - first, begin = part.in_c.triangle_capacity - part.whole - more_of(part),
+        const std::size_t made = part.in_c.cut_count - first,
+                          begin = part.in_c.triangle_capacity - part.whole - more_of(part),
                           count = part.in_c.triangle_count - begin;
         if (begin != triangles) {
             std::copy_n(&out_.indices[3 * begin], 3 * count, &out_.indices[3 * triangles]);

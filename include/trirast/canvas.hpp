@@ -29,7 +29,8 @@ struct Freed {
 
 using Memory = std::unique_ptr<void, Freed>;
 
-/* Memory for samples. Each frame brings them from memory and back, so Linux is asked for large pages if they fill one. */
+/* Memory for samples. Each frame brings them from memory and back, so Linux is asked for large pages if
+ * they fill one. */
 inline Memory memory_for_samples(std::size_t bytes) {
     constexpr std::size_t cache_line = 64, large_page = std::size_t{1} << 21;
     const std::size_t alignment = bytes < large_page ? cache_line : large_page;
@@ -43,7 +44,8 @@ inline Memory memory_for_samples(std::size_t bytes) {
 
 }  // namespace detail
 
-/* A canvas that is to be made. With designated initializers of C++20: {.width = 640, .height = 480, .samples = 16, .alpha = true}. */
+/* A canvas that is to be made. With designated initializers of C++20: {.width = 640, .height = 480, .samples =
+ * 16, .alpha = true}. */
 struct CanvasOptions {
     std::uint32_t width = 0, height = 0; /* 1 to 4096 pixels each */
     std::uint32_t samples = 1;           /* of a pixel: one of TRIRAST_SAMPLE_COUNTS */
@@ -54,11 +56,12 @@ struct CanvasOptions {
 /* All tile rows of a canvas, with memory of its own. A canvas that was moved from has none, and its calls throw. */
 class Canvas : public TileRows {
 public:
-    /* Its samples are black with alpha 0, and as deep as can be. Throws Error, BAD_CANVAS, if there is no such canvas, and
-     * std::bad_alloc. */
+    /* Its samples are black with alpha 0, and as deep as can be. Throws Error, BAD_CANVAS, if there is no such canvas,
+     * and std::bad_alloc. */
     explicit Canvas(const CanvasOptions &options) {
         trirast_canvas canvas{};
-        canvas.width = options.width, canvas.height = options.height, canvas.samples = options.samples ? options.samples : 1;
+        canvas.width = options.width, canvas.height = options.height,
+        canvas.samples = options.samples ? options.samples : 1;
         canvas.channels = options.alpha ? 4 : 3, canvas.origin_x = options.origin.x, canvas.origin_y = options.origin.y;
         const std::size_t bytes = trirast_canvas_size(&canvas);
         if (bytes == 0) throw Error(TRIRAST_STATUS_BAD_CANVAS, detail::canvas_values(canvas));

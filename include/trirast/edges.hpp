@@ -20,7 +20,8 @@ inline std::vector<trirast_edges> edges_at(const trirast_corners &corners, Span<
         const trirast_corner own[] = {{corners.ax, corners.ay}, {corners.bx, corners.by}, {corners.cx, corners.cy}};
         const char names[] = "abc";
         for (int k = 0; k < 3; k++)
-            if (detail::is_far(own[k])) return std::string{"corner "} + names[k] + ": " + detail::position_values(own[k]);
+            if (detail::is_far(own[k]))
+                return std::string{"corner "} + names[k] + ": " + detail::position_values(own[k]);
         for (std::size_t k = 0; k < points.size(); k++)
             if (detail::is_far({points[k].x, points[k].y}))
                 return "point " + std::to_string(k) + ": " + detail::position_values({points[k].x, points[k].y});

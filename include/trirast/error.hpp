@@ -12,8 +12,8 @@
 
 namespace trirast {
 
-/* A call that failed. Its text is the message of trirast.h, as "draw 3: the indices make no whole triangles or quads", and behind a colon
- * the values that were passed and what they may be, as "no such sample: 0 to 3, and not 4". */
+/* A call that failed. Its text is the message of trirast.h, as "draw 3: the indices make no whole triangles or quads",
+ * and behind a colon the values that were passed and what they may be, as "no such sample: 0 to 3, and not 4". */
 class Error : public std::runtime_error {
 public:
     explicit Error(const trirast_error &error, const std::string &values = {})
@@ -35,8 +35,8 @@ public:
     /* The index of the draw in which the error is, if it is in one. */
     std::optional<std::size_t> draw() const noexcept { return index_of(error_.draw); }
 
-    /* Which one of the draw's own indices, vertices or quads is wrong, or which ring, polygon or corner, if it is one. trirast_batch_cause
-     * has what each cause names. */
+    /* Which one of the draw's own indices, vertices or quads is wrong, or which ring, polygon or corner, if it is one.
+     * trirast_batch_cause has what each cause names. */
     std::optional<std::size_t> element() const noexcept { return index_of(error_.element); }
 
     /* The index itself, if an index is wrong. */

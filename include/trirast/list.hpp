@@ -65,7 +65,8 @@ inline void list_draw_rows(std::string_view list, std::uint32_t first, std::uint
                            std::uint32_t tile_size = 32) {
     detail::check_call(
         [&](trirast_error *error) {
-            return trirast_list_draw_rows(list.data(), list.size(), tile_size, first, end, buffer.data(), buffer.size(), error);
+            return trirast_list_draw_rows(list.data(), list.size(), tile_size, first, end, buffer.data(), buffer.size(),
+                                          error);
         },
         detail::ListValues{list, tile_size, 0, 0, buffer.size()});
 }
@@ -77,12 +78,14 @@ struct History {
 };
 
 /* The history of a sample: an event for each triangle that covers it, or with `all` for each triangle. */
-inline History list_history(std::string_view list, std::uint32_t x, std::uint32_t y, std::uint32_t sample = 0, bool all = false) {
+inline History list_history(std::string_view list, std::uint32_t x, std::uint32_t y, std::uint32_t sample = 0,
+                            bool all = false) {
     trirast_history_request request{};
     request.x = x, request.y = y, request.sample = sample, request.all = all ? 1 : 0;
     History found{};
     const auto ask = [&](trirast_error *error) {
-        return trirast_list_history(list.data(), list.size(), &request, found.events.data(), found.events.size(), &found.info, error);
+        return trirast_list_history(list.data(), list.size(), &request, found.events.data(), found.events.size(),
+                                    &found.info, error);
     };
     detail::check_call(ask, detail::ListValues{list, 0, x, y});
     found.events.resize(found.info.event_count);

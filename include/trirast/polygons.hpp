@@ -14,7 +14,8 @@ namespace trirast {
 /* Red, green, blue and alpha. */
 using Rgba = std::array<std::uint8_t, 4>;
 
-/* Polygons in flat arrays, as trirast_polygons has them: rings of corners, each polygon in one colour and at one depth. */
+/* Polygons in flat arrays, as trirast_polygons has them: rings of corners, each polygon in one colour
+ * and at one depth. */
 struct Polygons {
     Span<const trirast_corner> corners = {};      /* of all rings, one ring's after another's */
     Span<const std::uint32_t> ring_ends = {};     /* of each ring the index behind its last corner */
@@ -33,7 +34,8 @@ inline trirast_polygons polygons_in_c(const Polygons &polygons, const State &sta
     found.corners = polygons.corners.data(), found.corner_count = polygons.corners.size();
     found.ring_ends = polygons.ring_ends.data(), found.ring_count = polygons.ring_ends.size();
     found.polygon_ends = polygons.polygon_ends.data(), found.polygon_count = polygons.polygon_ends.size();
-    found.colors = reinterpret_cast<const std::uint8_t (*)[4]>(polygons.colors.data()), found.color_count = polygons.colors.size();
+    found.colors = reinterpret_cast<const std::uint8_t(*)[4]>(polygons.colors.data()),
+    found.color_count = polygons.colors.size();
     found.depths = polygons.depths.data(), found.depth_count = polygons.depths.size();
     found.state = draw_in_c(state);
     return found;

@@ -10,8 +10,8 @@ namespace trirast {
 
 namespace detail {
 
-/* Is a type if a pointer is to elements of type T, or of T without const. A pointer to a struct that is derived from T is not: its
- * elements are larger. */
+/* Is a type if a pointer is to elements of type T, or of T without const. A pointer to a struct that is derived from T
+ * is not: its elements are larger. */
 template <class Pointer, class T>
 using IfElements = std::enable_if_t<std::is_convertible_v<std::remove_pointer_t<Pointer> (*)[], T (*)[]>>;
 
@@ -20,8 +20,8 @@ using DataOf = decltype(std::declval<C &>().data());
 
 }  // namespace detail
 
-/* Elements one after another in memory that another object owns. It takes a std::span of C++20 and becomes one, and is the same type
- * in code for C++17. */
+/* Elements one after another in memory that another object owns. It takes a std::span of C++20 and becomes one, and is
+ * the same type in code for C++17. */
 template <class T>
 class Span {
 public:
@@ -35,7 +35,8 @@ public:
 
     /* The elements of a container that has data() and size(), as std::vector and std::array. */
     template <class C, class = detail::IfElements<detail::DataOf<C>, T>>
-    constexpr Span(C &&container) noexcept : data_(container.data()), size_(static_cast<std::size_t>(container.size())) {}
+    constexpr Span(C &&container) noexcept
+        : data_(container.data()), size_(static_cast<std::size_t>(container.size())) {}
 
     constexpr T *data() const noexcept { return data_; }
     constexpr std::size_t size() const noexcept { return size_; }

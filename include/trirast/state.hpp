@@ -14,8 +14,8 @@
 
 namespace trirast {
 
-/* What each sample is cleared to: a colour, of 0 to 255 each, opaque unless alpha is said, and a depth. A canvas without alpha does not
- * look at alpha. */
+/* What each sample is cleared to: a colour, of 0 to 255 each, opaque unless alpha is said, and a depth. A canvas
+ * without alpha does not look at alpha. */
 struct Clear {
     std::uint8_t red = 0, green = 0, blue = 0, alpha = 255;
     std::uint16_t depth = 65535;
@@ -71,22 +71,24 @@ inline trirast_draw draw_in_c(const State &state) noexcept {
 
 }  // namespace detail
 
-/* Vertices, from a container or an array of trirast_vertex, of structs that are derived from it, or of structs of which it is a member:
- * Vertices(points, &Point::vertex). They are read where they lie. */
+/* Vertices, from a container or an array of trirast_vertex, of structs that are derived from it, or of structs of which
+ * it is a member: Vertices(points, &Point::vertex). They are read where they lie. */
 class Vertices {
 public:
     constexpr Vertices() noexcept = default;
 
-    template <class C, class T = detail::ElementOf<C>, class = std::enable_if_t<std::is_convertible_v<const T *, const trirast_vertex *>>>
-    constexpr Vertices(const C &container) noexcept : Vertices(std::data(container), static_cast<std::size_t>(std::size(container))) {}
+    template <class C, class T = detail::ElementOf<C>,
+              class = std::enable_if_t<std::is_convertible_v<const T *, const trirast_vertex *>>>
+    constexpr Vertices(const C &container) noexcept
+        : Vertices(std::data(container), static_cast<std::size_t>(std::size(container))) {}
 
     template <class T, class = std::enable_if_t<std::is_convertible_v<const T *, const trirast_vertex *>>>
     constexpr Vertices(const T *data, std::size_t size) noexcept : data_(data), size_(size), stride_(stride_of<T>()) {}
 
     template <class C, class T = detail::ElementOf<C>>
     constexpr Vertices(const C &container, trirast_vertex T::*member) noexcept
-        : data_(std::size(container) == 0 ? nullptr : &(std::data(container)->*member)), size_(static_cast<std::size_t>(std::size(container))),
-          stride_(stride_of<T>()) {}
+        : data_(std::size(container) == 0 ? nullptr : &(std::data(container)->*member)),
+          size_(static_cast<std::size_t>(std::size(container))), stride_(stride_of<T>()) {}
 
     /* The address of the first one, and the bytes from one to the next. */
     constexpr const trirast_vertex *data() const noexcept { return data_; }

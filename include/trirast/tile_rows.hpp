@@ -23,8 +23,9 @@ namespace trirast {
 
 class Canvas;
 
-/* Some tile rows of a canvas. The memory of their samples is the Canvas's, which has to outlive them. One thread at a time may use
- * them, and others may use tile rows of which these have none. They are moved and not copied, so that const ones stay as they are. */
+/* Some tile rows of a canvas. The memory of their samples is the Canvas's, which has to outlive them. One thread at a
+ * time may use them, and others may use tile rows of which these have none. They are moved and not copied, so that
+ * const ones stay as they are. */
 class TileRows {
 public:
     TileRows(const TileRows &) = delete;
@@ -79,8 +80,9 @@ public:
         return found;
     }
 
-    /* Splits these tile rows, calls work(part) once for each part, a TileRows &, on as many threads, of which the calling one is one,
-     * and waits for them. If a thread cannot be started, the calling one does its part. Throws what one of the calls has thrown. */
+    /* Splits these tile rows, calls work(part) once for each part, a TileRows &, on as many threads, of which the
+     * calling one is one, and waits for them. If a thread cannot be started, the calling one does its part. Throws what
+     * one of the calls has thrown. */
     template <class Work>
     void share(std::uint32_t threads, const Work &work) {
         std::vector<std::thread> started;
@@ -98,8 +100,9 @@ public:
         share(threads, work, start, wait);
     }
 
-    /* Splits these tile rows, and calls work(part) once for each part by an executor: start(task) runs a copy of a
-     * std::function<void()> now or later on any thread, and wait() waits until all of them have ended. Neither may throw. */
+    /* Splits these tile rows, and calls work(part) once for each part by an executor: start(task) runs a copy
+     * of a std::function<void()> now or later on any thread, and wait() waits until all of them have ended.
+     * Neither may throw. */
     template <class Work, class Start, class Wait>
     void share(std::uint32_t threads, const Work &work, const Start &start, const Wait &wait) {
         std::vector<TileRows> parts = split(threads);
@@ -126,11 +129,13 @@ public:
 
     void clear(const Clear &to) {
         trirast_clear clear{};
-        clear.red = to.red, clear.green = to.green, clear.blue = to.blue, clear.alpha = to.alpha, clear.depth = to.depth;
+        clear.red = to.red, clear.green = to.green, clear.blue = to.blue, clear.alpha = to.alpha,
+            clear.depth = to.depth;
         detail::check(trirast_canvas_clear(&rows_, &clear));
     }
 
-    /* Makes a picture the colour of all samples of its pixels. `stride` is in bytes, as in all calls; 0 is a row of pixels. */
+    /* Makes a picture the colour of all samples of its pixels. `stride` is in bytes, as in all calls; 0
+     * is a row of pixels. */
     void load(trirast_format format, Span<const std::uint8_t> pixels, std::size_t stride = 0) {
         detail::check(trirast_canvas_load(&rows_, format, pixels.data(), pixels.size(), stride),
                       detail::ImageValues{rows_, height(), format, pixels.size(), stride});
@@ -156,39 +161,45 @@ public:
         });
     }
 
-    void draw_ids(Vertices vertices, Indices indices, std::uint32_t first_id, const State &state = {}, std::uint32_t threads = 1) {
+    void draw_ids(Vertices vertices, Indices indices, std::uint32_t first_id, const State &state = {},
+                  std::uint32_t threads = 1) {
         const trirast_draw draw = draw_of(vertices, indices, state);
         draw_batch_ids(batch_of(draw, vertices, indices), first_id, threads);
     }
 
     void draw_batch_ids(const trirast_batch &batch, std::uint32_t first_id, std::uint32_t threads = 1) {
         each(threads, [&](TileRows &part) {
-            detail::check_call([&](trirast_error *error) { return trirast_canvas_draw_ids(&part.rows_, &batch, first_id, error); },
-                               detail::BatchValues{rows_, batch});
+            detail::check_call(
+                [&](trirast_error *error) { return trirast_canvas_draw_ids(&part.rows_, &batch, first_id, error); },
+                detail::BatchValues{rows_, batch});
         });
     }
 
-    /* Draws polygons, one after another, of whose state the topology and what is culled are not used. Scratch memory is allocated for
-     * each thread: 32 bytes for each pixel of the width, and 1,056 by the nonzero rule. */
+    /* Draws polygons, one after another, of whose state the topology and what is culled are not used. Scratch memory is
+     * allocated for each thread: 32 bytes for each pixel of the width, and 1,056 by the nonzero rule. */
     void draw_polygons(const Polygons &polygons, const State &state = {}, std::uint32_t threads = 1) {
         draw_polygons(detail::polygons_in_c(polygons, state), threads);
     }
 
     /* Draws polygons of C, whose arrays are as it says. */
     void draw_polygons(const trirast_polygons &polygons, std::uint32_t threads = 1) {
-        each_with_scratch(polygons, threads, [&polygons](TileRows &part, void *scratch, std::size_t size, trirast_error *error) {
-            return trirast_canvas_draw_polygons(&part.rows_, &polygons, scratch, size, error);
-        });
+        each_with_scratch(polygons, threads,
+                          [&polygons](TileRows &part, void *scratch, std::size_t size, trirast_error *error) {
+                              return trirast_canvas_draw_polygons(&part.rows_, &polygons, scratch, size, error);
+                          });
     }
 
-    void draw_polygon_ids(const Polygons &polygons, std::uint32_t first_id, const State &state = {}, std::uint32_t threads = 1) {
+    void draw_polygon_ids(const Polygons &polygons, std::uint32_t first_id, const State &state = {},
+                          std::uint32_t threads = 1) {
         draw_polygon_ids(detail::polygons_in_c(polygons, state), first_id, threads);
     }
 
     void draw_polygon_ids(const trirast_polygons &polygons, std::uint32_t first_id, std::uint32_t threads = 1) {
-        each_with_scratch(polygons, threads, [&polygons, first_id](TileRows &part, void *scratch, std::size_t size, trirast_error *error) {
-            return trirast_canvas_draw_polygon_ids(&part.rows_, &polygons, first_id, scratch, size, error);
-        });
+        each_with_scratch(polygons, threads,
+                          [&polygons, first_id](TileRows &part, void *scratch, std::size_t size, trirast_error *error) {
+                              return trirast_canvas_draw_polygon_ids(&part.rows_, &polygons, first_id, scratch, size,
+                                                                     error);
+                          });
     }
 
     void resolve(trirast_format format, Span<std::uint8_t> pixels, std::size_t stride = 0) const {
@@ -242,8 +253,8 @@ public:
     std::uint32_t tile_columns() const noexcept { return (rows_.width + TRIRAST_TILE_SIZE - 1) / TRIRAST_TILE_SIZE; }
     std::size_t tile_entries() const noexcept { return TRIRAST_TILE_ENTRIES(samples()); }
 
-    /* Writes the ids of all samples of one tile to tile_entries() entries. Returns those that were written: of a tile that is unchanged
-     * since it was cleared one, which is that of all of its samples. */
+    /* Writes the ids of all samples of one tile to tile_entries() entries. Returns those that were written: of a tile
+     * that is unchanged since it was cleared one, which is that of all of its samples. */
     Span<const std::uint32_t> tile_ids(std::uint32_t column, std::uint32_t row, Span<std::uint32_t> entries) const {
         std::uint32_t uniform = 0;
         detail::check(trirast_canvas_tile_ids(&rows_, column, row, entries.data(), entries.size(), &uniform),
@@ -251,8 +262,8 @@ public:
         return {entries.data(), uniform ? 1 : tile_entries()};
     }
 
-    /* Stores the colours of all samples of one tile, as tile_ids has written ids, or one colour for all of them. Depths and alpha
-     * stay. */
+    /* Stores the colours of all samples of one tile, as tile_ids has written ids, or one colour for all of them.
+     * Depths and alpha stay. */
     void tile_store(std::uint32_t column, std::uint32_t row, Span<const std::uint32_t> colors) {
         detail::check(trirast_canvas_tile_store(&rows_, column, row, colors.data(), colors.size()),
                       detail::TileValues{rows_, column, row, colors.size(), "1 or "});
@@ -271,7 +282,9 @@ private:
         return row < rows_.height ? row : rows_.height;
     }
 
-    std::size_t bytes_of(trirast_format format) const noexcept { return std::size_t{width()} * height() * detail::pixel_bytes(format); }
+    std::size_t bytes_of(trirast_format format) const noexcept {
+        return std::size_t{width()} * height() * detail::pixel_bytes(format);
+    }
 
     /* One call, also if there are no tile rows: it checks what is drawn. */
     template <class Work>
@@ -280,11 +293,12 @@ private:
         else work(*this);
     }
 
-    /* Makes a call on each part with scratch memory of its own. All of it is there before one part is drawn, so that nothing is changed
-     * if it is not. */
+    /* Makes a call on each part with scratch memory of its own. All of it is there before one part is drawn, so that
+     * nothing is changed if it is not. */
     template <class Call>
     void each_with_scratch(const trirast_polygons &polygons, std::uint32_t threads, const Call &call) {
-        const std::size_t words = trirast_polygons_scratch(&rows_, static_cast<trirast_fill_rule>(polygons.fill_rule)) / 8;
+        const std::size_t words =
+            trirast_polygons_scratch(&rows_, static_cast<trirast_fill_rule>(polygons.fill_rule)) / 8;
         const std::uint32_t parts = threads < end() - first() ? threads : end() - first();
         std::vector<std::uint64_t> scratch(words * (parts > 1 ? parts : 1));
         std::atomic<std::size_t> taken{0};
@@ -306,7 +320,8 @@ private:
     static trirast_batch batch_of(const trirast_draw &draw, Vertices vertices, Indices indices) noexcept {
         trirast_batch batch{};
         batch.draws = &draw, batch.draw_count = 1;
-        batch.vertices = vertices.data(), batch.vertex_count = draw.vertex_count, batch.vertex_stride = vertices.stride();
+        batch.vertices = vertices.data(), batch.vertex_count = draw.vertex_count,
+            batch.vertex_stride = vertices.stride();
         batch.indices = indices.data(), batch.index_count = indices.size(), batch.index_size = indices.bytes();
         return batch;
     }

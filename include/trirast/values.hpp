@@ -1,4 +1,5 @@
-/* What the message of an Error has behind the library's line, the values that were passed and what they may be: a part of trirast.hpp. */
+/* What the message of an Error has behind the library's line, the values that were passed and what they may be: a
+ * part of trirast.hpp. */
 #ifndef TRIRAST_VALUES_HPP
 #define TRIRAST_VALUES_HPP
 
@@ -15,16 +16,22 @@ namespace trirast {
 namespace detail {
 
 /* As "0 to 3, and not 4". */
-inline std::string refused(const std::string &wanted, const std::string &given) { return wanted + ", and not " + given; }
-inline std::string refused(const std::string &wanted, std::size_t given) { return refused(wanted, std::to_string(given)); }
+inline std::string refused(const std::string &wanted, const std::string &given) {
+    return wanted + ", and not " + given;
+}
+inline std::string refused(const std::string &wanted, std::size_t given) {
+    return refused(wanted, std::to_string(given));
+}
 
 inline std::string canvas_values(const trirast_canvas &canvas) {
     return refused("1 to 4096 pixels a side and " TRIRAST_SAMPLE_COUNTS " samples a pixel",
-                   std::to_string(canvas.width) + " by " + std::to_string(canvas.height) + " and " + std::to_string(canvas.samples));
+                   std::to_string(canvas.width) + " by " + std::to_string(canvas.height) + " and " +
+                       std::to_string(canvas.samples));
 }
 
 inline std::string tile_row_values(const trirast_canvas &rows, std::uint32_t first, std::uint32_t end) {
-    return refused(std::to_string(rows.first) + " to " + std::to_string(rows.end), std::to_string(first) + " to " + std::to_string(end));
+    return refused(std::to_string(rows.first) + " to " + std::to_string(rows.end),
+                   std::to_string(first) + " to " + std::to_string(end));
 }
 
 inline std::string sample_values(const trirast_canvas &rows, std::uint32_t sample) {
@@ -67,8 +74,11 @@ struct EntryValues {
 
     std::string operator()(trirast_status status) const {
         if (status == TRIRAST_STATUS_BAD_SAMPLE) return sample_values(rows, sample);
-        if (status == TRIRAST_STATUS_BAD_STRIDE) return refused("a multiple of " + std::to_string(bytes) + " bytes", stride);
-        return status == TRIRAST_STATUS_BUFFER_TOO_SMALL ? buffer_values(rows.width * bytes, height, count * bytes, stride) : std::string{};
+        if (status == TRIRAST_STATUS_BAD_STRIDE)
+            return refused("a multiple of " + std::to_string(bytes) + " bytes", stride);
+        return status == TRIRAST_STATUS_BUFFER_TOO_SMALL
+                   ? buffer_values(rows.width * bytes, height, count * bytes, stride)
+                   : std::string{};
     }
 };
 
@@ -83,7 +93,8 @@ struct TileValues {
         if (status == TRIRAST_STATUS_BUFFER_TOO_SMALL)
             return refused(also + std::to_string(TRIRAST_TILE_ENTRIES(rows.samples)) + " entries", count);
         if (status != TRIRAST_STATUS_BAD_TILE) return {};
-        const std::string columns = std::to_string((rows.width - 1) / TRIRAST_TILE_SIZE), last = std::to_string(std::int64_t{rows.end} - 1);
+        const std::string columns = std::to_string((rows.width - 1) / TRIRAST_TILE_SIZE),
+                          last = std::to_string(std::int64_t{rows.end} - 1);
         return refused("column 0 to " + columns + " and row " + std::to_string(rows.first) + " to " + last,
                        std::to_string(column) + " and " + std::to_string(row));
     }
@@ -92,7 +103,8 @@ struct TileValues {
 /* A number of 1/256 pixel in pixels, exactly. */
 inline std::string in_pixels(std::int64_t units) {
     char text[32];
-    return std::string(text, static_cast<std::size_t>(std::snprintf(text, sizeof text, "%.15g", static_cast<double>(units) / 256)));
+    return std::string(
+        text, static_cast<std::size_t>(std::snprintf(text, sizeof text, "%.15g", static_cast<double>(units) / 256)));
 }
 
 /* The range of a coordinate if it is outside of it: on the screen, and as seen from an origin. */
@@ -107,11 +119,14 @@ inline std::string range_values(const char *name, std::int64_t value, std::int64
 }
 
 /* Whether a coordinate is out of range. */
-inline bool is_far(const trirast_corner &at) { return !(range_values("x", at.x, 0) + range_values("y", at.y, 0)).empty(); }
+inline bool is_far(const trirast_corner &at) {
+    return !(range_values("x", at.x, 0) + range_values("y", at.y, 0)).empty();
+}
 
 inline std::string position_values(const trirast_corner &at, std::int64_t origin_x = 0, std::int64_t origin_y = 0) {
-    return "x " + std::to_string(at.x) + " and y " + std::to_string(at.y) + " in 1/256 pixel (" + in_pixels(at.x) + " and " +
-           in_pixels(at.y) + " pixels)" + range_values("x", at.x, origin_x) + range_values("y", at.y, origin_y);
+    return "x " + std::to_string(at.x) + " and y " + std::to_string(at.y) + " in 1/256 pixel (" + in_pixels(at.x) +
+           " and " + in_pixels(at.y) + " pixels)" + range_values("x", at.x, origin_x) +
+           range_values("y", at.y, origin_y);
 }
 
 /* Those of a batch that was to be drawn on a canvas. */
@@ -121,7 +136,8 @@ struct BatchValues {
 
     std::string operator()(const trirast_error &error) const {
         if (error.status == TRIRAST_STATUS_BAD_STRIDE)
-            return refused("a multiple of 4 from 16 to " + std::to_string(TRIRAST_MAX_STRIDE) + " bytes, or 0", batch.vertex_stride);
+            return refused("a multiple of 4 from 16 to " + std::to_string(TRIRAST_MAX_STRIDE) + " bytes, or 0",
+                           batch.vertex_stride);
         if (error.status == TRIRAST_STATUS_BAD_INDEX_SIZE) return refused("2 or 4 bytes, or 0", batch.index_size);
         if (error.status != TRIRAST_STATUS_BAD_BATCH) return {};
         if (error.cause == TRIRAST_BATCH_BAD_INDEX)
@@ -143,8 +159,8 @@ private:
 
 /* Where a ring or a polygon begins and ends. */
 inline std::string end_values(const std::uint32_t *ends, std::size_t element, std::size_t count, const char *of_what) {
-    return "it begins at " + std::to_string(element ? ends[element - 1] : 0) + " and ends at " + std::to_string(ends[element]) +
-           ", and there are " + std::to_string(count) + " " + of_what;
+    return "it begins at " + std::to_string(element ? ends[element - 1] : 0) + " and ends at " +
+           std::to_string(ends[element]) + ", and there are " + std::to_string(count) + " " + of_what;
 }
 
 /* Those of polygons that were to be drawn on a canvas. */
@@ -159,8 +175,10 @@ struct PolygonValues {
         if (error.status != TRIRAST_STATUS_BAD_BATCH) return {};
         switch (error.cause) {
         case TRIRAST_BATCH_BAD_POSITION: return position_values(polygons.corners[error.element]);
-        case TRIRAST_BATCH_BAD_RING: return end_values(polygons.ring_ends, error.element, polygons.corner_count, "corners");
-        case TRIRAST_BATCH_BAD_POLYGON: return end_values(polygons.polygon_ends, error.element, polygons.ring_count, "rings");
+        case TRIRAST_BATCH_BAD_RING:
+            return end_values(polygons.ring_ends, error.element, polygons.corner_count, "corners");
+        case TRIRAST_BATCH_BAD_POLYGON:
+            return end_values(polygons.polygon_ends, error.element, polygons.ring_count, "rings");
         case TRIRAST_BATCH_TOO_FEW_COLORS: return refused(std::to_string(polygons.polygon_count), polygons.color_count);
         case TRIRAST_BATCH_TOO_FEW_DEPTHS: return refused(std::to_string(polygons.polygon_count), polygons.depth_count);
         default: return {};
