@@ -1,4 +1,5 @@
-"""What the tests share: a triangle as a draw list and as arrays, its file, numpy where it is, and programs that may crash."""
+"""What the tests share: a triangle as a draw list and as arrays, its file, numpy where it is, and
+programs that may crash."""
 
 import importlib
 import importlib.util
@@ -35,8 +36,9 @@ def run(text: str, under: Sequence[str] = (), **more: str) -> "subprocess.Comple
 
 @contextmanager
 def without(name: str) -> Iterator[None]:
-    """Lets the import of a module fail meanwhile. Other modules that are imported meanwhile stay, unlike by mock.patch.dict: Dask has
-    exceptions pickled by functions of tblib, and pickle refuses these if tblib is imported a second time."""
+    """Lets the import of a module fail meanwhile. Other modules that are imported meanwhile stay, unlike by
+    mock.patch.dict: Dask has exceptions pickled by functions of tblib, and pickle refuses these if tblib is
+    imported a second time."""
     modules: Dict[str, Any] = sys.modules
     kept = {name: modules[name]} if name in modules else {}
     modules[name] = None

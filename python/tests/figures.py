@@ -22,7 +22,9 @@ WHITE = [255] * 4
 INSIDE = (slice(30, 210), slice(40, 280))
 
 
-def drawn(draw: Draws, canvas_class: Any = FigureCanvasTrirast, renderer_class: Optional[Any] = None, **more: Any) -> Any:
+def drawn(
+    draw: Draws, canvas_class: Any = FigureCanvasTrirast, renderer_class: Optional[Any] = None, **more: Any
+) -> Any:
     """The pixels of a figure with axes that show 0 to 1 in both directions."""
     figure = Figure(figsize=(3.2, 2.4), dpi=100, **more)
     canvas = canvas_class(figure)

@@ -1,7 +1,7 @@
 """Ten plots of faces that lie side by side without a gap, and a count of the pixels that show a seam between them.
 
-Each plot draws on axes with the colours that `palette(count)` gives. WHOLE draws the union of a plot's faces as one face;
-plots that are not named there fill their axes.
+Each plot draws on axes with the colours that `palette(count)` gives. WHOLE draws the union of a plot's faces as one
+face; plots that are not named there fill their axes.
 """
 
 from typing import Any, Callable, Dict
@@ -116,7 +116,9 @@ def choropleth(axes: Any, palette: Palette) -> None:
     for r in range(rows):
         for c in range(columns):
             ring = np.concatenate((across[r, c][:-1], down[r, c + 1][:-1], across[r + 1, c][:0:-1], down[r, c][:0:-1]))
-            axes.add_patch(PathPatch(Path(np.append(ring, ring[:1], 0), closed=True), facecolor=next(colors), linewidth=0))
+            axes.add_patch(
+                PathPatch(Path(np.append(ring, ring[:1], 0), closed=True), facecolor=next(colors), linewidth=0)
+            )
 
 
 PLOTS: Dict[str, Plot] = {
@@ -147,7 +149,9 @@ def whole_bars(axes: Any, color: Any) -> None:
 
 
 def whole_turned(axes: Any, color: Any) -> None:
-    axes.stairs(heights()[0] * 5, np.linspace(0.2, 0.9, 61), fill=True, color=color, linewidth=0, transform=turned(axes))
+    axes.stairs(
+        heights()[0] * 5, np.linspace(0.2, 0.9, 61), fill=True, color=color, linewidth=0, transform=turned(axes)
+    )
 
 
 WHOLE: Dict[Plot, Callable[[Any, Any], None]] = {

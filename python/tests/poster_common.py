@@ -18,14 +18,19 @@ from trirast import poster
 from trirast.poster import _command
 
 
-def random_scene(seed: int, width: int = 300, height: int = 200, triangles: int = 200, reach: int = 20000) -> poster.Scene:
+def random_scene(
+    seed: int, width: int = 300, height: int = 200, triangles: int = 200, reach: int = 20000
+) -> poster.Scene:
     """Triangles all over a sheet and past it, whose corners lie up to `reach` from their middles."""
     pick = np.random.default_rng(seed)
     middles = pick.integers(-5000, 256 * width + 5000, (triangles, 1, 2))
     places = (middles + pick.integers(-reach, reach, (triangles, 3, 2))).reshape(-1, 2)
     vertices = np.concatenate((places, pick.integers(0, 256, (3 * triangles, 5))), 1)
     indices = np.arange(3 * triangles).reshape(-1, 3)
-    draws = [{"triangles": triangles // 4, "blend": "over"}, {"triangles": 0}, {"triangles": triangles - triangles // 4, "scissor": [3, 5, 290, 111]}]
+    draws = [
+        {"triangles": triangles // 4, "blend": "over"}, {"triangles": 0},
+        {"triangles": triangles - triangles // 4, "scissor": [3, 5, 290, 111]},
+    ]
     return poster.scene_of_arrays(vertices, indices, {"width": width, "height": height, "samples": 4, "draws": draws})
 
 

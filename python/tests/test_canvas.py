@@ -52,7 +52,9 @@ class Pictures(unittest.TestCase):
             pictures.append((bytes_of(canvas.rgb(threads=threads)), bytes_of(canvas.depth(3, threads=threads))))
         self.assertEqual(pictures.count(pictures[0]), 4)
         draw = {"vertices": vertices, "triangles": [[0, 1, 2]], "depth_test": "less", "depth_write": True}
-        picture = trirast.draw({"width": 200, "height": 300, "samples": 4, "clear": [1, 2, 3], "clear_depth": 9, "draws": [draw]})
+        picture = trirast.draw(
+            {"width": 200, "height": 300, "samples": 4, "clear": [1, 2, 3], "clear_depth": 9, "draws": [draw]}
+        )
         self.assertEqual(pictures[0][0], picture.bytes)
 
     def test_a_window_shows_a_part_of_the_screen(self) -> None:
@@ -68,7 +70,9 @@ class Pictures(unittest.TestCase):
             canvas = cleared(40, 70, samples=4, origin=(x + by, y + by))
             corners = ((-30, -5), (30, -5), (-30, 60), (4, 65))
             vertices = [[256 * (x + by), 256 * (y + by), 0, 1 + k, 2, 3, 255] for k, (x, y) in enumerate(corners)]
-            canvas.draw_batch([trirast.Draw(vertices, [[0, 1, 2]]), trirast.Draw(vertices, [[1, 2, 3]], **state)], threads=2)
+            canvas.draw_batch(
+                [trirast.Draw(vertices, [[0, 1, 2]]), trirast.Draw(vertices, [[1, 2, 3]], **state)], threads=2
+            )
             return bytes_of(canvas.rgb())
 
         for x, y in ((-30, -5), (-30, 7), (3, -5)):
@@ -112,7 +116,9 @@ class Pictures(unittest.TestCase):
                 self.assertEqual(found, image if sample == samples - 1 else bytes((1, 2, 3)) * 210)
                 self.assertEqual(set(array("H", bytes_of(canvas.depth(sample)))), {9})
             bgra = bytes_of(canvas.colors(samples - 1, format="bgra"))
-            self.assertEqual((bgra[2::4], bgra[1::4], bgra[0::4], set(bgra[3::4])), (image[0::3], image[1::3], image[2::3], {255}))
+            self.assertEqual(
+                (bgra[2::4], bgra[1::4], bgra[0::4], set(bgra[3::4])), (image[0::3], image[1::3], image[2::3], {255})
+            )
             for refused in (lambda: canvas.colors(samples), lambda: canvas.store(image, samples)):
                 self.assertRaises(trirast.SampleError, refused)
 
@@ -141,7 +147,9 @@ class Pictures(unittest.TestCase):
             cleared().draw(LARGE, [[0, 1, 2]], sample_mask=0x10000)
 
     def test_some_channels_are_kept(self) -> None:
-        for keep, wanted in (("", (5, 6, 7)), ("r", (1, 6, 7)), ("gb", (5, 2, 3)), ("bgr", (1, 2, 3)), ("a", (5, 6, 7))):
+        for keep, wanted in (
+            ("", (5, 6, 7)), ("r", (1, 6, 7)), ("gb", (5, 2, 3)), ("bgr", (1, 2, 3)), ("a", (5, 6, 7))
+        ):
             canvas = trirast.Canvas(3, 3, samples=4)
             canvas.clear((1, 2, 3))
             canvas.draw(LARGE, [[0, 1, 2]], colors=(5, 6, 7), keep=keep)
@@ -216,7 +224,10 @@ class Pictures(unittest.TestCase):
 
 class Refused(unittest.TestCase):
     def test_a_size_that_there_is_not(self) -> None:
-        for numbers in ((0, 1, 1), (1, 4097, 1), (-1, 1, 1), (1 << 32, 1, 1), *((1, 1, samples) for samples in (0, 3, 5, 15, 17, 32))):
+        for numbers in (
+            (0, 1, 1), (1, 4097, 1), (-1, 1, 1), (1 << 32, 1, 1),
+            *((1, 1, samples) for samples in (0, 3, 5, 15, 17, 32)),
+        ):
             with self.assertRaises(trirast.CanvasError):
                 trirast.Canvas(numbers[0], numbers[1], samples=numbers[2])
 
@@ -224,10 +235,16 @@ class Refused(unittest.TestCase):
         canvas = cleared()
         with self.assertRaises(trirast.BatchError) as caught:
             canvas.draw(VERTICES, [[0, 1, 2], [0, 1, 3]])
-        self.assertEqual((caught.exception.name, caught.exception.draw, caught.exception.element, caught.exception.value), ("BadIndex", 0, 5, 3))
+        self.assertEqual(
+            (caught.exception.name, caught.exception.draw, caught.exception.element, caught.exception.value),
+            ("BadIndex", 0, 5, 3),
+        )
         with self.assertRaises(trirast.BatchError) as caught:
             canvas.draw(VERTICES, [[0, 1, 2]], first_id=WHITE_ID + 1)
-        self.assertEqual((caught.exception.name, caught.exception.draw, caught.exception.element, caught.exception.value), ("TooManyIds", 0, None, None))
+        self.assertEqual(
+            (caught.exception.name, caught.exception.draw, caught.exception.element, caught.exception.value),
+            ("TooManyIds", 0, None, None),
+        )
         self.assertEqual(bytes_of(canvas.rgb()), bytes(27))
         with self.assertRaises(trirast.SampleError):
             canvas.ids(1)

@@ -1,4 +1,5 @@
-"""Clipping: worked values, what is refused, attributes, and no crack. tools/checks/clip compares the same calls with the headers in C and C++."""
+"""Clipping: worked values, what is refused, attributes, and no crack. tools/checks/clip compares the same calls with
+the headers in C and C++."""
 
 import importlib.util
 import unittest
@@ -72,11 +73,17 @@ class Refusals(unittest.TestCase):
         three = np.ones((3, 4))
         self.must_say(
             (lambda: clip(np.ones((3, 3)), [], VIEWPORT), ValueError, f"{four}, and not the shape (3, 3)"),
-            (lambda: clip([[1, 2, 3, 4], [1, 2]], [], VIEWPORT), ValueError, f"{four}, and not rows of several lengths"),
+            (
+                lambda: clip([[1, 2, 3, 4], [1, 2]], [], VIEWPORT), ValueError,
+                f"{four}, and not rows of several lengths",
+            ),
             (lambda: clip(np.ones((3, 4), bool), [], VIEWPORT), TypeError, f"{four}, floats or integers, and not bool"),
             (lambda: clip(None, [], VIEWPORT), TypeError, f"{four}, floats or integers, and not None"),
             (lambda: clip(three, [[0, 1]], VIEWPORT), ValueError, "triangles: row 0: 3 values, and not 2"),
-            (lambda: clip(three, [[0, 1, 3]], VIEWPORT), ValueError, "triangles: row 0, index 2: an index of 3 positions, and not 3"),
+            (
+                lambda: clip(three, [[0, 1, 3]], VIEWPORT), ValueError,
+                "triangles: row 0, index 2: an index of 3 positions, and not 3",
+            ),
         )
 
     def test_of_options(self) -> None:
@@ -87,14 +94,18 @@ class Refusals(unittest.TestCase):
             (lambda: clip(three, none, (0, 0, 0, 5)), ValueError, "viewport: 1 to 16384, and not 0"),
             (lambda: clip(three, none, (0, 16385, 5, 5)), ValueError, "viewport: -16384 to 16384, and not 16385"),
             (lambda: clip(three, none, (0, 0, 5.5, 5)), TypeError, "viewport: an integer, and not 5.5"),
-            (lambda: clip(three, none, VIEWPORT, near_plane="one"), ValueError, "near_plane: one of zero, minus_one, and not 'one'"),
+            (
+                lambda: clip(three, none, VIEWPORT, near_plane="one"), ValueError,
+                "near_plane: one of zero, minus_one, and not 'one'",
+            ),
             (lambda: clip(three, none, VIEWPORT, sides=1), ValueError, "sides: one of guard_band, viewport, and not 1"),
             (lambda: clip(three, none, VIEWPORT, depths=(0, 65536)), ValueError, "depths: 0 to 65535, and not 65536"),
         )
 
 
 def layers(seen: trirast.Clipped) -> Any:
-    """Of each sample whether it is covered, and whether once: it is if the last triangle over it is the first one too."""
+    """Of each sample whether it is covered, and whether once: it is if the last triangle over it is the
+    first one too."""
     found = []
     for triangles in (seen.triangles, seen.triangles[::-1]):
         canvas = trirast.Canvas(SIZE, SIZE, samples=4)
@@ -127,8 +138,8 @@ def on_the_edge(seen: trirast.Clipped, triangle: int, ends: Tuple[int, int]) -> 
 class NoCracks(unittest.TestCase):
     @settings(deadline=None, derandomize=True, max_examples=100)
     @given(
-        point=st.tuples(coordinate, coordinate), weights=st.lists(weight, min_size=5, max_size=5), beyond=st.floats(1.0625, 4000, width=32),
-        sides=sides_of_any, near_plane=near_of_any, turn=st.integers(0, 3),
+        point=st.tuples(coordinate, coordinate), weights=st.lists(weight, min_size=5, max_size=5),
+        beyond=st.floats(1.0625, 4000, width=32), sides=sides_of_any, near_plane=near_of_any, turn=st.integers(0, 3),
     )
     def test_a_fan_over_the_screen_covers_each_sample_once(
         self, point: Any, weights: Any, beyond: float, sides: Any, near_plane: Any, turn: int
@@ -142,7 +153,9 @@ class NoCracks(unittest.TestCase):
 
     @settings(deadline=None, derandomize=True, max_examples=300)
     @given(positions=positions_of_four, sides=sides_of_any, near_plane=near_of_any, turn=st.integers(0, 2))
-    def test_two_triangles_cut_their_shared_edge_alike(self, positions: Any, sides: Any, near_plane: Any, turn: int) -> None:
+    def test_two_triangles_cut_their_shared_edge_alike(
+        self, positions: Any, sides: Any, near_plane: Any, turn: int
+    ) -> None:
         one, other = [0, 1, 2], [1, 0, 3]
         seen = trirast.clip(positions, [one, other[turn:] + other[:turn]], VIEWPORT, sides=sides, near_plane=near_plane)
         if set(seen.sources.tolist()) == {0, 1}:

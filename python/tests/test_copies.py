@@ -105,7 +105,10 @@ class Others(unittest.TestCase):
                 call()
             for copied in COPIES:
                 other = copied(caught.exception)
-                self.assertEqual((type(other), str(other), vars(other)), (type(caught.exception), str(caught.exception), vars(caught.exception)))
+                self.assertEqual(
+                    (type(other), str(other), vars(other)),
+                    (type(caught.exception), str(caught.exception), vars(caught.exception)),
+                )
 
 
 class Pictures(unittest.TestCase):

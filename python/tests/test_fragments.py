@@ -243,8 +243,10 @@ class Shaded(unittest.TestCase):
 
     def test_tiles_that_are_not_there(self) -> None:
         canvas, vertices, triangles, w = drawn(16, 2)
-        for tile, line in (((2, 0), "column: 0 to 1, and not 2"), ((0, 2), "row: 0 to 1, and not 2"), ((1 << 31, 0), "column: 0 to 1, and not 2147483648"),
-                           ((-1, 0), "column: 0 to 1, and not -1")):
+        for tile, line in (
+            ((2, 0), "column: 0 to 1, and not 2"), ((0, 2), "row: 0 to 1, and not 2"),
+            ((1 << 31, 0), "column: 0 to 1, and not 2147483648"), ((-1, 0), "column: 0 to 1, and not -1"),
+        ):
             with self.assertRaisesRegex(trirast.TileError, f"^tile: {line}$"):
                 canvas.fragments(vertices, triangles, w, tile=tile)
         wrong: Any

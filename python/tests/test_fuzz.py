@@ -1,8 +1,8 @@
 """Calls that hypothesis makes up: layouts, types, shapes, threads, interrupts, copies and arrays that change.
 
-Each call is made on a canvas in the way that was made up, and on a second one in the plainest way: lists of integers, one thread. Both have
-the same picture after each call, and what one refuses the other does. TRIRAST_FUZZ_CALLS says how many calls there are, and then each run
-makes up other ones; python3 -m tools.checks.fuzz_package does so with 10,000.
+Each call is made on a canvas in the way that was made up, and on a second one in the plainest way: lists of integers,
+one thread. Both have the same picture after each call, and what one refuses the other does. TRIRAST_FUZZ_CALLS says how
+many calls there are, and then each run makes up other ones; python3 -m tools.checks.fuzz_package does so with 10,000.
 """
 
 import copy
@@ -218,7 +218,9 @@ def indices_of(data: Data, count: int, columns: int) -> Rows:
 def blends(data: Data) -> Any:
     """A name, or any blend."""
     factors, operations = st.sampled_from(sorted(FACTORS)), st.sampled_from(sorted(OPERATIONS))
-    some = st.builds(trirast.Blend, factors, factors, operations, factors, factors, operations, st.tuples(BYTES, BYTES, BYTES, BYTES))
+    some = st.builds(
+        trirast.Blend, factors, factors, operations, factors, factors, operations, st.tuples(BYTES, BYTES, BYTES, BYTES)
+    )
     return data.draw(st.sampled_from(sorted(trirast.BLENDS)) | some)
 
 
@@ -226,7 +228,9 @@ def state_of(data: Data) -> Dict[str, Any]:
     side = st.sampled_from((-(1 << 31), -50, 0, 1, 5, 30, 64, 4096, (1 << 31) - 1))
     state = {
         "cull": st.sampled_from(("none", "front", "back")),
-        "depth_test": st.sampled_from(("never", "less", "equal", "less_equal", "greater", "not_equal", "greater_equal", "always")),
+        "depth_test": st.sampled_from(
+            ("never", "less", "equal", "less_equal", "greater", "not_equal", "greater_equal", "always")
+        ),
         "depth_write": st.booleans(),
         "keep": st.sets(st.sampled_from("rgba")).map("".join),
         "sample_mask": st.integers(0, 15) | st.integers(0, 65535),
@@ -274,7 +278,8 @@ class Session:
         return np.int64(count) if count == 3 else count
 
     def both(self, fancy: Callable[[], Any], plain: Callable[[], Any]) -> None:
-        """Makes the call on both canvases. Either both refuse it or none, and an interrupt leaves it done or not begun."""
+        """Makes the call on both canvases. Either both refuse it or none, and an interrupt leaves it
+        done or not begun."""
         before = pickle.dumps(self.plain)
         wanted, found = refused(plain), None
         if self.data.draw(st.integers(0, 3)):
@@ -302,14 +307,19 @@ class Session:
         color = self.data.draw(st.tuples(BYTES, BYTES, BYTES))
         depth, threads = self.data.draw(st.integers(0, 65535)), self.threads
         form = self.data.draw(st.sampled_from((tuple, list, np.array, bytes, bytearray)))
-        self.both(lambda: self.canvas.clear(form(color), depth, threads=threads), lambda: self.plain.clear(color, depth))
+        self.both(
+            lambda: self.canvas.clear(form(color), depth, threads=threads), lambda: self.plain.clear(color, depth)
+        )
 
     def load(self) -> None:
         kind = self.data.draw(st.sampled_from(("rgb", "rgba", "bgra")))
         shape = (self.canvas.height, self.canvas.width, 3 if kind == "rgb" else 4)
         image = np.random.default_rng(self.data.draw(st.integers(0, 99))).integers(0, 256, shape, np.uint8)
         layout, threads = LAYOUTS[self.data.draw(st.sampled_from(sorted(LAYOUTS)))](image), self.threads
-        self.both(lambda: self.canvas.load(layout, format=kind, threads=threads), lambda: self.plain.load(image.tobytes(), format=kind))
+        self.both(
+            lambda: self.canvas.load(layout, format=kind, threads=threads),
+            lambda: self.plain.load(image.tobytes(), format=kind),
+        )
 
     def draw(self) -> None:
         data, name = self.data, self.data.draw(st.sampled_from(("triangles", "strip", "quads")))
@@ -326,12 +336,18 @@ class Session:
         def draw_on(canvas: trirast.Canvas, primitives: Any, **more: Any) -> None:
             canvas.draw(**{name: primitives}, **more, **state, first_id=5 if by_ids else None)
 
-        self.both(lambda: draw_on(self.canvas, primitives, threads=threads, **rows), lambda: draw_on(self.plain, flat, vertices=vertices))
+        self.both(
+            lambda: draw_on(self.canvas, primitives, threads=threads, **rows),
+            lambda: draw_on(self.plain, flat, vertices=vertices),
+        )
 
     def draw_several(self) -> None:
         lists = [(vertices_of(self.data), state_of(self.data)) for _ in range(self.data.draw(st.integers(0, 3)))]
         triangles = [indices_of(self.data, len(vertices), 3) for vertices, _ in lists]
-        forms = [(in_a_form(self.data, vertices, 7), in_a_form(self.data, rows, 3)) for (vertices, _), rows in zip(lists, triangles)]
+        forms = [
+            (in_a_form(self.data, vertices, 7), in_a_form(self.data, rows, 3))
+            for (vertices, _), rows in zip(lists, triangles)
+        ]
         threads, first = self.threads, self.data.draw(st.sampled_from((None, 0, 70000)))
 
         def batch(given: Any) -> List[trirast.Draw]:
@@ -356,10 +372,14 @@ class Session:
     def read(self) -> None:
         threads, canvas = self.threads, self.canvas
         name, kind, channels = self.data.draw(
-            st.sampled_from((("rgb", "u1", 3), ("rgba", "u1", 4), ("bgra", "u1", 4), ("depth", "u2", 0), ("ids", "u4", 0)))
+            st.sampled_from(
+                (("rgb", "u1", 3), ("rgba", "u1", 4), ("bgra", "u1", 4), ("depth", "u2", 0), ("ids", "u4", 0))
+            )
         )
         shape = (canvas.height, canvas.width) + ((channels,) if channels else ())
-        outs: List[Any] = [None, np.empty(shape, kind), np.empty(int(np.prod(shape)), kind), memoryview(np.empty(shape, kind))]
+        outs: List[Any] = [
+            None, np.empty(shape, kind), np.empty(int(np.prod(shape)), kind), memoryview(np.empty(shape, kind))
+        ]
         outs += [bytearray(np.empty(shape, kind).nbytes)] if kind == "u1" else []
         out = self.data.draw(st.sampled_from(outs))
         found: List[Any] = []
@@ -375,8 +395,14 @@ class Session:
         kind = self.data.draw(st.sampled_from(("u1", "i1", "?", ">u2", "u2", "i2", "f4", ">u4", "u4", "u8", "O")))
         out = np.zeros(shape, kind, order=self.data.draw(st.sampled_from("CF")))
         out = self.data.draw(st.sampled_from((lambda each: each, np.ma.masked_array, lambda each: each[::-1])))(out)
-        fits_well = {"rgb": (np.uint8, (h, w, 3)), "rgba": (np.uint8, (h, w, 4)), "depth": (np.uint16, (h, w)), "ids": (np.uint32, (h, w))}
-        is_well = (out.dtype, out.shape) == fits_well[name] and out.flags.c_contiguous and not isinstance(out, np.ma.MaskedArray)
+        fits_well = {
+            "rgb": (np.uint8, (h, w, 3)), "rgba": (np.uint8, (h, w, 4)), "depth": (np.uint16, (h, w)),
+            "ids": (np.uint32, (h, w)),
+        }
+        is_well = (
+            (out.dtype, out.shape) == fits_well[name] and out.flags.c_contiguous
+            and not isinstance(out, np.ma.MaskedArray)
+        )
         error = refused(lambda: getattr(self.canvas, name)(out=out, threads=self.threads))
         if (error is None) != is_well:
             raise AssertionError(f"{name}: {out.dtype} of the shape {out.shape}: {error!r}")
@@ -390,7 +416,9 @@ class Session:
 
     def change_arrays_meanwhile(self) -> None:
         """Another thread changes arrays as they are drawn. What is drawn is not specified."""
-        vertices, indices = np.array([[0] * 7, [9999] + [0] * 6, [0, 9999] + [0] * 5], np.int32), np.array([0, 1, 2] * 300, np.uint32)
+        vertices, indices = (
+            np.array([[0] * 7, [9999] + [0] * 6, [0, 9999] + [0] * 5], np.int32), np.array([0, 1, 2] * 300, np.uint32)
+        )
         is_over = threading.Event()
 
         def change() -> None:
@@ -415,11 +443,18 @@ class Session:
         triangles = indices_of(self.data, len(vertices), 3)
         # What a list cannot say is left out, and what it says in another way.
         state = {key: value for key, value in state.items() if key in ("cull", "depth_test", "depth_write")}
-        state["blend"], keep = self.data.draw(st.sampled_from(("none", "over"))), self.data.draw(st.sets(st.sampled_from("rgb")))
+        state["blend"], keep = (
+            self.data.draw(st.sampled_from(("none", "over"))), self.data.draw(st.sets(st.sampled_from("rgb")))
+        )
         samples = self.data.draw(st.sampled_from((1, 4)))
         draw_list = {
             "width": 40, "height": 130, "samples": samples,
-            "draws": [{"vertices": vertices, "triangles": triangles, "write": [letter not in keep for letter in "rgb"], **state}],
+            "draws": [
+                {
+                    "vertices": vertices, "triangles": triangles, "write": [letter not in keep for letter in "rgb"],
+                    **state,
+                }
+            ],
         }
         found: List[bytes] = []
         error = refused(lambda: found.append(trirast.draw(draw_list, 16, self.threads).bytes))
@@ -434,8 +469,8 @@ class Session:
 
 
 NAMES = (
-    "clear", "load", "draw", "draw", "draw", "draw_several", "draw_nonsense", "read", "read_nonsense", "copy", "change_arrays_meanwhile",
-    "compare_with_a_list",
+    "clear", "load", "draw", "draw", "draw", "draw_several", "draw_nonsense", "read", "read_nonsense", "copy",
+    "change_arrays_meanwhile", "compare_with_a_list",
 )
 
 
@@ -477,7 +512,8 @@ class Fuzz(unittest.TestCase):
 
         for examples in sessions(CALLS):
             of_some = settings(
-                max_examples=examples, deadline=None, database=None, derandomize=IS_REPEATED, phases=(Phase.generate, Phase.shrink),
+                max_examples=examples, deadline=None, database=None, derandomize=IS_REPEATED,
+                phases=(Phase.generate, Phase.shrink),
                 suppress_health_check=list(HealthCheck),
             )
             of_some(given(st.data())(session))()

@@ -40,7 +40,9 @@ class History(unittest.TestCase):
 
     def test_a_reason_is_printed_as_the_program_does(self) -> None:
         def drawn(**state: Any) -> str:
-            return str(trirast.why({**DRAW_LIST, "draws": [{**DRAW_LIST["draws"][0], **state}]}, 0, 0).samples[0].events[0])
+            return str(
+                trirast.why({**DRAW_LIST, "draws": [{**DRAW_LIST["draws"][0], **state}]}, 0, 0).samples[0].events[0]
+            )
 
         self.assertIn("  depth failed  fragment (255, 255, 255) ", drawn(depth_test="greater"))
         self.assertTrue(drawn(depth_test="greater").endswith("; fails the depth test against 65535"))

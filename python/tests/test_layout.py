@@ -16,10 +16,12 @@ from .common import PYTHON
 
 INCLUDE = os.path.join(os.path.dirname(PYTHON), "include")
 STRUCTS: Dict[str, Any] = {
-    "trirast_error": _ffi.CError, "trirast_image_info": _ffi.CImageInfo, "trirast_blend": _ffi.CBlend, "trirast_draw": _ffi.CDraw,
-    "trirast_batch": _ffi.CBatch, "trirast_polygons": _ffi.CPolygons, "trirast_canvas": _ffi.CCanvas, "trirast_clear": _ffi.CClear, "trirast_corners": _ffi.CCorners,
+    "trirast_error": _ffi.CError, "trirast_image_info": _ffi.CImageInfo, "trirast_blend": _ffi.CBlend,
+    "trirast_draw": _ffi.CDraw, "trirast_batch": _ffi.CBatch, "trirast_polygons": _ffi.CPolygons,
+    "trirast_canvas": _ffi.CCanvas, "trirast_clear": _ffi.CClear, "trirast_corners": _ffi.CCorners,
     "trirast_stored": _ffi.CStored, "trirast_fragment": _ffi.CFragment, "trirast_event": _ffi.CEvent,
-    "trirast_sample_info": _ffi.CSampleInfo, "trirast_history_request": _ffi.CHistoryRequest, "trirast_sample_counts": _ffi.CSampleCounts,
+    "trirast_sample_info": _ffi.CSampleInfo, "trirast_history_request": _ffi.CHistoryRequest,
+    "trirast_sample_counts": _ffi.CSampleCounts,
 }
 
 
@@ -37,7 +39,8 @@ ENUMERATORS = {
     **{f"TRIRAST_KEEP_{name}": 1 << k for k, name in enumerate(("RED", "GREEN", "BLUE", "ALPHA"))},
     **{f"TRIRAST_LIST_{in_c(name)}": number for number, name in _errors.DrawListError.causes.items()},
     **{f"TRIRAST_BATCH_{in_c(name)}": number for number, name in _errors.BatchError.causes.items()},
-    "TRIRAST_STATUS_BAD_LIST": _errors.BAD_LIST, "TRIRAST_STATUS_BAD_BATCH": _errors.BAD_BATCH, "TRIRAST_NONE": _errors.NONE,
+    "TRIRAST_STATUS_BAD_LIST": _errors.BAD_LIST, "TRIRAST_STATUS_BAD_BATCH": _errors.BAD_BATCH,
+    "TRIRAST_NONE": _errors.NONE,
     "TRIRAST_ERROR_MESSAGE_SIZE": _ffi.MESSAGE_SIZE,
 }
 
@@ -82,7 +85,10 @@ class Layout(unittest.TestCase):
             made = _blend.blend_in_c(blend)
             # 0 is the default, which is one, zero and add.
             defaults = (2, 1, 1, 2, 1, 1)
-            self.assertEqual([number or default for number, default in zip(found, defaults)], [getattr(made, field) for field in fields])
+            self.assertEqual(
+                [number or default for number, default in zip(found, defaults)],
+                [getattr(made, field) for field in fields],
+            )
 
 
 if __name__ == "__main__":

@@ -29,14 +29,19 @@ class Library(unittest.TestCase):
         self.assertEqual(done.stdout, b"imported\n")
         self.assertIn(b"OSError: the library of trirast cannot be loaded: ", done.stderr)
         self.assertIn(b"no-such-library.so", done.stderr)
-        self.assertIn(b"; run make library in the repository of trirast, then set TRIRAST_LIBRARY to its lib/libtrirast.so", done.stderr)
+        self.assertIn(
+            b"; run make library in the repository of trirast, then set TRIRAST_LIBRARY to its lib/libtrirast.so",
+            done.stderr,
+        )
 
     def test_another_library_is_named(self) -> None:
         other = ctypes.util.find_library("c")
         if other is None:
             self.skipTest("there is no library of C to take for it")
         done = run("import trirast\ntrirast.image_info('{}')", TRIRAST_LIBRARY=other)
-        self.assertRegex(done.stderr.decode(), f"ImportError: {other} is another library, or an older one: .*; run make library")
+        self.assertRegex(
+            done.stderr.decode(), f"ImportError: {other} is another library, or an older one: .*; run make library"
+        )
 
     def test_no_other_package_is_imported(self) -> None:
         done = run("import sys, trirast\nprint('numpy' in sys.modules)")
@@ -47,7 +52,9 @@ class Library(unittest.TestCase):
 
     def test_has_the_interface_of_the_header(self) -> None:
         header = text_of("include", "trirast.h")
-        self.assertEqual(re.findall(r"^#define TRIRAST_INTERFACE (\S+)$", header, re.MULTILINE), [str(_version.INTERFACE)])
+        self.assertEqual(
+            re.findall(r"^#define TRIRAST_INTERFACE (\S+)$", header, re.MULTILINE), [str(_version.INTERFACE)]
+        )
 
 
 if __name__ == "__main__":

@@ -1,4 +1,5 @@
-"""The backend of matplotlib: its pictures beside Agg's, clips, transparent figures, numbers that are none, and far zooms."""
+"""The backend of matplotlib: its pictures beside Agg's, clips, transparent figures, numbers that are
+none, and far zooms."""
 
 import importlib.util
 import io
@@ -74,7 +75,8 @@ def slope(x: Any, y: Any) -> Any:
 
 
 def drawn(
-    draw: Draws, canvas_class: Any = FigureCanvasTrirast, limits: Tuple[float, float] = (0.05, 0.95), dpi: int = 100, **more: Any
+    draw: Draws, canvas_class: Any = FigureCanvasTrirast, limits: Tuple[float, float] = (0.05, 0.95), dpi: int = 100,
+    **more: Any,
 ) -> Any:
     """The pixels of a figure, red, green, blue and alpha, whose axes show the same limits in both directions."""
     figure = Figure(figsize=SIZE, dpi=dpi, **more)
@@ -179,7 +181,9 @@ class Filters(unittest.TestCase):
     def test_are_those_of_agg(self) -> None:
         for layout, bbox in ((None, "tight"), ("constrained", None), ("constrained", "tight"), ("tight", None)):
             with self.subTest(layout=layout, bbox=bbox):
-                both = [self.saved(each, layout, bbox, lambda axes: None) for each in (FigureCanvasTrirast, FigureCanvasAgg)]
+                both = [
+                    self.saved(each, layout, bbox, lambda axes: None) for each in (FigureCanvasTrirast, FigureCanvasAgg)
+                ]
                 self.assertEqual(*both)
 
     def test_leave_meshes_to_a_canvas(self) -> None:
@@ -189,7 +193,9 @@ class Filters(unittest.TestCase):
         for draw in meshes:
             for layout, bbox in ((None, None), (None, "tight"), ("constrained", None)):
                 # An opaque figure's by samples, and the transparent picture of a filter by itself.
-                with mock.patch.object(_renderer, "draw_triangles") as alone, mock.patch.object(_samples.Samples, "draw_triangles") as sampled:
+                with mock.patch.object(_renderer, "draw_triangles") as alone, mock.patch.object(
+                    _samples.Samples, "draw_triangles"
+                ) as sampled:
                     self.saved(FigureCanvasTrirast, layout, bbox, draw)
                 # Once by the drawing alone, and not where matplotlib measures.
                 self.assertEqual(alone.call_count + sampled.call_count, 1, (layout, bbox))
@@ -269,7 +275,9 @@ def renderer_with(points: Any, colors: Any, gc: Optional[Any] = None) -> Rendere
     """A white figure of 40 by 30 pixels with triangles, whose positions are pixels, y upwards."""
     renderer = RendererTrirast(40, 30, 72)
     np.asarray(renderer.buffer_rgba())[...] = 255
-    renderer.draw_gouraud_triangles(gc or renderer.new_gc(), np.array(points, float), np.array(colors, float), IdentityTransform())
+    renderer.draw_gouraud_triangles(
+        gc or renderer.new_gc(), np.array(points, float), np.array(colors, float), IdentityTransform()
+    )
     return renderer
 
 
@@ -285,7 +293,9 @@ class Given(unittest.TestCase):
     def test_what_is_no_number_is_left_out(self) -> None:
         wanted = pixels_with([LOWER], [BLACK])
         for bad in (np.nan, np.inf, -np.inf):
-            self.assertEqual(pixels_with([LOWER, [(40, 0), (40, bad), (0, 30)]], [BLACK, BLACK]).tobytes(), wanted.tobytes())
+            self.assertEqual(
+                pixels_with([LOWER, [(40, 0), (40, bad), (0, 30)]], [BLACK, BLACK]).tobytes(), wanted.tobytes()
+            )
             self.assertEqual(pixels_with([LOWER, UPPER], [BLACK, [[bad, 0, 0, 1]] * 3]).tobytes(), wanted.tobytes())
         renderer = renderer_with([LOWER], [BLACK])
         masked = ma.masked_less(np.array([UPPER], float), 1)
@@ -323,14 +333,18 @@ class Given(unittest.TestCase):
         for facecolor in ("white", "none"):
             wanted = drawn(tripcolor(slope, alpha=0.5), facecolor=facecolor)
             for changed in (
-                mock.patch.object(_drawing, "MAX_SIDE", 50), mock.patch.object(_triangles, "BATCH", 7), mock.patch.object(RendererTrirast, "threads", 3),
+                mock.patch.object(_drawing, "MAX_SIDE", 50), mock.patch.object(_triangles, "BATCH", 7),
+                mock.patch.object(RendererTrirast, "threads", 3),
             ):
                 with changed:
-                    self.assertEqual(drawn(tripcolor(slope, alpha=0.5), facecolor=facecolor).tobytes(), wanted.tobytes())
+                    self.assertEqual(
+                        drawn(tripcolor(slope, alpha=0.5), facecolor=facecolor).tobytes(), wanted.tobytes()
+                    )
 
 
     def test_samples_are_shares_of_an_edge(self) -> None:
-        # Of a pixel whose left part is black, a sixteenth is the least share that sixteen samples show, and a quarter that of four.
+        # Of a pixel whose left part is black, a sixteenth is the least share that sixteen samples show, and a
+        # quarter that of four.
         for samples, shares in ((1, 2), (2, 3), (4, 5), (8, 9), (16, 17)):
             with mock.patch.object(RendererTrirast, "samples", samples):
                 rights = [10 + sixteenth / 16 for sixteenth in range(17)]
@@ -402,7 +416,9 @@ class Far(unittest.TestCase):
         angles = np.linspace(0, 2 * np.pi, 7)[:-1] + 0.2
         x, y = (np.append(0.5, 0.5 + 1e4 * each) for each in (np.cos(angles), np.sin(angles)))
         fan = Triangulation(x, y, [[0, k, k % 6 + 1] for k in range(1, 7)])
-        draw: Draws = lambda axes: axes.tripcolor(fan, np.full(7, 0.6), shading="gouraud", cmap="gray", vmin=0, vmax=1, alpha=0.5)
+        draw: Draws = lambda axes: axes.tripcolor(
+            fan, np.full(7, 0.6), shading="gouraud", cmap="gray", vmin=0, vmax=1, alpha=0.5
+        )
         self.assertEqual(off_color(drawn(draw)), 0)
 
     def test_cut_triangles_keep_their_area_inside(self) -> None:

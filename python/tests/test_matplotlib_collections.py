@@ -1,4 +1,5 @@
-"""Collections of the backend of matplotlib: in which order faces and edges are drawn, and each item as a path of its own."""
+"""Collections of the backend of matplotlib: in which order faces and edges are drawn, and each item as
+a path of its own."""
 
 import unittest
 from typing import Any, Callable, Dict, Tuple
@@ -41,7 +42,8 @@ class Order(unittest.TestCase):
         for joins in ("miter", "round"):
             self.one_by_one(
                 lambda some: PolyCollection(
-                    shapes[some], facecolors=faces[some], edgecolors=edges[some], linewidths=twice(widths[some]), joinstyle=joins
+                    shapes[some], facecolors=faces[some], edgecolors=edges[some], linewidths=twice(widths[some]),
+                    joinstyle=joins,
                 ),
                 60,
             )
@@ -49,24 +51,33 @@ class Order(unittest.TestCase):
     def test_edges_that_reach_far(self) -> None:
         """Thick edges and mitres, which touch later faces that lie apart."""
         shapes = np.array(
-            (((0.3, 0.3), (0.5, 0.3), (0.5, 0.32)), ((0.55, 0.32), (0.6, 0.32), (0.6, 0.4)), ((0.22, 0.2), (0.27, 0.2), (0.27, 0.5)))
+            (
+                ((0.3, 0.3), (0.5, 0.3), (0.5, 0.32)), ((0.55, 0.32), (0.6, 0.32), (0.6, 0.4)),
+                ((0.22, 0.2), (0.27, 0.2), (0.27, 0.5)),
+            )
         )
         faces, edges, widths = colors(3, 0.8), colors(3, 1, 6), np.array((30, 1, 0))
         self.one_by_one(
             lambda some: PolyCollection(
-                shapes[some], facecolors=faces[some], edgecolors=edges[some], linewidths=twice(widths[some]), joinstyle="miter"
+                shapes[some], facecolors=faces[some], edgecolors=edges[some], linewidths=twice(widths[some]),
+                joinstyle="miter",
             ),
             3,
         )
 
     def test_edges_from_outside_of_the_picture(self) -> None:
         """Items outside, whose edges cover earlier faces and are covered by later ones."""
-        outside = np.array(((-0.2, 0.0), (-0.14, 0.0), (-0.14, 0.06), (-0.2, 0.06))) + 0.08 * np.arange(12)[:, None, None] * (0, 1)
-        shapes = np.stack((outside, outside + (0.06, 0.02)), 1).reshape(24, 4, 2)[np.random.default_rng(3).permutation(24)]
+        outside = np.array(
+            ((-0.2, 0.0), (-0.14, 0.0), (-0.14, 0.06), (-0.2, 0.06))
+        ) + 0.08 * np.arange(12)[:, None, None] * (0, 1)
+        shapes = (
+            np.stack((outside, outside + (0.06, 0.02)), 1).reshape(24, 4, 2)[np.random.default_rng(3).permutation(24)]
+        )
         faces, edges, widths = colors(24, 0.7), colors(24, 0.8, 6), np.full(24, 9.0)
         self.one_by_one(
             lambda some: PolyCollection(
-                shapes[some], facecolors=faces[some], edgecolors=edges[some], linewidths=twice(widths[some]), clip_on=False
+                shapes[some], facecolors=faces[some], edgecolors=edges[some], linewidths=twice(widths[some]),
+                clip_on=False,
             ),
             24,
         )
@@ -74,18 +85,23 @@ class Order(unittest.TestCase):
     def test_some_faces_not_antialiased(self) -> None:
         shapes, faces, smooth = stars(40), colors(40, 0.6), np.arange(40) % 3 > 0
         with mock.patch.object(RendererTrirast, "smooth", False):
-            self.one_by_one(lambda some: PolyCollection(shapes[some], facecolors=faces[some], antialiaseds=smooth[some]), 40)
+            self.one_by_one(
+                lambda some: PolyCollection(shapes[some], facecolors=faces[some], antialiaseds=smooth[some]), 40
+            )
 
     def test_hatches(self) -> None:
         shapes, faces = stars(20), colors(20, 0.6)
-        self.one_by_one(lambda some: PolyCollection(shapes[some], facecolors=faces[some], edgecolors="k", hatch="//"), 20)
+        self.one_by_one(
+            lambda some: PolyCollection(shapes[some], facecolors=faces[some], edgecolors="k", hatch="//"), 20
+        )
 
     def test_rectangles_with_edges(self) -> None:
         corner = np.random.default_rng(6).random((40, 2))
         faces = colors(40, 0.5)
         self.one_by_one(
             lambda some: PatchCollection(
-                [Rectangle(p, 0.2, 0.1) for p in corner[some]], facecolors=faces[some], edgecolors="k", linewidths=(1.3, 1.3)
+                [Rectangle(p, 0.2, 0.1) for p in corner[some]], facecolors=faces[some], edgecolors="k",
+                linewidths=(1.3, 1.3),
             ),
             40,
         )
@@ -118,8 +134,10 @@ class Order(unittest.TestCase):
             boxes = np.stack((corner, corner + size * (1, 0), corner + size, corner + size * (0, 1)), 1)
             edges = random.random(60) < 0.6
             polygons = _items.faces_of(
-                _items.Items([Path(box) for box in boxes], np.arange(60), np.array([[1.0, 0, 0, 1, 0, 0]]), np.zeros(60)), False, True,
-                (96, 96),
+                _items.Items(
+                    [Path(box) for box in boxes], np.arange(60), np.array([[1.0, 0, 0, 1, 0, 0]]), np.zeros(60)
+                ),
+                False, True, (96, 96),
             ).polygons
             rounds = _rounds.rounds_of(polygons, np.ones(60, bool), edges, np.ones(60), 96, 96)
             assert rounds is not None
@@ -142,9 +160,12 @@ def meet(a: Any, b: Any, margin: int) -> bool:
 class Items(unittest.TestCase):
     def check(self, make: Callable[[Any], Any], **more: Any) -> None:
         """Drawn as a whole, and each item as a path of its own."""
-        with mock.patch.object(_renderer, "have_common_sides", lambda polygons: True), mock.patch.object(_renderer, "has_curve", lambda path: False):
+        with mock.patch.object(_renderer, "have_common_sides", lambda polygons: True), mock.patch.object(
+            _renderer, "has_curve", lambda path: False
+        ):
             whole, parts = (
-                drawn(lambda axes: axes.add_collection(make(axes)), renderer_class=each, **more) for each in (RendererTrirast, OneByOne)
+                drawn(lambda axes: axes.add_collection(make(axes)), renderer_class=each, **more)
+                for each in (RendererTrirast, OneByOne)
             )
         self.assertGreater(unlike(whole, np.uint8(255)), 1000)
         self.assertEqual(unlike(whole, parts), 0)
@@ -154,35 +175,54 @@ class Items(unittest.TestCase):
         places, sizes = random.random((2, 40)), random.uniform(5, 900, 40)
         for edge in ("none", "k"):
             for marker in ("o", "*", "s", "D"):
-                self.check(lambda axes: axes.scatter(*places, s=sizes, c=colors(40, 0.5), marker=marker, edgecolors=edge, snap=False))
+                self.check(
+                    lambda axes: axes.scatter(
+                        *places, s=sizes, c=colors(40, 0.5), marker=marker, edgecolors=edge, snap=False
+                    )
+                )
 
     def test_ellipses(self) -> None:
         random = np.random.default_rng(10)
         sizes, angles, places = random.uniform(5, 50, (2, 40)), random.uniform(0, 180, 40), random.random((40, 2))
         self.check(
             lambda axes: EllipseCollection(
-                *sizes, angles, units="points", offsets=places, offset_transform=axes.transData, facecolors=colors(7, 0.5), edgecolors="none"
+                *sizes, angles, units="points", offsets=places, offset_transform=axes.transData,
+                facecolors=colors(7, 0.5), edgecolors="none",
             )
         )
 
     def test_patches(self) -> None:
         random = np.random.default_rng(11)
-        shapes = [Wedge(p, 0.1, 20, 200) for p in random.random((20, 2))] + [Ellipse(p, 0.2, 0.1, angle=30) for p in random.random((20, 2))]
+        shapes = [Wedge(p, 0.1, 20, 200) for p in random.random((20, 2))] + [
+            Ellipse(p, 0.2, 0.1, angle=30) for p in random.random((20, 2))
+        ]
         for snap in (None, False, True):
-            self.check(lambda axes: PatchCollection(shapes, facecolors=colors(40, 0.5), edgecolors="k", linewidths=(0, 2), snap=snap))
+            self.check(
+                lambda axes: PatchCollection(
+                    shapes, facecolors=colors(40, 0.5), edgecolors="k", linewidths=(0, 2), snap=snap
+                )
+            )
 
     def test_rectangles(self) -> None:
         """Snapped to the centres of pixels, by edges of an odd width through which faces are seen."""
         boxes = [Rectangle(corner, 0.2, 0.1) for corner in np.random.default_rng(6).random((20, 2))]
         edge = (1, 0, 0, 0.3)
-        self.check(lambda axes: PatchCollection(boxes, facecolors=colors(20, 1), edgecolors=[edge], linewidths=(0.72, 0.72)))
+        self.check(
+            lambda axes: PatchCollection(boxes, facecolors=colors(20, 1), edgecolors=[edge], linewidths=(0.72, 0.72))
+        )
 
     def test_holes_and_lines_behind_a_closed_ring(self) -> None:
-        outer, inner = [(0.1, 0.1), (0.9, 0.15), (0.8, 0.9), (0.1, 0.1)], [(0.4, 0.3), (0.5, 0.6), (0.6, 0.4), (0.4, 0.3)]
+        outer, inner = (
+            [(0.1, 0.1), (0.9, 0.15), (0.8, 0.9), (0.1, 0.1)], [(0.4, 0.3), (0.5, 0.6), (0.6, 0.4), (0.4, 0.3)]
+        )
         ring = [Path.MOVETO, Path.LINETO, Path.LINETO, Path.CLOSEPOLY]
         hole = Path(outer + inner, ring * 2)
         behind = Path(outer + [(0.2, 0.8), (0.05, 0.5)], ring + [Path.LINETO, Path.LINETO])
-        self.check(lambda axes: PatchCollection([PathPatch(hole), PathPatch(behind)], facecolors=[(0, 0, 1, 0.5), (1, 0, 0, 0.5)]))
+        self.check(
+            lambda axes: PatchCollection(
+                [PathPatch(hole), PathPatch(behind)], facecolors=[(0, 0, 1, 0.5), (1, 0, 0, 0.5)]
+            )
+        )
 
     def test_numbers_that_are_none(self) -> None:
         shapes = stars(40)
@@ -220,10 +260,13 @@ class Items(unittest.TestCase):
         self.assertEqual(unlike(drawn(draw), drawn(apart)), 0)
 
     def test_one_item_with_an_edge(self) -> None:
-        """matplotlib draws it as a marker. Agg's picture is half a pixel lower and to the right then, and so is this one."""
+        """matplotlib draws it as a marker. Agg's picture is half a pixel lower and to the right then,
+        and so is this one."""
         for shape in (stars(1)[0], np.array(((0.2, 0.2), (0.7, 0.2), (0.7, 0.61), (0.2, 0.61)))):
             for width in (0, 1, 2.5):
-                draw: Draws = lambda axes: axes.add_collection(PolyCollection([shape], color=(0, 0, 1, 0.5), linewidth=width))
+                draw: Draws = lambda axes: axes.add_collection(
+                    PolyCollection([shape], color=(0, 0, 1, 0.5), linewidth=width)
+                )
                 self.assertLess(int((differences(draw) > 24).sum()), 60)
         x, tops = np.linspace(0, 1, 60), neighbours.heights().cumsum(0)
 
@@ -232,7 +275,9 @@ class Items(unittest.TestCase):
                 axes.fill_between(x, tops[n - 1] if n else 0, tops[n], color=(0, 0, 1, 0.5), linewidth=0)
 
         picture = drawn(stacked)
-        within = (picture == drawn(lambda axes: axes.fill_between(x, 0, tops[-1], color=(0, 0, 1, 0.5), linewidth=0))).all(2)
+        within = (
+            picture == drawn(lambda axes: axes.fill_between(x, 0, tops[-1], color=(0, 0, 1, 0.5), linewidth=0))
+        ).all(2)
         self.assertTrue(within[32:208, 42:278].all())
         self.assertLess(picture[205, 160, 0], 200)
 
@@ -323,14 +368,22 @@ class Hatches(unittest.TestCase):
         even = np.indices((5, 6)).sum(0) % 2 == 0
         halves = [[Wedge((0.3 * n, 0.5), 0.4, start, start + 180) for n in (1, 2)] for start in (20, 200)]
         makes: Tuple[Callable[..., Any], ...] = (
-            lambda axes, hatch: [axes.add_collection(PolyCollection(each, facecolors=BLUE, hatch=hatch)) for each in (cells[even], cells[~even])],
-            lambda axes, hatch: [axes.add_collection(PatchCollection(each, facecolors=BLUE, hatch=hatch, linewidths=0)) for each in halves],
+            lambda axes, hatch: [
+                axes.add_collection(PolyCollection(each, facecolors=BLUE, hatch=hatch))
+                for each in (cells[even], cells[~even])
+            ],
+            lambda axes, hatch: [
+                axes.add_collection(PatchCollection(each, facecolors=BLUE, hatch=hatch, linewidths=0))
+                for each in halves
+            ],
         )
         for make in makes:
             with rc_context({"hatch.color": "none"}):
                 plain, hatched, agg = (
                     drawn(lambda axes: make(axes, hatch), canvas)
-                    for hatch, canvas in ((None, FigureCanvasTrirast), ("x", FigureCanvasTrirast), ("x", FigureCanvasAgg))
+                    for hatch, canvas in (
+                        (None, FigureCanvasTrirast), ("x", FigureCanvasTrirast), ("x", FigureCanvasAgg)
+                    )
                 )
             self.assertEqual(unlike(plain, hatched), 0)
             self.assertGreater(unlike(agg, hatched), 500)

@@ -1,4 +1,5 @@
-"""Faces of the backend of matplotlib beside Agg's: what is equal byte for byte, what differs on edges alone, and seams."""
+"""Faces of the backend of matplotlib beside Agg's: what is equal byte for byte, what differs on edges
+alone, and seams."""
 
 import io
 import unittest
@@ -60,7 +61,9 @@ class EqualToAgg(unittest.TestCase):
             self.check(lambda axes: axes.pcolormesh(x, y, x * y, alpha=alpha))
             self.check(lambda axes: axes.pcolormesh(x, y, x * y, alpha=alpha, antialiased=False))
             self.check(lambda axes: axes.bar(x[0], y[:, 0].repeat(2)[:30], 0.03, color=colors(30, alpha)))
-            self.check(lambda axes: axes.bar(x[0], y[:, 0].repeat(2)[:30], 0.03, color=colors(30, alpha), edgecolor="k"))
+            self.check(
+                lambda axes: axes.bar(x[0], y[:, 0].repeat(2)[:30], 0.03, color=colors(30, alpha), edgecolor="k")
+            )
             self.check(lambda axes: axes.hist(x.ravel() * y.ravel(), 20, density=True, alpha=alpha))
 
     def test_snapped_rectangles(self) -> None:
@@ -111,7 +114,9 @@ class EqualToAgg(unittest.TestCase):
     def test_collections_with_edges_and_no_common_sides(self) -> None:
         x, y = np.random.default_rng(1).random((2, 200))
         self.check(lambda axes: axes.scatter(x, y, c=x, alpha=0.5))
-        self.check(lambda axes: axes.add_collection(PolyCollection(stars(20), facecolors=colors(20, 0.5), edgecolors="k")))
+        self.check(
+            lambda axes: axes.add_collection(PolyCollection(stars(20), facecolors=colors(20, 0.5), edgecolors="k"))
+        )
 
 
 class NearAgg(unittest.TestCase):
@@ -149,9 +154,14 @@ class NearAgg(unittest.TestCase):
         corners = np.array(((-0.7, -0.3), (1.6, 0.5), (-0.4, 1.4), (-0.7, -0.3)))
 
         def draw(axes: Any) -> None:
-            axes.add_patch(PathPatch(Path(corners), facecolor=(1, 0, 0, 0.4), linewidth=5, linestyle=":", clip_on=False))
+            axes.add_patch(
+                PathPatch(Path(corners), facecolor=(1, 0, 0, 0.4), linewidth=5, linestyle=":", clip_on=False)
+            )
             axes.add_collection(
-                PolyCollection([0.8 * corners + 0.1] * 2, facecolors=(0, 0, 1, 0.4), edgecolors="k", linewidths=twice((5,)), linestyles="--")
+                PolyCollection(
+                    [0.8 * corners + 0.1] * 2, facecolors=(0, 0, 1, 0.4), edgecolors="k", linewidths=twice((5,)),
+                    linestyles="--",
+                )
             )
 
         self.check(draw, 60)
@@ -179,21 +189,28 @@ class NearAgg(unittest.TestCase):
         self.check(draw, 30)
 
     def test_holes_and_lines_behind_a_closed_ring(self) -> None:
-        outer, inner = [(0.1, 0.1), (0.9, 0.15), (0.8, 0.9), (0.1, 0.1)], [(0.4, 0.3), (0.5, 0.6), (0.6, 0.4), (0.4, 0.3)]
+        outer, inner = (
+            [(0.1, 0.1), (0.9, 0.15), (0.8, 0.9), (0.1, 0.1)], [(0.4, 0.3), (0.5, 0.6), (0.6, 0.4), (0.4, 0.3)]
+        )
         ring = [Path.MOVETO, Path.LINETO, Path.LINETO, Path.CLOSEPOLY]
         hole = Path(outer + inner, ring * 2)
         behind = Path(outer + [(0.2, 0.8), (0.05, 0.5)], ring + [Path.LINETO, Path.LINETO])
         for path in (hole, behind):
             self.check(lambda axes: axes.add_patch(PathPatch(path, linewidth=0)), 30)
             patches = [PathPatch(path), Circle((0.95, 0.95), 0.02)]
-            self.check(lambda axes: axes.add_collection(PatchCollection(patches, facecolors="r", edgecolors="none")), 80)
+            self.check(
+                lambda axes: axes.add_collection(PatchCollection(patches, facecolors="r", edgecolors="none")), 80
+            )
         picture = drawn(lambda axes: axes.add_patch(PathPatch(hole, linewidth=0)))
         self.assertEqual(picture[240 - round(24 + 0.43 * 192), round(32 + 0.5 * 256)].tolist(), WHITE)
 
 
 class Seams(unittest.TestCase):
     def test_none_between_neighbours(self) -> None:
-        for name in ("contourf", "pcolormesh", "tripcolor", "PolyCollection, a honeycomb", "fill_between, stacked", "choropleth of patches"):
+        for name in (
+            "contourf", "pcolormesh", "tripcolor", "PolyCollection, a honeycomb", "fill_between, stacked",
+            "choropleth of patches",
+        ):
             self.assertEqual(int(neighbours.seams(neighbours.PLOTS[name], FigureCanvasTrirast, 0.5).sum()), 0, name)
 
     def test_few_where_corners_lie_on_sides(self) -> None:
@@ -204,7 +221,9 @@ class Seams(unittest.TestCase):
     def test_a_slanted_mesh_that_is_snapped(self) -> None:
         """Its corners are whole pixels by default, and its sides are not."""
         x, y = neighbours.bent_grid(10, 8)
-        shown = drawn(lambda axes: axes.pcolormesh(x, y, np.ones((8, 10)), alpha=0.5, vmin=0, vmax=2))[INSIDE].reshape(-1, 4)
+        shown = drawn(
+            lambda axes: axes.pcolormesh(x, y, np.ones((8, 10)), alpha=0.5, vmin=0, vmax=2)
+        )[INSIDE].reshape(-1, 4)
         self.assertTrue((shown == shown[0]).all())
         self.assertLess(shown[0].min(), 200)
 
@@ -218,7 +237,9 @@ class Seams(unittest.TestCase):
             angles = np.sort(np.random.default_rng(7).uniform(0, 2 * np.pi, 40))
             rim = 0.5 + scale * np.stack((np.cos(angles), np.sin(angles)), 1)
             fan = [np.array(((0.5, 0.5), a, b)) for a, b in zip(rim, np.roll(rim, -1, 0))]
-            shown = drawn(lambda axes: axes.add_collection(PolyCollection(fan, facecolors=(0, 0, 1, 0.5))))[INSIDE].reshape(-1, 4)
+            shown = drawn(
+                lambda axes: axes.add_collection(PolyCollection(fan, facecolors=(0, 0, 1, 0.5)))
+            )[INSIDE].reshape(-1, 4)
             self.assertTrue((shown == shown[0]).all(), scale)
             self.assertLess(shown[0, 0], 200)
 
@@ -238,7 +259,8 @@ class Seams(unittest.TestCase):
             self.assertEqual(unlike(near, far), 0, reach)
 
     def test_snapped_together(self) -> None:
-        """Squares beside slanted neighbours: Agg moves the squares alone to whole pixels. Here all or none are moved."""
+        """Squares beside slanted neighbours: Agg moves the squares alone to whole pixels. Here all or
+        none are moved."""
         cells = [
             np.array(((0.1, 0.1), (0.50176, 0.1), (0.50176, 0.5), (0.1, 0.5))),
             np.array(((0.50176, 0.1), (0.9, 0.2), (0.9, 0.4), (0.50176, 0.5))),
@@ -262,8 +284,13 @@ class Transparent(unittest.TestCase):
     def test_no_seams(self) -> None:
         for ground in ("none", (1, 0.5, 0, 0.4)):
             for name in ("contourf", "pcolormesh", "stackplot"):
-                self.assertEqual(int(neighbours.seams(neighbours.PLOTS[name], FigureCanvasTrirast, 0.5, facecolor=ground).sum()), 0, name)
-        self.assertGreater(int(neighbours.seams(neighbours.stackplot, FigureCanvasAgg, 0.5, facecolor="none").sum()), 5000)
+                self.assertEqual(
+                    int(neighbours.seams(neighbours.PLOTS[name], FigureCanvasTrirast, 0.5, facecolor=ground).sum()), 0,
+                    name,
+                )
+        self.assertGreater(
+            int(neighbours.seams(neighbours.stackplot, FigureCanvasAgg, 0.5, facecolor="none").sum()), 5000
+        )
 
     def test_over_white_they_are_opaque_figures(self) -> None:
         """Apart from roundings, of which Agg's own strokes over clear pixels have most."""
@@ -272,10 +299,14 @@ class Transparent(unittest.TestCase):
             lambda axes: axes.add_collection(PolyCollection(stars(9), facecolors=colors(9, 0.5))),
             lambda axes: axes.add_collection(PolyCollection(tiles(), facecolors=colors(30, 0.5), edgecolors="k")),
             lambda axes: axes.pcolormesh(*neighbours.bent_grid(3, 2), np.arange(6).reshape(2, 3), alpha=0.5),
-            lambda axes: axes.add_patch(Circle((0.5, 0.5), 0.4, color="g")).set_clip_path(Circle((0.3, 0.5), 0.4, transform=axes.transAxes)),
+            lambda axes: axes.add_patch(Circle((0.5, 0.5), 0.4, color="g")).set_clip_path(
+                Circle((0.3, 0.5), 0.4, transform=axes.transAxes)
+            ),
         ]
         for number, draw in enumerate(draws):
-            clear, opaque = (drawn(lambda axes: (axes.set_axis_off(), draw(axes)), facecolor=ground) for ground in ("none", "white"))
+            clear, opaque = (
+                drawn(lambda axes: (axes.set_axis_off(), draw(axes)), facecolor=ground) for ground in ("none", "white")
+            )
             self.assertGreater(unlike(opaque, np.uint8(255)), 4000)
             self.assertEqual(clear[0, 0].tolist(), [255, 255, 255, 0])
             difference = np.abs(over_white(clear) - opaque[..., :3]).max(2)
@@ -336,13 +367,17 @@ class Transparent(unittest.TestCase):
 CLOSED: Dict[str, Draws] = {
     "fill": lambda axes: axes.fill((0, 1, 0.5), (0, 0, 1), alpha=0.5),
     "polygon": lambda axes: axes.add_patch(Polygon(((0, 0), (1, 0), (1, 1)), alpha=0.5, linewidth=0)),
-    "polygon with an edge": lambda axes: axes.add_patch(Polygon(((0, 0), (1, 0), (1, 1)), facecolor="c", edgecolor="k")),
+    "polygon with an edge": lambda axes: axes.add_patch(
+        Polygon(((0, 0), (1, 0), (1, 1)), facecolor="c", edgecolor="k")
+    ),
     "circle": lambda axes: axes.add_patch(Circle((0.5, 0.5), 0.7074, alpha=0.5)),
     "ellipse": lambda axes: axes.add_patch(Ellipse((0.5, 0.5), 1.4143, 0.9, angle=45, alpha=0.5)),
     "wedge": lambda axes: axes.add_patch(Wedge((0, 0), 0.7, 20, 300, alpha=0.5)),
     "turned rectangle": lambda axes: axes.add_patch(Rectangle((0, 0), 1, 1, angle=10, alpha=0.5)),
     "pie": lambda axes: axes.pie((1, 2, 3)),
-    "filled steps": lambda axes: axes.hist(np.random.default_rng(0).normal(size=900), 200, histtype="stepfilled", alpha=0.5),
+    "filled steps": lambda axes: axes.hist(
+        np.random.default_rng(0).normal(size=900), 200, histtype="stepfilled", alpha=0.5
+    ),
     "boxplot": lambda axes: axes.boxplot((-0.5, -0.1, 0.4, 0.9), positions=(0,), patch_artist=True),
     "arrow": lambda axes: axes.arrow(0, 0, 1, 1, width=0.1),
 }
@@ -380,7 +415,8 @@ class Rules(unittest.TestCase):
             self.assertTrue((np.abs(winding) <= 1).all())
 
     def test_rings_that_turn_once_are_the_same_by_both_rules(self) -> None:
-        """Also those that cross themselves, with level and upright steps and with empty rings between them; a star is none."""
+        """Also those that cross themselves, with level and upright steps and with empty rings between
+        them; a star is none."""
         pick = np.random.default_rng(6)
         known = 0
         for number in range(40):
@@ -423,7 +459,8 @@ class Rules(unittest.TestCase):
             self.assertEqual(drawn(draw)[120, 160].tolist(), [0, 0, 0, 255])
 
     def test_rings_of_three_and_four_corners_as_triangles(self) -> None:
-        """The same samples as by polygons, also of quads that turn inwards or have no area; a quad that crosses itself is none."""
+        """The same samples as by polygons, also of quads that turn inwards or have no area; a quad that
+        crosses itself is none."""
         pick = np.random.default_rng(3)
         drawn_so = 0
         for number in range(60):
@@ -453,7 +490,10 @@ class Rules(unittest.TestCase):
     def test_vertices_behind_each_other(self) -> None:
         """Of any numbers, also with gaps."""
         floats, integers = np.arange(12.0).reshape(6, 2), np.arange(4).reshape(2, 2)
-        kinds: List[Any] = [[floats, floats], [floats, integers], [floats[::2], floats], [integers], [floats.astype(">f8")], [floats[:0]], [[(1, 2)], floats]]
+        kinds: List[Any] = [
+            [floats, floats], [floats, integers], [floats[::2], floats], [integers], [floats.astype(">f8")],
+            [floats[:0]], [[(1, 2)], floats],
+        ]
         for arrays in kinds:
             found = _inside.stacked(arrays)
             self.assertEqual(found.tolist(), np.concatenate(arrays).tolist())

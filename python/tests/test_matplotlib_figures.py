@@ -1,4 +1,5 @@
-"""Figures of the backend of matplotlib: drawn again, saved, blitted and filtered; what waits, and what samples outlive."""
+"""Figures of the backend of matplotlib: drawn again, saved, blitted and filtered; what waits, and what
+samples outlive."""
 
 import importlib.util
 import io
@@ -33,8 +34,8 @@ def figure_of(canvas_class: Any = FigureCanvasTrirast) -> Any:
 
 
 def neighbours_at(x: float) -> Any:
-    """Two paths that fill the axes, with a slanted border between them. It does not close a ring, as Agg does not look at
-    closing lines when it snaps what is upright."""
+    """Two paths that fill the axes, with a slanted border between them. It does not close a ring, as Agg does not look
+    at closing lines when it snaps what is upright."""
     corners = ((x, 0), (x + 0.22, 1), (0, 1), (0, 0)), ((x + 0.22, 1), (x, 0), (1, 0), (1, 1))
     return [Path((*ring, ring[0]), closed=True) for ring in corners]
 
@@ -153,11 +154,15 @@ class Samples(unittest.TestCase):
             axes.add_collection(PolyCollection(stars(20), facecolors=colors(20, 0.5)))
             axes.add_collection(PolyCollection(tiles(), facecolors=colors(30, 0.5), edgecolors="k"))
             axes.tripcolor((0, 1, 0, 1), (0, 0, 1, 1), (1, 2, 3, 4), shading="gouraud", alpha=0.5)
-            axes.add_patch(Circle((0.5, 0.5), 0.4, color=(1, 0, 0, 0.4))).set_clip_path(Circle((0.3, 0.5), 0.4, transform=axes.transAxes))
+            axes.add_patch(Circle((0.5, 0.5), 0.4, color=(1, 0, 0, 0.4))).set_clip_path(
+                Circle((0.3, 0.5), 0.4, transform=axes.transAxes)
+            )
 
         for ground in ("white", "none"):
             wanted = drawn(draw, facecolor=ground)
-            for changed in (mock.patch.object(_samples, "MAX_SIDE", 64), mock.patch.object(RendererTrirast, "threads", 3)):
+            for changed in (
+                mock.patch.object(_samples, "MAX_SIDE", 64), mock.patch.object(RendererTrirast, "threads", 3)
+            ):
                 with changed:
                     self.assertEqual(unlike(drawn(draw, facecolor=ground), wanted), 0)
 
@@ -191,7 +196,9 @@ class Files(unittest.TestCase):
     def test_saved(self) -> None:
         choices: List[Dict[str, Any]] = [{"dpi": 57}, {"dpi": 180}, {"bbox_inches": "tight"}, {"transparent": True}]
         for options in choices:
-            agg, ours = (np.frombuffer(self.saved(each, **options), np.uint8).reshape(-1, 4).astype(int) for each in BOTH)
+            agg, ours = (
+                np.frombuffer(self.saved(each, **options), np.uint8).reshape(-1, 4).astype(int) for each in BOTH
+            )
             self.assertEqual(agg.shape, ours.shape)
             self.assertGreater(int((ours != ours[0]).any(1).sum()), 2000)
             # Edges alone differ.
@@ -232,7 +239,8 @@ class Files(unittest.TestCase):
 
 class Settings(unittest.TestCase):
     def test_wrong_values(self) -> None:
-        """They are named when a face is drawn, also in a figure that was drawn before, and no default takes their place."""
+        """They are named when a face is drawn, also in a figure that was drawn before, and no default
+        takes their place."""
         wrong: Any = (
             ("samples", 5, ValueError, "RendererTrirast.samples: 1, 2, 4, 8 or 16, and not 5"),
             ("samples", "16", TypeError, "RendererTrirast.samples: an integer, and not '16'"),
@@ -264,7 +272,9 @@ class Settings(unittest.TestCase):
                 pictures.append(np.array(canvas.buffer_rgba()))
                 self.assertEqual(len(np.unique(pictures[-1][INSIDE][..., 0])), samples + 1)
         self.assertEqual(unlike(pictures[0], pictures[3]), 0)
-        with mock.patch.object(RendererTrirast, "threads", 3), mock.patch.object(_samples, "Window", side_effect=_window.Window) as window:
+        with mock.patch.object(RendererTrirast, "threads", 3), mock.patch.object(
+            _samples, "Window", side_effect=_window.Window
+        ) as window:
             canvas.draw()
         self.assertEqual([call.args[2:4] for call in window.call_args_list], [(16, 3)])
 
@@ -316,7 +326,9 @@ class Windows(unittest.TestCase):
             self.skipTest("needs xvfb-run")
         self.assertEqual(self.shown("tkagg", ("xvfb-run", "-a")), "FigureCanvasTkTrirast RendererTrirast")
 
-    @unittest.skipUnless(any(importlib.util.find_spec(name) for name in ("PyQt6", "PySide6", "PyQt5", "PySide2")), "needs Qt")
+    @unittest.skipUnless(
+        any(importlib.util.find_spec(name) for name in ("PyQt6", "PySide6", "PyQt5", "PySide2")), "needs Qt"
+    )
     def test_qt(self) -> None:
         with mock.patch.dict(os.environ, {"QT_QPA_PLATFORM": "offscreen"}):
             self.assertEqual(self.shown("qtagg"), "FigureCanvasQTTrirast RendererTrirast")

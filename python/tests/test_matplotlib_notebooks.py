@@ -59,7 +59,8 @@ class Notebooks(unittest.TestCase):
         for more in kinds:
             figure, file = figure_of(), io.BytesIO()
             figure.canvas.print_figure(
-                file, format="png", facecolor=figure.get_facecolor(), edgecolor=figure.get_edgecolor(), dpi=figure.dpi, bbox_inches="tight", **more
+                file, format="png", facecolor=figure.get_facecolor(), edgecolor=figure.get_edgecolor(), dpi=figure.dpi,
+                bbox_inches="tight", **more,
             )
             self.assertIs(type(figure.canvas), FigureCanvasAgg)
             found.append(seams_of(file.getvalue()))

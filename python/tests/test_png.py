@@ -142,9 +142,13 @@ class Posters(Files):
     def test_other_files_have_none(self) -> None:
         scene = random_scene(7)
         for name in ("a.ppm", "a"):
-            with self.assertRaisesRegex(ValueError, f"^dpi: only for a name that ends in .png, .tif, .tiff, and not for '.*{name}'$"):
+            with self.assertRaisesRegex(
+                ValueError, f"^dpi: only for a name that ends in .png, .tif, .tiff, and not for '.*{name}'$"
+            ):
                 poster.draw_poster(scene, self.path(name), dpi=300)
-        with self.assertRaisesRegex(ValueError, "^dpi: only for a name that ends in .png, .tif, .tiff, and not for tiles$"):
+        with self.assertRaisesRegex(
+            ValueError, "^dpi: only for a name that ends in .png, .tif, .tiff, and not for tiles$"
+        ):
             poster.draw_poster(scene, tiles=self.path("tiles"), dpi=300)
         self.assertEqual(os.listdir(self.folder), [])
 

@@ -14,8 +14,8 @@ PLACES = {
     4: ((-2, -6), (6, -2), (-6, 2), (2, 6)),
     8: ((1, -3), (-1, 3), (5, 1), (-3, -5), (-5, 5), (-7, -1), (3, 7), (7, -7)),
     16: (
-        (1, 1), (-1, -3), (-3, 2), (4, -1), (-5, -2), (2, 5), (5, 3), (3, -5), (-2, 6), (0, -7), (-4, -6), (-6, 4), (-8, 0), (7, -4), (6, 7),
-        (-7, -8),
+        (1, 1), (-1, -3), (-3, 2), (4, -1), (-5, -2), (2, 5), (5, 3), (3, -5), (-2, 6), (0, -7), (-4, -6), (-6, 4),
+        (-8, 0), (7, -4), (6, 7), (-7, -8),
     ),
 }
 SQUARE = [(0, 0), (512, 0), (512, 512), (0, 512)]
@@ -29,7 +29,8 @@ def is_inside(rings: Sequence[Sequence[Corner]], rule: str, x: int, y: int) -> b
         for (ax, ay), (bx, by) in zip(ring, (*ring[1:], *ring[:1])):
             down = 1 if ay < by else -1
             (px, py), (qx, qy) = ((ax, ay), (bx, by)) if down == 1 else ((bx, by), (ax, ay))
-            # The line at the height of y is at x or left of it; the upper end belongs to the edge, the lower one does not.
+            # The line at the height of y is at x or left of it; the upper end belongs to the edge, the
+            # lower one does not.
             if py <= y < qy and px * (qy - py) + (qx - px) * (y - py) <= x * (qy - py):
                 crossed, turns = crossed + 1, turns + down
     return bool(crossed % 2 if rule == "even-odd" else turns)
@@ -53,12 +54,21 @@ class Polygons(unittest.TestCase):
         numbers = random.Random(5)
         for count, places in PLACES.items():
             for rule in ("even-odd", "nonzero"):
-                width, height, origin = numbers.randrange(1, 90), numbers.randrange(1, 90), (numbers.randrange(-9, 9), numbers.randrange(-9, 9))
+                width, height, origin = (
+                    numbers.randrange(1, 90), numbers.randrange(1, 90),
+                    (numbers.randrange(-9, 9), numbers.randrange(-9, 9)),
+                )
                 canvas = Canvas(width, height, count, origin=origin)
                 canvas.clear((255, 255, 255))
                 # Corners on quarters of pixels meet samples often.
                 polygons = [
-                    [[(64 * numbers.randrange(-40, 400), 64 * numbers.randrange(-40, 400)) for _ in range(numbers.randrange(8))] for _ in range(3)]
+                    [
+                        [
+                            (64 * numbers.randrange(-40, 400), 64 * numbers.randrange(-40, 400))
+                            for _ in range(numbers.randrange(8))
+                        ]
+                        for _ in range(3)
+                    ]
                     for _ in range(2)
                 ]
                 canvas.draw_polygons(*flat(polygons), rule=rule, first_id=0, threads=2)  # type: ignore[arg-type]
@@ -68,7 +78,9 @@ class Polygons(unittest.TestCase):
                         for column in range(width):
                             x, y = 256 * (column + origin[0]) + 128 + 16 * dx, 256 * (row + origin[1]) + 128 + 16 * dy
                             inside = [number for number, rings in enumerate(polygons) if is_inside(rings, rule, x, y)]
-                            self.assertEqual(seen[row][column], inside[-1] if inside else WHITE, (count, rule, column, row, sample))
+                            self.assertEqual(
+                                seen[row][column], inside[-1] if inside else WHITE, (count, rule, column, row, sample)
+                            )
 
     def test_neighbours_leave_no_seam(self) -> None:
         middle = (301, 287)
@@ -109,13 +121,18 @@ class Polygons(unittest.TestCase):
             self.assertEqual((caught.exception.name, caught.exception.element), (name, element), (ends, of_polygons))
         with self.assertRaises(BatchError) as caught:
             canvas.draw_polygons([(0, 0), (256, 0), (0, 1 << 23)], [3], [1])
-        place, wanted = "x 0 and y 8388608 in 1/256 pixel (0 and 32768 pixels)", "y: -8388608 to 8388607 (-32768 to 32767.99609375 pixels)"
+        place, wanted = (
+            "x 0 and y 8388608 in 1/256 pixel (0 and 32768 pixels)",
+            "y: -8388608 to 8388607 (-32768 to 32767.99609375 pixels)",
+        )
         self.assertEqual(str(caught.exception), f"vertex 2 is out of range: {place}; {wanted}")
         with self.assertRaises(ValueError):
             canvas.draw_polygons(corners, rings, polygons, [(1, 2, 3)])
         with self.assertRaises(ValueError):
             canvas.draw_polygons(corners, rings, polygons, rule="winding")  # type: ignore[arg-type]
-        with self.assertRaisesRegex(BatchError, "^an id is greater than 16777215: the first is 16777216, and there are 2$"):
+        with self.assertRaisesRegex(
+            BatchError, "^an id is greater than 16777215: the first is 16777216, and there are 2$"
+        ):
             canvas.draw_polygons(corners, rings, polygons, first_id=1 << 24)
         with self.assertRaisesRegex(PositionError, "^origin: -32768 to 28672 pixels, and not 40000$"):
             Canvas(4, 4, origin=(40000, 0)).draw_polygons(corners, rings, polygons)

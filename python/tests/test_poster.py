@@ -1,4 +1,5 @@
-"""Posters: what is read, chosen, written and refused. tools/checks/poster compares their pictures with the program's."""
+"""Posters: what is read, chosen, written and refused. tools/checks/poster compares their pictures with
+the program's."""
 
 import importlib.util
 import io
@@ -17,7 +18,9 @@ import numpy as np
 
 import trirast
 from trirast import poster
-from trirast.poster import _command, _draw_list, _index, _journal, _part, _png, _scene, _threads, _tiles_writer, _windows
+from trirast.poster import (
+    _command, _draw_list, _index, _journal, _part, _png, _scene, _threads, _tiles_writer, _windows
+)
 from trirast.poster._dask import draw_by_dask
 
 from .common import DRAW_LIST, FILE, VERTICES, run, without
@@ -47,7 +50,9 @@ class Lists(unittest.TestCase):
         self.assertEqual(scene.draws[0].state["scissor"], [0, 5000, 32768, 4097])
 
     def test_broken_lists_have_the_errors_of_the_library(self) -> None:
-        for text, number in ((b"{", 1), (b"[]", 4), (list_of(width=32769), 5), (list_of(fog=1), 2), (b'{"width":5000,"height":1}', 3)):
+        for text, number in (
+            (b"{", 1), (b"[]", 4), (list_of(width=32769), 5), (list_of(fog=1), 2), (b'{"width":5000,"height":1}', 3)
+        ):
             with self.assertRaises(trirast.DrawListError) as raised:
                 poster.scene_of_list(text)
             self.assertEqual(raised.exception.number, number, text)
@@ -56,13 +61,19 @@ class Lists(unittest.TestCase):
 class Arrays(Files):
     def test_files_are_mapped_and_aligned(self) -> None:
         scene = random_scene(1)
-        value = {"width": 300, "height": 200, "samples": 4, "draws": [{**draw.state, "triangles": draw.triangles} for draw in scene.draws]}
+        value = {
+            "width": 300, "height": 200, "samples": 4,
+            "draws": [{**draw.state, "triangles": draw.triangles} for draw in scene.draws],
+        }
         poster.save_arrays(self.path("scene.npz"), scene.vertices, scene.triangles, value)
         read = poster.scene_of(self.path("scene.npz"))
         self.assertIsInstance(read.vertices, np.memmap)
         self.assertEqual((read.vertices.ctypes.data % 64, read.triangles.ctypes.data % 64), (0, 0))
         self.assertEqual(read.checksum(), scene.checksum())
-        np.savez_compressed(self.path("packed.npz"), vertices=scene.vertices, triangles=scene.triangles, draws=np.array(json.dumps(value)))
+        np.savez_compressed(
+            self.path("packed.npz"), vertices=scene.vertices, triangles=scene.triangles,
+            draws=np.array(json.dumps(value)),
+        )
         self.assertEqual(poster.scene_of(self.path("packed.npz")).checksum(), scene.checksum())
 
     def test_samples_and_masks_may_be_those_of_a_canvas(self) -> None:
@@ -71,10 +82,14 @@ class Arrays(Files):
             value = {"width": 3, "height": 3, "samples": samples, "draws": [{"triangles": 1, "sample_mask": 65535}]}
             scene = poster.scene_of_arrays(vertices, triangles, value)
             self.assertEqual((scene.sheet.samples, scene.draws[0].state["sample_mask"]), (samples, 65535))
-        refused: List[Dict[str, Any]] = [{"samples": 3}, {"samples": 32}, {"draws": [{"triangles": 1, "sample_mask": 65536}]}]
+        refused: List[Dict[str, Any]] = [
+            {"samples": 3}, {"samples": 32}, {"draws": [{"triangles": 1, "sample_mask": 65536}]}
+        ]
         for more in refused:
             with self.assertRaises(trirast.DrawListError):
-                poster.scene_of_arrays(vertices, triangles, {"width": 3, "height": 3, "draws": [{"triangles": 1}], **more})
+                poster.scene_of_arrays(
+                    vertices, triangles, {"width": 3, "height": 3, "draws": [{"triangles": 1}], **more}
+                )
 
     def test_wrong_arrays_are_refused(self) -> None:
         vertices, triangles = np.array(VERTICES), np.array([[0, 1, 2]])
@@ -116,16 +131,24 @@ class Windows(unittest.TestCase):
                     pixels = np.array((window.left, top, window.area.right, min(top + 64, window.area.bottom)))
                     least, behind = pixels.reshape(2, 2) * 256
                     meets = np.flatnonzero(((high >= least) & (low < behind)).all(1) & has_sample)
-                    # The last window's bounds reach past the sheet by less than a window; what is there meets no sample.
+                    # The last window's bounds reach past the sheet by less than a window; what is there
+                    # meets no sample.
                     self.assertTrue(set(meets) <= set(here) <= set(np.flatnonzero(has_sample)), tile_row)
                     self.assertEqual(sorted(set(here)), here)
                     if here:
-                        bounds = np.maximum(low[here].min(0) // 256, pixels[:2]), np.minimum(high[here].max(0) // 256 + 1, pixels[2:])
+                        bounds = (
+                            np.maximum(low[here].min(0) // 256, pixels[:2]),
+                            np.minimum(high[here].max(0) // 256 + 1, pixels[2:]),
+                        )
                         self.assertEqual(list(area), np.concatenate(bounds).tolist())
 
     def test_pieces_are_where_triangles_are(self) -> None:
-        value = {"width": 1024, "height": 200, "draws": [{"triangles": 1, "blend": "over"}, {"triangles": 0}, {"triangles": 1}]}
-        # The first triangle meets three tile rows of the first window, and the second one of them, and one of the window beside it.
+        value = {
+            "width": 1024, "height": 200,
+            "draws": [{"triangles": 1, "blend": "over"}, {"triangles": 0}, {"triangles": 1}],
+        }
+        # The first triangle meets three tile rows of the first window, and the second one of them, and one of
+        # the window beside it.
         places = ((10, 10), (12, 10), (10, 150), (200, 70), (999, 70), (250, 80))
         vertices = np.array([[256 * x, 256 * y, 0, 9, 9, 9, 9] for x, y in places])
         scene = poster.scene_of_arrays(vertices, np.array([[0, 1, 2], [3, 4, 5]]), value)
@@ -142,10 +165,13 @@ class Windows(unittest.TestCase):
                 self.assertEqual(part.triangles[piece.draws[0].first].tolist(), [0, 1, 2] if counts[0] else [3, 4, 5])
 
     def test_tile_rows_go_on_only_with_the_same_triangles(self) -> None:
-        # The first triangle meets two tile rows. The third is in the first of them, and the second in the other, in the same columns.
+        # The first triangle meets two tile rows. The third is in the first of them, and the second in the other,
+        # in the same columns.
         places = ((10, 10), (20, 10), (10, 120), (10, 70), (20, 70), (10, 90), (10, 10), (20, 10), (10, 40))
         vertices = np.array([[256 * x, 256 * y, 0, 9, 9, 9, 9] for x, y in places])
-        scene = poster.scene_of_arrays(vertices, np.arange(9).reshape(-1, 3), {"width": 64, "height": 128, "draws": [{"triangles": 3}]})
+        scene = poster.scene_of_arrays(
+            vertices, np.arange(9).reshape(-1, 3), {"width": 64, "height": 128, "draws": [{"triangles": 3}]}
+        )
         windows = _windows.Windows(scene.sheet, 128)
         part = _part.part_of(scene, _index.Index.of(scene, windows), windows.span(0, 0, 1))
         drawn = [part.triangles[draw.first : draw.end, 0].tolist() for piece in part.pieces for draw in piece.draws]
@@ -177,7 +203,9 @@ class Windows(unittest.TestCase):
         vertices = np.array([[*place, 0, 9, 9, 9, 9] for place in places])
         scene = poster.scene_of_arrays(vertices, np.array([[0, 1, 2], [3, 4, 5]]), value)
         for triangles, wanted in ((2, [0, 0, 0, 0]), (1, [0, 128, 256, 384]), (0, [0, 128, 256, 384])):
-            part_scene = poster.Scene(scene.sheet, scene.vertices, scene.triangles[2 - triangles :], [poster.PosterDraw(triangles)])
+            part_scene = poster.Scene(
+                scene.sheet, scene.vertices, scene.triangles[2 - triangles :], [poster.PosterDraw(triangles)]
+            )
             windows = _windows.Windows(scene.sheet, 128)
             index = _index.Index.of(part_scene, windows)
             parts = [_part.part_of(part_scene, index, window.span) for window in windows.from_row(0)]
@@ -241,7 +269,9 @@ class Pictures(Files):
             self.assertGreater(np.count_nonzero(canvas.rgb()), 99)
 
     def test_another_number_of_samples_keeps_what_is_masked(self) -> None:
-        scene = poster.scene_of_list(list_of(samples=4, draws=[{**DRAW_LIST["draws"][0], "sample_mask": mask} for mask in (15, 5)]))
+        scene = poster.scene_of_list(
+            list_of(samples=4, draws=[{**DRAW_LIST["draws"][0], "sample_mask": mask} for mask in (15, 5)])
+        )
         self.assertIs(_scene.with_samples(scene, 4), scene)
         more = _scene.with_samples(scene, 16)
         self.assertEqual([more.sheet.samples, *(draw.state.get("sample_mask") for draw in more.draws)], [16, None, 5])
@@ -263,7 +293,9 @@ class Pictures(Files):
         vertices, triangles = scene.vertices.copy(), scene.triangles.copy()
         for array in (vertices, triangles):
             array.flags.writeable = False
-        poster.draw_poster(poster.Scene(scene.sheet, vertices, triangles, scene.draws, copy=False), self.path("a.ppm"), window=100)
+        poster.draw_poster(
+            poster.Scene(scene.sheet, vertices, triangles, scene.draws, copy=False), self.path("a.ppm"), window=100
+        )
         self.assertEqual(self.content("a.ppm"), trirast.draw_file(as_list(scene)))
 
     def test_go_to_one_place_at_least(self) -> None:
@@ -277,7 +309,10 @@ class Pictures(Files):
         scene = random_scene(5)
         wanted = self.path("wanted.png")
         poster.draw_poster(scene, wanted, window=64)
-        value = {"width": 300, "height": 200, "samples": 4, "draws": [{**draw.state, "triangles": draw.triangles} for draw in scene.draws]}
+        value = {
+            "width": 300, "height": 200, "samples": 4,
+            "draws": [{**draw.state, "triangles": draw.triangles} for draw in scene.draws],
+        }
         poster.save_arrays(self.path("scene.npz"), scene.vertices, scene.triangles, value)
         done = run("""
             import os, threading
@@ -299,7 +334,10 @@ class Png(unittest.TestCase):
     def test_pixels_come_back(self) -> None:
         pick = np.random.default_rng(1)
         depths = poster.Sheet(5, 4, output="depth")
-        for sheet, pixels in ((SHEET, pick.integers(0, 256, (4, 5, 3)).astype(np.uint8)), (depths, pick.integers(0, 65536, (4, 5)).astype(">u2"))):
+        for sheet, pixels in (
+            (SHEET, pick.integers(0, 256, (4, 5, 3)).astype(np.uint8)),
+            (depths, pick.integers(0, 65536, (4, 5)).astype(">u2")),
+        ):
             self.assertTrue(np.array_equal(_png.pixels_of(_png.png_of(pixels, sheet), sheet), pixels))
 
     def test_checksums_of_pieces_are_those_of_the_whole(self) -> None:
@@ -374,7 +412,9 @@ class Stopped(Files):
 
     def test_a_journal_that_was_cut_is_read_as_far_as_it_goes(self) -> None:
         begun = _journal.MARK + b'{"list": "a"}\n{"row": "b"}\n'
-        for number, cut in enumerate((b'{"ro', b'{"row": 3}\n{"row": "c"}\n', b'{}\n', b"3\n", b"[" * 9999 + b"\n", b"\xff\n")):
+        for number, cut in enumerate(
+            (b'{"ro', b'{"row": 3}\n{"row": "c"}\n', b'{}\n', b"3\n", b"[" * 9999 + b"\n", b"\xff\n")
+        ):
             journal = _journal.Journal(self.write(f"journal{number}", begun + cut))
             self.addCleanup(journal.close)
             journal.begin({"list": "a"}, resume=True)
@@ -400,7 +440,9 @@ class Command(Commands):
 
     def test_names_errors(self) -> None:
         name = self.write("a.json", list_of(width=0))
-        self.assertEqual(self.run_command(name, "-o", self.path("a.ppm")), (1, "poster: DrawListError: list fault 5 OutOfRange\n"))
+        self.assertEqual(
+            self.run_command(name, "-o", self.path("a.ppm")), (1, "poster: DrawListError: list fault 5 OutOfRange\n")
+        )
         status, line = self.run_command(self.path("none.json"), "-o", self.path("a.ppm"))
         self.assertTrue(status == 1 and line.startswith("poster: FileNotFoundError: "), line)
         with self.assertRaises(SystemExit), redirect_stderr(io.StringIO()):

@@ -1,4 +1,5 @@
-"""Files of posters: what may be replaced, what is locked, what a stopped run leaves, and files of arrays that are broken."""
+"""Files of posters: what may be replaced, what is locked, what a stopped run leaves, and files of
+arrays that are broken."""
 
 import importlib.util
 import json
@@ -47,7 +48,9 @@ class Runs(Commands):
             for name in (*folders, *names):
                 path = os.path.join(place, name)
                 mode = os.lstat(path).st_mode
-                found[os.path.relpath(path, self.folder)] = self.content(path) if stat.S_ISREG(mode) else stat.S_IFMT(mode)
+                found[os.path.relpath(path, self.folder)] = (
+                    self.content(path) if stat.S_ISREG(mode) else stat.S_IFMT(mode)
+                )
         return found
 
     def must_refuse(self, error: str, *words: str) -> None:
@@ -111,7 +114,10 @@ class Outputs(Runs):
             self.must_refuse("OutputError", "-o", self.path("a.ppm"))
 
     def test_names_may_be_bytes(self) -> None:
-        poster.draw_poster(poster.scene_of(os.fsencode(self.list)), os.fsencode(self.path("a.ppm")), tiles=os.fsencode(self.path("tiles")))
+        poster.draw_poster(
+            poster.scene_of(os.fsencode(self.list)), os.fsencode(self.path("a.ppm")),
+            tiles=os.fsencode(self.path("tiles")),
+        )
         self.assertEqual(self.content("a.ppm"), FILE)
 
     def test_regular_files_are_replaced(self) -> None:
@@ -186,7 +192,10 @@ class Folders(Runs):
         poster.draw_poster(random_scene(1, 700, 700), tiles=self.path("tiles"))
         os.rename(self.path("tiles"), self.path("tiles.part"))
         self.run_to_end(self.list, "--tiles", self.path("tiles"), "--resume")
-        self.assertEqual(sorted(set(self.there()) - set(self.before)), ["tiles", "tiles/0", "tiles/0/0", "tiles/0/0/0.png", "tiles/index.html"])
+        self.assertEqual(
+            sorted(set(self.there()) - set(self.before)),
+            ["tiles", "tiles/0", "tiles/0/0", "tiles/0/0/0.png", "tiles/index.html"],
+        )
 
     def test_whole_tiles_are_resumed_at_once(self) -> None:
         words = ("--tiles", self.path("tiles"))
@@ -240,7 +249,8 @@ class Locks(Runs):
 
 
 class Stops(Files):
-    """A run that ends at any call that changes names or writes a journal, as if it were killed there, can be resumed."""
+    """A run that ends at any call that changes names or writes a journal, as if it were killed there,
+    can be resumed."""
 
     KINDS = (("a.ppm", None), ("a.png", None), (None, "tiles"), ("a.ppm", "tiles"), ("a.png", "tiles"))
 
@@ -361,7 +371,9 @@ class Processes(Runs):
     def test_standard_streams_that_are_closed(self) -> None:
         for closed in ("2>&-", ">&- 2>&-", "<&- >&- 2>&-"):
             words = self.command("-o", self.path("a.ppm"))
-            done = subprocess.run(["sh", "-c", f'exec "$0" "$@" {closed}', *words], env=self.environment(), timeout=SECONDS)
+            done = subprocess.run(
+                ["sh", "-c", f'exec "$0" "$@" {closed}', *words], env=self.environment(), timeout=SECONDS
+            )
             self.assertEqual((done.returncode, self.content("a.ppm")), (0, FILE), closed)
             self.remove("a.ppm")
 
@@ -375,14 +387,19 @@ class Processes(Runs):
             words = self.command(out[0], self.path(out[1]), "--window", "64", "--workers", "3")
             with subprocess.Popen(words, env=self.environment(), stderr=subprocess.PIPE) as child:
                 end = time.monotonic() + SECONDS
-                while child.poll() is None and time.monotonic() < end and not os.path.exists(self.path(out[1] + ".resume")):
+                while (
+                    child.poll() is None and time.monotonic() < end
+                    and not os.path.exists(self.path(out[1] + ".resume"))
+                ):
                     time.sleep(0.001)
                 while child.poll() is None and time.monotonic() < end:
                     child.send_signal(signal.SIGINT)
                     time.sleep(0.002)
                 _, errors = child.communicate(timeout=SECONDS)
             self.assertEqual((child.returncode, errors), (130, b"poster: stopped; --resume goes on\n"))
-            self.assertEqual(subprocess.run([*words, "--resume"], env=self.environment(), timeout=SECONDS).returncode, 0)
+            self.assertEqual(
+                subprocess.run([*words, "--resume"], env=self.environment(), timeout=SECONDS).returncode, 0
+            )
 
 
     def test_an_interrupt_while_modules_are_imported_is_one_line(self) -> None:
@@ -398,23 +415,32 @@ class Processes(Runs):
             self.write("sitecustomize.py", hook.encode())
             environment = self.environment()
             environment["PYTHONPATH"] = os.pathsep.join((self.folder, environment["PYTHONPATH"]))
-            done = subprocess.run(self.command("-o", self.path("a.ppm")), env=environment, stderr=subprocess.PIPE, timeout=SECONDS)
+            done = subprocess.run(
+                self.command("-o", self.path("a.ppm")), env=environment, stderr=subprocess.PIPE, timeout=SECONDS
+            )
             self.assertEqual((done.returncode, done.stderr), (130, b"poster: stopped\n"), name)
             self.assertFalse(os.path.exists(self.path("a.ppm")))
 
     def test_a_folder_that_is_not_there_is_named(self) -> None:
         status, line = self.run_command(self.list, "-o", self.path("none/a.ppm"))
-        self.assertEqual((status, line), (1, f"poster: FileNotFoundError: [Errno 2] No such file or directory: '{self.path('none')}'\n"))
+        self.assertEqual(
+            (status, line),
+            (1, f"poster: FileNotFoundError: [Errno 2] No such file or directory: '{self.path('none')}'\n"),
+        )
 
 
 class BrokenArrays(Files):
     def saved(self) -> bytes:
         pick = np.random.default_rng(1)
-        vertices = np.concatenate((pick.integers(0, 5000, (300, 2)), pick.integers(0, 255, (300, 5))), 1).astype(np.int32)
+        vertices = np.concatenate(
+            (pick.integers(0, 5000, (300, 2)), pick.integers(0, 255, (300, 5))), 1
+        ).astype(np.int32)
         self.triangles = pick.integers(0, 300, (100, 3)).astype(np.int32)
         value = {"width": 20, "height": 20, "draws": [{"triangles": 100}]}
         poster.save_arrays(self.path("a.npz"), vertices, self.triangles, value)
-        np.savez_compressed(self.path("packed.npz"), vertices=vertices, triangles=self.triangles, draws=np.array(json.dumps(value)))
+        np.savez_compressed(
+            self.path("packed.npz"), vertices=vertices, triangles=self.triangles, draws=np.array(json.dumps(value))
+        )
         return self.content("a.npz")
 
     def test_a_file_that_shrinks_is_no_matter(self) -> None:
@@ -453,7 +479,9 @@ class BrokenArrays(Files):
             for _ in range(400):
                 broken = bytearray(data)
                 for _ in range(pick.choice((1, 1, 3, 20))):
-                    broken[pick.randrange(len(broken)) if pick.random() < 0.3 else pick.choice(places_of(data))] = pick.randrange(256)
+                    broken[pick.randrange(len(broken)) if pick.random() < 0.3 else pick.choice(places_of(data))] = (
+                        pick.randrange(256)
+                    )
                 if pick.random() < 0.1:
                     del broken[pick.randrange(len(broken)) :]
                 self.write("broken.npz", bytes(broken))
@@ -468,17 +496,28 @@ class BrokenArrays(Files):
 
     def test_odd_members(self) -> None:
         self.saved()
-        empty = b"\x93NUMPY\x01\x00v\x00" + b"{'descr': '|i0', 'fortran_order': False, 'shape': (3, 7), }".ljust(117) + b"\n"
-        for kind in (empty, empty.replace(b"|i0", b"|V0"), empty.replace(b"'|i0'", b"'<i4'").replace(b"(3, 7)", b"(-3, 7)"),
-                     empty.replace(b"'|i0'", b"'<i4'").replace(b"(3, 7), ", b"(10**9, 7)"), empty.replace(b"'|i0'", b"'O'"),
-                     empty.replace(b"(3, 7)", b"(9999999999999999999, 7)").replace(b"'|i0'", b"'<i4'"), b""):
+        empty = (
+            b"\x93NUMPY\x01\x00v\x00" + b"{'descr': '|i0', 'fortran_order': False, 'shape': (3, 7), }".ljust(117)
+            + b"\n"
+        )
+        for kind in (
+            empty, empty.replace(b"|i0", b"|V0"), empty.replace(b"'|i0'", b"'<i4'").replace(b"(3, 7)", b"(-3, 7)"),
+            empty.replace(b"'|i0'", b"'<i4'").replace(b"(3, 7), ", b"(10**9, 7)"), empty.replace(b"'|i0'", b"'O'"),
+            empty.replace(b"(3, 7)", b"(9999999999999999999, 7)").replace(b"'|i0'", b"'<i4'"), b"",
+        ):
             for packing in (zipfile.ZIP_STORED, zipfile.ZIP_DEFLATED):
                 with zipfile.ZipFile(self.path("odd.npz"), "w", packing) as archive:
                     for name in ("vertices", "triangles", "draws"):
                         archive.writestr(name + ".npy", kind)
                 self.must_end_well("odd.npz")
-        for draws in ('"{}"', "3", "[" * 10_000, "{", '{"draws": 3}', '{"draws": [3]}', '{"width": 3, "height": 3, "draws": [{"triangles": "1"}]}'):
-            np.savez(self.path("odd.npz"), vertices=np.array(VERTICES), triangles=np.array([[0, 1, 2]]), draws=np.array(draws))
+        for draws in (
+            '"{}"', "3", "[" * 10_000, "{", '{"draws": 3}', '{"draws": [3]}',
+            '{"width": 3, "height": 3, "draws": [{"triangles": "1"}]}',
+        ):
+            np.savez(
+                self.path("odd.npz"), vertices=np.array(VERTICES), triangles=np.array([[0, 1, 2]]),
+                draws=np.array(draws),
+            )
             with self.assertRaises((poster.ArraysError, trirast.Error)):
                 poster.scene_of(self.path("odd.npz"))
 

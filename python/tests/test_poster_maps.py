@@ -37,47 +37,111 @@ def scene(folder: Any, value: Any, style: Any) -> poster.Scene:
         # Nothing would be seen.
         (collection(), {}, "no feature has a polygon"),
         (collection(feature(None), feature(polygon())), {}, "no feature has a polygon"),
-        (feature(polygon(SQUARE)), {"window": [3, 0, 9, 3]}, r"no feature meets .* longitudes are 0 to 3, .* are these degrees"),
+        (
+            feature(polygon(SQUARE)), {"window": [3, 0, 9, 3]},
+            r"no feature meets .* longitudes are 0 to 3, .* are these degrees",
+        ),
         (feature(polygon(box(0, 86, 3, 88))), {"projection": "web mercator"}, "no feature meets .* latitudes 86 to 88"),
-        (feature(polygon(box(334000, 4865942, 668000, 5621521))), {}, "feature 0 .* 334000 to 668000, .* 4865942 to 5621521: are these degrees.* \"plane\"$"),
-        (feature(polygon(box(49, 5, 52, 11))), {"window": [5, 48, 11, 53]}, "no feature meets .* 5 to 11: GeoJSON has the longitude first"),
-        (feature(polygon(SQUARE)), {"projection": "plane", "window": [3, 0, 9, 3]}, r"its x is 0 to 3, and its y 0 to 3: the window has the units of the file"),
-        (feature(polygon([*SQUARE, [2e15, 0]])), {"projection": "plane"}, r"x and y of -1e\+15 to 1e\+15, and not \[2000000000000000.0, 0.0\]"),
-        (feature(polygon(SQUARE)), {"projection": "EPSG:3035"}, "plate carree, web mercator, plane, and not 'EPSG:3035'; .* is a plane"),
+        (
+            feature(polygon(box(334000, 4865942, 668000, 5621521))), {},
+            "feature 0 .* 334000 to 668000, .* 4865942 to 5621521: are these degrees.* \"plane\"$",
+        ),
+        (
+            feature(polygon(box(49, 5, 52, 11))), {"window": [5, 48, 11, 53]},
+            "no feature meets .* 5 to 11: GeoJSON has the longitude first",
+        ),
+        (
+            feature(polygon(SQUARE)), {"projection": "plane", "window": [3, 0, 9, 3]},
+            r"its x is 0 to 3, and its y 0 to 3: the window has the units of the file",
+        ),
+        (
+            feature(polygon([*SQUARE, [2e15, 0]])), {"projection": "plane"},
+            r"x and y of -1e\+15 to 1e\+15, and not \[2000000000000000.0, 0.0\]",
+        ),
+        (
+            feature(polygon(SQUARE)), {"projection": "EPSG:3035"},
+            "plate carree, web mercator, plane, and not 'EPSG:3035'; .* is a plane",
+        ),
         (feature(polygon(SQUARE)), {"window": "all"}, "in degrees, or 'data', and not 'all'"),
         # No value has a colour.
-        (feature(polygon(SQUARE), a=7), {"property": "a", "steps": STEPS}, r"a number from the first step, 10, on as 'a', but 7 \(number\)$"),
+        (
+            feature(polygon(SQUARE), a=7), {"property": "a", "steps": STEPS},
+            r"a number from the first step, 10, on as 'a', but 7 \(number\)$",
+        ),
         (feature(polygon(SQUARE), a=7), {"property": "a", "steps": []}, r"steps: one step or more"),
-        (feature(polygon(SQUARE), a="12.5"), {"property": "a", "steps": STEPS}, r"steps: no feature .* a number as 'a', but '12.5' \(string\)$"),
+        (
+            feature(polygon(SQUARE), a="12.5"), {"property": "a", "steps": STEPS},
+            r"steps: no feature .* a number as 'a', but '12.5' \(string\)$",
+        ),
         (feature(polygon(SQUARE), a=None), {"property": "a", "steps": STEPS}, r"but None \(null\)$"),
-        (feature(polygon(SQUARE), a="Wood"), {"property": "a", "colors": {"wood": "#000000"}}, r"one of \['wood'\] as 'a', but 'Wood' \(string\)$"),
+        (
+            feature(polygon(SQUARE), a="Wood"), {"property": "a", "colors": {"wood": "#000000"}},
+            r"one of \['wood'\] as 'a', but 'Wood' \(string\)$",
+        ),
         (feature(polygon(SQUARE), a=7), {"property": "a", "colors": {}}, r"one of \[\] as 'a', but 7 \(number\)$"),
         (
-            collection(*(feature(polygon(SQUARE), a=value) for value in (True, [1], {}, True, 2, 3))), {"property": "a", "colors": {"b": "#000000"}},
+            collection(*(feature(polygon(SQUARE), a=value) for value in (True, [1], {}, True, 2, 3))),
+            {"property": "a", "colors": {"b": "#000000"}},
             r"but True \(boolean\), \[1\] \(array\), \{\} \(object\), 2 \(number\), \.\.$",
         ),
         # Rings.
-        (collection(feature(None), feature(polygon(SQUARE, [[1, 1], [2, 2]]))), {}, r"feature 1 \(counted from 0\), polygon 0, ring 1: 3 different positions"),
-        (feature(polygon([[1, 1], [2, 2], [1, 1], [2, 2], [1, 1]])), {}, r"feature 0 \(counted from 0\), polygon 0, ring 0: 3 different"),
-        (feature({"type": "MultiPolygon", "coordinates": [[SQUARE], [[]]]}), {}, r"feature 0 \(counted from 0\), polygon 1, ring 0: 3 different"),
-        ({"type": "GeometryCollection", "geometries": [polygon(SQUARE), polygon([[1, 1]])]}, {}, r"feature 0 \(counted from 0\), geometry 1, polygon 0, ring 0: "),
-        ({"type": "MultiPolygon", "coordinates": [SQUARE]}, {}, r"not \[0, 0\]; a MultiPolygon has .*: one level of brackets is missing$"),
-        ({"type": "Polygon", "coordinates": SQUARE}, {}, r"not \[0, 0\]; a Polygon has rings of positions: one level of brackets is missing$"),
-        ({"type": "Polygon", "coordinates": [[SQUARE]]}, {}, r"a Polygon has rings of positions: there is one level of brackets too many$"),
+        (
+            collection(feature(None), feature(polygon(SQUARE, [[1, 1], [2, 2]]))), {},
+            r"feature 1 \(counted from 0\), polygon 0, ring 1: 3 different positions",
+        ),
+        (
+            feature(polygon([[1, 1], [2, 2], [1, 1], [2, 2], [1, 1]])), {},
+            r"feature 0 \(counted from 0\), polygon 0, ring 0: 3 different",
+        ),
+        (
+            feature({"type": "MultiPolygon", "coordinates": [[SQUARE], [[]]]}), {},
+            r"feature 0 \(counted from 0\), polygon 1, ring 0: 3 different",
+        ),
+        (
+            {"type": "GeometryCollection", "geometries": [polygon(SQUARE), polygon([[1, 1]])]}, {},
+            r"feature 0 \(counted from 0\), geometry 1, polygon 0, ring 0: ",
+        ),
+        (
+            {"type": "MultiPolygon", "coordinates": [SQUARE]}, {},
+            r"not \[0, 0\]; a MultiPolygon has .*: one level of brackets is missing$",
+        ),
+        (
+            {"type": "Polygon", "coordinates": SQUARE}, {},
+            r"not \[0, 0\]; a Polygon has rings of positions: one level of brackets is missing$",
+        ),
+        (
+            {"type": "Polygon", "coordinates": [[SQUARE]]}, {},
+            r"a Polygon has rings of positions: there is one level of brackets too many$",
+        ),
         ({"type": "Polygon", "coordinates": [7]}, {}, "a longitude and a latitude, and not 7; .* is missing$"),
         ({"type": "Polygon", "coordinates": [[[]]]}, {}, r"a longitude and a latitude, and not \[\[\]\]$"),
         ({**feature(polygon([*SQUARE, [1, 91]])), "id": 7}, {}, r"feature 0 \(counted from 0, id 7\): a longitude"),
         ({**feature(polygon([[1, 1]])), "id": "DE"}, {}, r"feature 0 \(counted from 0, id 'DE'\), polygon 0"),
         # Places.
-        (collection(feature(polygon(SQUARE)), feature(None), feature(polygon([*SQUARE, [5, 95]]))), {}, r"feature 2 .* not \[5.0, 95.0\]; .*: GeoJSON has the longitude first"),
+        (
+            collection(feature(polygon(SQUARE)), feature(None), feature(polygon([*SQUARE, [5, 95]]))), {},
+            r"feature 2 .* not \[5.0, 95.0\]; .*: GeoJSON has the longitude first",
+        ),
         (collection(feature(None), feature(polygon([*SQUARE, [361, 5]]))), {}, r"feature 1 .* not \[361.0, 5.0\]"),
-        (feature(polygon([*SQUARE, [float("nan"), 5]])), {}, r"feature 0 .*: positions of finite numbers, and not \[nan, 5.0\]$"),
-        (feature(polygon([*SQUARE, [5, float("inf")]])), {}, r"feature 0 .*: positions of finite numbers, and not \[5.0, inf\]$"),
+        (
+            feature(polygon([*SQUARE, [float("nan"), 5]])), {},
+            r"feature 0 .*: positions of finite numbers, and not \[nan, 5.0\]$",
+        ),
+        (
+            feature(polygon([*SQUARE, [5, float("inf")]])), {},
+            r"feature 0 .*: positions of finite numbers, and not \[5.0, inf\]$",
+        ),
         # What is no GeoJSON, and styles.
         ([1, 2, 3], {}, r"a FeatureCollection, a Feature or a geometry, .* not \[1, 2, 3\]"),
         ({"type": "Topology", "arcs": [], "objects": {}}, {}, "TopoJSON: convert it"),
-        (feature(polygon(SQUARE), a=7), {"property": "a", "colors": {"7": "#000000"}, "steps": STEPS}, "colors or steps, and not both"),
-        (feature(polygon(SQUARE), a=7), {"property": "a", "steps": [[5, "#000000"], [3, "#000000"]]}, r"numbers that rise, and not \[5, 3\]"),
+        (
+            feature(polygon(SQUARE), a=7), {"property": "a", "colors": {"7": "#000000"}, "steps": STEPS},
+            "colors or steps, and not both",
+        ),
+        (
+            feature(polygon(SQUARE), a=7), {"property": "a", "steps": [[5, "#000000"], [3, "#000000"]]},
+            r"numbers that rise, and not \[5, 3\]",
+        ),
     ],
 )
 def test_a_slip_is_an_error(tmp_path: Any, value: Any, style: Any, text: str) -> None:
@@ -88,12 +152,16 @@ def test_a_slip_is_an_error(tmp_path: Any, value: Any, style: Any, text: str) ->
 @pytest.mark.parametrize(
     "geometry, count",
     [
-        (polygon(SQUARE[:-1]), 4), (polygon(SQUARE), 5), (polygon(SQUARE[:3]), 3), (polygon([*SQUARE[:-1], [359.5, 90.0000005], SQUARE[0]]), 6),
-        ({"type": "GeometryCollection", "geometries": [polygon(), polygon(SQUARE)]}, 5), (polygon([[x, y, 7] for x, y in SQUARE]), 5),
+        (polygon(SQUARE[:-1]), 4), (polygon(SQUARE), 5), (polygon(SQUARE[:3]), 3),
+        (polygon([*SQUARE[:-1], [359.5, 90.0000005], SQUARE[0]]), 6),
+        ({"type": "GeometryCollection", "geometries": [polygon(), polygon(SQUARE)]}, 5),
+        (polygon([[x, y, 7] for x, y in SQUARE]), 5),
     ],
 )
 def test_open_rings_and_empty_polygons_are_drawn(tmp_path: Any, geometry: Any, count: int) -> None:
-    value = collection(feature(None), feature(polygon()), feature(geometry), feature({"type": "MultiPolygon", "coordinates": []}))
+    value = collection(
+        feature(None), feature(polygon()), feature(geometry), feature({"type": "MultiPolygon", "coordinates": []})
+    )
     found = scene(tmp_path, value, {}).polygons
     assert (found.polygon_ends.tolist()[:2], found.count, len(found.corners)) == ([0, 0], 4, count)
 
@@ -103,7 +171,9 @@ def test_a_feature_without_the_property_has_color(tmp_path: Any) -> None:
     value = collection(*(feature(polygon(SQUARE), **each) for each in given))
 
     def colors(style: Dict[str, Any]) -> List[int]:
-        found: List[List[int]] = scene(tmp_path, value, {"property": "a", "color": [1, 1, 1], **style}).polygons.colors.tolist()
+        found: List[List[int]] = (
+            scene(tmp_path, value, {"property": "a", "color": [1, 1, 1], **style}).polygons.colors.tolist()
+        )
         return [color[0] for color in found]
 
     assert colors({"colors": {"null": [7, 7, 7], "3": [8, 8, 8]}}) == [1, 7, 8, 1]
@@ -113,7 +183,9 @@ def test_a_feature_without_the_property_has_color(tmp_path: Any) -> None:
 def test_the_closing_line_counts_features(tmp_path: Any, capsys: Any) -> None:
     far = feature(polygon(box(100, 0, 103, 3)), a=10)
     style = {"window": [0, 0, 6, 3], "width": 60, "property": "a", "steps": STEPS}
-    scene(tmp_path, collection(feature(polygon(SQUARE), a=10), feature(polygon(SQUARE), a=1), far, feature(None)), style)
+    scene(
+        tmp_path, collection(feature(polygon(SQUARE), a=10), feature(polygon(SQUARE), a=1), far, feature(None)), style
+    )
     names = [str(tmp_path / name) for name in ("map.geojson", "style.json", "a.png", "tiles")]
     assert _command.main([names[0], "--style", names[1], "-o", names[2], "--tiles", names[3]]) == 0
     size = "60 by 30 pixels; 2 of 4 features drawn, 1 in the style's color (0 without a number, 1 below the first step)"
@@ -123,7 +195,10 @@ def test_the_closing_line_counts_features(tmp_path: Any, capsys: Any) -> None:
 def test_the_closing_line_without_steps(tmp_path: Any) -> None:
     value = collection(feature(polygon(SQUARE), a="b"), feature(polygon(SQUARE), a="c"))
     assert scene(tmp_path, value, {}).summary == "; 2 of 2 features drawn, 2 in the style's color"
-    assert scene(tmp_path, value, {"property": "a", "colors": {"b": "#000000"}}).summary == "; 2 of 2 features drawn, 1 in the style's color"
+    assert (
+        scene(tmp_path, value, {"property": "a", "colors": {"b": "#000000"}}).summary
+        == "; 2 of 2 features drawn, 1 in the style's color"
+    )
 
 
 @pytest.mark.parametrize(
@@ -161,11 +236,16 @@ def test_a_plane_has_any_units(tmp_path: Any) -> None:
 def test_a_feature_a_line(tmp_path: Any) -> None:
     path = tmp_path / "lines.geojson"
     path.write_text(2 * (json.dumps(feature(polygon(SQUARE))) + "\n"), "ascii")
-    with pytest.raises(poster.MapError, match="Extra data: line 2 .*, as one feature a line, make one FeatureCollection"):
+    with pytest.raises(
+        poster.MapError, match="Extra data: line 2 .*, as one feature a line, make one FeatureCollection"
+    ):
         poster.scene_of(path)
 
 
 def test_a_window_of_a_map_is_no_side(capsys: Any) -> None:
     with pytest.raises(SystemExit):
         _command.main(["a.geojson", "-o", "a.png", "--window", "4,40,24,55"])
-    assert "pixels of a window's side, as 512, and not '4,40,24,55'; a map's window is a key of its style" in capsys.readouterr().err
+    assert (
+        "pixels of a window's side, as 512, and not '4,40,24,55'; a map's window is a key of its style"
+        in capsys.readouterr().err
+    )

@@ -1,4 +1,5 @@
-"""Polygons of posters: windows show what one canvas shows, corners that are left out change nothing, and maps of GeoJSON."""
+"""Polygons of posters: windows show what one canvas shows, corners that are left out change nothing,
+and maps of GeoJSON."""
 
 import dataclasses
 import json
@@ -24,7 +25,9 @@ RULES = ("even-odd", "nonzero")
 def polygons_of(polygons: Sequence[Rings], colors: Any = (255, 255, 255, 255)) -> poster.Polygons:
     corners, ring_ends, polygon_ends = flat(polygons)
     rows = np.broadcast_to(np.array(colors), (len(polygons), np.shape(colors)[-1]))
-    return poster.Polygons(np.array(corners, int).reshape(-1, 2), np.array(ring_ends, int), np.array(polygon_ends, int), rows)
+    return poster.Polygons(
+        np.array(corners, int).reshape(-1, 2), np.array(ring_ends, int), np.array(polygon_ends, int), rows
+    )
 
 
 def rings_of(polygons: poster.Polygons, number: int) -> List[List[Corner]]:
@@ -59,11 +62,15 @@ class Windows(Files):
         pick = random.Random(4)
         for samples in (1, 4, 16):
             draws: List[Dict[str, Any]] = [
-                {"polygons": 5}, {"triangles": 2, "blend": "over"}, {"polygons": 0}, {"polygons": 4, "rule": "nonzero", "blend": "over"},
-                {"polygons": 6, "scissor": [30, 11, 170, 100], "sample_mask": 0x5555}, {"triangles": 1}, {"polygons": 3, "write": [True, False, True]},
+                {"polygons": 5}, {"triangles": 2, "blend": "over"}, {"polygons": 0},
+                {"polygons": 4, "rule": "nonzero", "blend": "over"},
+                {"polygons": 6, "scissor": [30, 11, 170, 100], "sample_mask": 0x5555}, {"triangles": 1},
+                {"polygons": 3, "write": [True, False, True]},
             ]
             given, colors = random_polygons(pick, 18, (-600, 4000)), colors_of(pick, 18)
-            vertices = np.array([[pick.randrange(256 * 200), pick.randrange(256 * 130), 0, 9, 99, 199, 120] for _ in range(9)])
+            vertices = np.array(
+                [[pick.randrange(256 * 200), pick.randrange(256 * 130), 0, 9, 99, 199, 120] for _ in range(9)]
+            )
             triangles = np.arange(9).reshape(-1, 3)
             value = {"width": 200, "height": 130, "samples": samples, "clear": [5, 6, 7], "draws": draws}
             scene = poster.scene_of_arrays(vertices, triangles, value, polygons=polygons_of(given, colors))
@@ -78,11 +85,15 @@ class Windows(Files):
                 else:
                     mine = slice(polygon, polygon + draw["polygons"])
                     keep = "g" if "write" in draw else ""
-                    canvas.draw_polygons(*flat(given[mine]), colors[mine], rule=draw.get("rule", "even-odd"), keep=keep, **state)
+                    canvas.draw_polygons(
+                        *flat(given[mine]), colors[mine], rule=draw.get("rule", "even-odd"), keep=keep, **state
+                    )
                     polygon = mine.stop
             for side, large in ((64, 2), (71, 2), (512, 0), (64, 1000), (150, 9)):
                 with mock.patch.object(_strips, "LARGE", large):
-                    self.assertTrue((self.pixels(scene, window=side, workers=2) == canvas.rgb()).all(), (samples, side, large))
+                    self.assertTrue(
+                        (self.pixels(scene, window=side, workers=2) == canvas.rgb()).all(), (samples, side, large)
+                    )
 
     def test_past_the_last_place_of_a_canvas(self) -> None:
         width, height, reach = 32768, 70, (-40, 1100)
@@ -91,7 +102,9 @@ class Windows(Files):
         left = width - 100
         moved = [[[(x + 256 * left, y) for x, y in ring] for ring in polygon] for polygon in given]
         draw = {"polygons": 12, "blend": "over", "scissor": [left + 5, 0, left + 60, 66]}
-        scene = poster.scene_of_polygons(polygons_of(moved, colors), {"width": width, "height": height, "samples": 4, "draws": [draw]})
+        scene = poster.scene_of_polygons(
+            polygons_of(moved, colors), {"width": width, "height": height, "samples": 4, "draws": [draw]}
+        )
         canvas = trirast.Canvas(100, height, 4)
         canvas.clear()
         canvas.draw_polygons(*flat(given), colors, blend="over", scissor=(5, 0, 60, 66))
@@ -149,31 +162,40 @@ class Corners(unittest.TestCase):
         masked: Any = np.ma
         value = {"width": 4, "height": 4}
         for wrong in (
-            (corners * 1.0, rings, ends, colors), (corners[:, :1], rings, ends, colors), (corners + (1 << 23), rings, ends, colors),
-            (corners, rings - 1, ends, colors), (corners, np.array([5, 4]), np.array([2]), colors), (corners, rings, np.array([0]), colors),
-            (corners, rings, np.array([2]), colors), (corners, rings, ends, colors[:0]), (corners, rings, ends, colors * 99),
-            (corners, rings, ends, colors[:, :2]), ([[1.5, 2]], [1], ends, colors), ([[1], [2, 3]], [2], ends, colors),
-            (masked.array(corners), rings, ends, colors), (SQUARE, rings, ends, [[1, 2, 3], [4, 5]]), (SQUARE, rings, ends, "#ffffff"),
+            (corners * 1.0, rings, ends, colors), (corners[:, :1], rings, ends, colors),
+            (corners + (1 << 23), rings, ends, colors), (corners, rings - 1, ends, colors),
+            (corners, np.array([5, 4]), np.array([2]), colors), (corners, rings, np.array([0]), colors),
+            (corners, rings, np.array([2]), colors), (corners, rings, ends, colors[:0]),
+            (corners, rings, ends, colors * 99), (corners, rings, ends, colors[:, :2]), ([[1.5, 2]], [1], ends, colors),
+            ([[1], [2, 3]], [2], ends, colors), (masked.array(corners), rings, ends, colors),
+            (SQUARE, rings, ends, [[1, 2, 3], [4, 5]]), (SQUARE, rings, ends, "#ffffff"),
         ):
             with self.assertRaises(poster.ArraysError):
                 poster.scene_of_polygons(poster.Polygons(*wrong), value)
         states: List[Dict[str, Any]] = [
-            {"polygons": 1, "cull": "front"}, {"polygons": 1, "rule": "winding"}, {"polygons": 1, "triangles": 1}, {"polygons": 2}, {},
-            {"triangles": 1, "rule": "nonzero"}, {"polygons": 1.0},
+            {"polygons": 1, "cull": "front"}, {"polygons": 1, "rule": "winding"}, {"polygons": 1, "triangles": 1},
+            {"polygons": 2}, {}, {"triangles": 1, "rule": "nonzero"}, {"polygons": 1.0},
         ]
         for state in states:
             with self.assertRaises(poster.ArraysError):
                 poster.scene_of_polygons(poster.Polygons(corners, rings, ends, colors), {**value, "draws": [state]})
         with self.assertRaises(trirast.DrawListError):
-            poster.scene_of_polygons(poster.Polygons(corners, rings, ends, colors), {**value, "draws": [{"polygons": 1, "fog": 1}]})
+            poster.scene_of_polygons(
+                poster.Polygons(corners, rings, ends, colors), {**value, "draws": [{"polygons": 1, "fog": 1}]}
+            )
         with self.assertRaises(poster.ArraysError):
-            poster.Scene(poster.Sheet(3, 3), np.zeros((0, 7), int), np.zeros((0, 3), int), [], polygons=(corners, rings, ends, colors))  # type: ignore[arg-type]
+            poster.Scene(
+                poster.Sheet(3, 3), np.zeros((0, 7), int), np.zeros((0, 3), int), [],
+                polygons=(corners, rings, ends, colors),  # type: ignore[arg-type]
+            )
 
     def test_lists_and_one_colour(self) -> None:
         value = {"width": 4, "height": 4}
         whole = poster.scene_of_polygons(polygons_of([[SQUARE], [SQUARE]], (1, 2, 3, 255)), value).polygons
         for colors in ((1, 2, 3), [1, 2, 3, 255], np.array([1, 2, 3]), [(1, 2, 3), (1, 2, 3)]):
-            found = poster.scene_of_polygons(poster.Polygons([*SQUARE, *SQUARE], [4, 8], (1, 2), colors), value).polygons
+            found = poster.scene_of_polygons(
+                poster.Polygons([*SQUARE, *SQUARE], [4, 8], (1, 2), colors), value
+            ).polygons
             for one, other in zip(found.arrays, whole.arrays):
                 self.assertEqual((one.tolist(), one.dtype), (other.tolist(), other.dtype))
         self.assertEqual(poster.scene_of_polygons(poster.Polygons([], [], [], []), value).polygons.count, 0)
@@ -191,23 +213,43 @@ class Corners(unittest.TestCase):
         zero = "leave the leading 0 of offsets out$"
         wrong: List[Tuple[Tuple[Any, ...], str]] = [
             ((corners / 2, [4], [1], (1, 2, 3)), r"corners: .* and not ndarray float64; use trirast.snap\(xy\)$"),
-            ((corners, [0, 4], [0, 1], (1, 2, 3)), f"polygon_ends: .* 2, and not 1; ring_ends and polygon_ends begin with 0: {zero}"),
+            (
+                (corners, [0, 4], [0, 1], (1, 2, 3)),
+                f"polygon_ends: .* 2, and not 1; ring_ends and polygon_ends begin with 0: {zero}",
+            ),
             ((corners, [0, 4], [1], (1, 2, 3)), f"polygon_ends: .* 2, and not 1; ring_ends begins with 0: {zero}"),
-            ((corners, [4], [0, 1], [(1, 2, 3)]), f"colors: 2 rows, one for each polygon, and not 1; polygon_ends begins with 0: {zero}"),
+            (
+                (corners, [4], [0, 1], [(1, 2, 3)]),
+                f"colors: 2 rows, one for each polygon, and not 1; polygon_ends begins with 0: {zero}",
+            ),
         ]
         for arrays, text in wrong:
             with self.assertRaisesRegex(poster.ArraysError, text):
                 poster.scene_of_polygons(poster.Polygons(*arrays), value)
-        with self.assertRaisesRegex(trirast.BatchError, f"the last polygon ends at 1, and there are 2 rings; ring_ends and .*: {zero}"):
+        with self.assertRaisesRegex(
+            trirast.BatchError, f"the last polygon ends at 1, and there are 2 rings; ring_ends and .*: {zero}"
+        ):
             trirast.Canvas(4, 4).draw_polygons(corners, [0, 4], [0, 1])
         given = poster.Polygons(corners, [4], [1], (1, 2, 3))
         lists: List[Tuple[Any, str]] = [
             ({"width": 4}, "MissingKey: height: an integer from 1 to 32768 pixels, and it is missing"),
-            ({**value, "clear": "#ffffff"}, "WrongKind: clear: three numbers, each an integer from 0 to 255, and not '#ffffff'"),
-            ({**value, "background": [1, 2, 3]}, "UnknownKey: some of the keys width, .*, clear, .*, and not 'background'"),
+            (
+                {**value, "clear": "#ffffff"},
+                "WrongKind: clear: three numbers, each an integer from 0 to 255, and not '#ffffff'",
+            ),
+            (
+                {**value, "background": [1, 2, 3]},
+                "UnknownKey: some of the keys width, .*, clear, .*, and not 'background'",
+            ),
             ({**value, "samples": 3}, "OutOfRange: samples: 1, 2, 4, 8 or 16, and not 3"),
-            ({**value, "draws": [{"polygons": 1, "blend": "alpha"}]}, "OutOfRange in draw 0: blend: one of 'none', 'over', and not 'alpha'"),
-            ({**value, "draws": [{"polygons": 1}, {"polygons": 0, "alpha": 3}]}, "UnknownKey in draw 1: some of the keys polygons, .*, and not 'alpha'"),
+            (
+                {**value, "draws": [{"polygons": 1, "blend": "alpha"}]},
+                "OutOfRange in draw 0: blend: one of 'none', 'over', and not 'alpha'",
+            ),
+            (
+                {**value, "draws": [{"polygons": 1}, {"polygons": 0, "alpha": 3}]},
+                "UnknownKey in draw 1: some of the keys polygons, .*, and not 'alpha'",
+            ),
             ({**value, "draws": [7]}, "WrongKind in draw 0: a dict with .*, and not 7"),
             ({**value, "draws": [{"polygons": 0}] * 1025 + [7]}, "WrongKind in draw 1025: a dict with .*, and not 7"),
             (7, "WrongKind: a dict with the keys width, .*, and not 7"),
@@ -237,18 +279,34 @@ class Maps(Files):
         scene = self.scene(value, style)
         poster.draw_poster(scene, self.path("a.ppm"))
         size = 3 * scene.sheet.width * scene.sheet.height
-        return np.frombuffer(self.content("a.ppm")[-size:], np.uint8).reshape(scene.sheet.height, scene.sheet.width, 3).tolist()
+        return np.frombuffer(self.content("a.ppm")[-size:], np.uint8).reshape(
+            scene.sheet.height, scene.sheet.width, 3
+        ).tolist()
 
     def test_holes_parts_and_colours(self) -> None:
         ring: Any = {"type": "Polygon", "coordinates": [box(0, 0, 3, 3), box(1, 1, 2, 2)]}
         parts = {"type": "MultiPolygon", "coordinates": [[box(3, 0, 4, 1)], [box(3, 2, 4, 3)]]}
-        mixed = {"type": "GeometryCollection", "geometries": [{"type": "Polygon", "coordinates": [[[4, 0, 7.5], *box(4, 0, 5, 1)[1:]]]}]}
-        features = [feature(ring, kind="a", people=5), feature(parts, kind=7, people=20), feature(mixed, people=None), feature(None)]
+        mixed = {
+            "type": "GeometryCollection",
+            "geometries": [{"type": "Polygon", "coordinates": [[[4, 0, 7.5], *box(4, 0, 5, 1)[1:]]]}],
+        }
+        features = [
+            feature(ring, kind="a", people=5), feature(parts, kind=7, people=20), feature(mixed, people=None),
+            feature(None),
+        ]
         value = {"type": "FeatureCollection", "features": features}
-        style: Dict[str, Any] = {"window": [0, 0, 6, 3], "width": 6, "property": "kind", "colors": {"a": "#0102ff", "7": [9, 8, 7]}, "color": "#202020"}
+        style: Dict[str, Any] = {
+            "window": [0, 0, 6, 3], "width": 6, "property": "kind", "colors": {"a": "#0102ff", "7": [9, 8, 7]},
+            "color": "#202020",
+        }
         a, b, rest, white = [1, 2, 255], [9, 8, 7], [32, 32, 32], [255, 255, 255]
-        self.assertEqual(self.picture(value, style), [[a, a, a, b, white, white], [a, white, a, white, white, white], [a, a, a, b, rest, white]])
-        steps: Dict[str, Any] = {**style, "property": "people", "steps": [[6, "#000000"], [20, "#0000ff"]], "background": "#010101"}
+        self.assertEqual(
+            self.picture(value, style),
+            [[a, a, a, b, white, white], [a, white, a, white, white, white], [a, a, a, b, rest, white]],
+        )
+        steps: Dict[str, Any] = {
+            **style, "property": "people", "steps": [[6, "#000000"], [20, "#0000ff"]], "background": "#010101"
+        }
         del steps["colors"]
         half = {**steps, "opacity": 0.5}
         self.assertEqual([pixel[2] for pixel in self.picture(value, steps)[2]], [32, 32, 32, 255, 32, 1])
@@ -256,27 +314,45 @@ class Maps(Files):
 
     def test_neighbours_in_both_projections_leave_no_seam(self) -> None:
         pick = random.Random(8)
-        lines = [[[x + pick.uniform(-1, 1), 50 + y + pick.uniform(-1, 1)] for y in range(0, 30, 3)] for x in range(-20, 24, 4)]
+        lines = [
+            [[x + pick.uniform(-1, 1), 50 + y + pick.uniform(-1, 1)] for y in range(0, 30, 3)]
+            for x in range(-20, 24, 4)
+        ]
         strips = [feature({"type": "Polygon", "coordinates": [[*a, *b[::-1]]]}) for a, b in zip(lines, lines[1:])]
         for projection in ("plate carree", "web mercator"):
-            style = {"projection": projection, "window": [-10, 55, 10, 70], "width": 300, "color": "#000000", "opacity": 0.5, "samples": 16}
-            pixels = {tuple(pixel) for row in self.picture({"type": "FeatureCollection", "features": strips}, style) for pixel in row}
+            style = {
+                "projection": projection, "window": [-10, 55, 10, 70], "width": 300, "color": "#000000", "opacity": 0.5,
+                "samples": 16,
+            }
+            pixels = {
+                tuple(pixel)
+                for row in self.picture({"type": "FeatureCollection", "features": strips}, style)
+                for pixel in row
+            }
             self.assertEqual(pixels, {(127, 127, 127)})
 
     def test_places(self) -> None:
         style = {"projection": "web mercator", "width": 256}
-        scene = self.scene(feature({"type": "Polygon", "coordinates": [[[-180, 90], [0, 0], [180, -90], [13, 52.5]]]}), style)
+        scene = self.scene(
+            feature({"type": "Polygon", "coordinates": [[[-180, 90], [0, 0], [180, -90], [13, 52.5]]]}), style
+        )
         self.assertEqual((scene.sheet.width, scene.sheet.height), (256, 256))
         # By the formula of the tiles of OpenStreetMap.
         latitude = math.radians(52.5)
         down = 65536 * (1 - math.log(math.tan(latitude) + 1 / math.cos(latitude)) / math.pi) / 2
-        self.assertEqual(scene.polygons.corners.tolist(), [[0, 0], [32768, 32768], [65536, 65536], [round(65536 * 193 / 360), round(down)]])
+        self.assertEqual(
+            scene.polygons.corners.tolist(),
+            [[0, 0], [32768, 32768], [65536, 65536], [round(65536 * 193 / 360), round(down)]],
+        )
         scene = self.scene({"type": "Polygon", "coordinates": [box(-180, -90, 180, 90)]}, {"width": 32768})
         self.assertEqual((scene.sheet.height, int(scene.polygons.corners.max())), (16384, 8388607))
 
     def test_what_lies_far_outside_is_cut(self) -> None:
         left, right = [[0, 0], [-170, 80], [-170, -80]], [[0, 0], [-170, 80], [170, 80], [170, -80], [-170, -80]]
-        value = {"type": "FeatureCollection", "features": [feature({"type": "Polygon", "coordinates": [ring]}) for ring in (left, right)]}
+        value = {
+            "type": "FeatureCollection",
+            "features": [feature({"type": "Polygon", "coordinates": [ring]}) for ring in (left, right)],
+        }
         style = {"window": [-0.3, -0.1, 0.3, 0.2], "width": 900, "samples": 16, "color": "#000000", "opacity": 0.5}
         scene = self.scene(value, style)
         self.assertGreaterEqual(scene.polygons.corners.min(), -256 * 64)
@@ -289,7 +365,9 @@ class Maps(Files):
         value: Any = {"type": "FeatureCollection", "features": features}
         for name, color in (("kind", "a"), ("people", "5")):
             self.scene(value, {"property": name, "colors": {color: "#000000"}})
-        with self.assertRaisesRegex(poster.MapError, r"style: property: one of \['kind', 'people'\] of .*, and not 'poeple'"):
+        with self.assertRaisesRegex(
+            poster.MapError, r"style: property: one of \['kind', 'people'\] of .*, and not 'poeple'"
+        ):
             self.scene(value, {"property": "poeple", "steps": [[1, "#000000"]]})
         with self.assertRaisesRegex(poster.MapError, r"one of \[\] of "):
             self.scene(good, {"property": "kind", "colors": {}})
@@ -297,17 +375,21 @@ class Maps(Files):
     def test_what_is_refused(self) -> None:
         good = {"type": "Polygon", "coordinates": [box(0, 0, 3, 3)]}
         maps: List[Any] = [
-            3, {}, {"type": "FeatureCollection"}, {"type": "FeatureCollection", "features": [7]}, {"type": "Point", "coordinates": [0, 0]},
-            {"type": "Polygon"}, {"type": "Polygon", "coordinates": [[[0]]]}, {"type": "Polygon", "coordinates": [[[0, "1"]]]},
-            {"type": "Polygon", "coordinates": [[0, 1]]}, {"type": "Polygon", "coordinates": [[[0, [1]], [2, 3]]]}, {"type": "Polygon", "coordinates": [[[0, 1e999]]]}, {"type": "GeometryCollection"},
+            3, {}, {"type": "FeatureCollection"}, {"type": "FeatureCollection", "features": [7]},
+            {"type": "Point", "coordinates": [0, 0]}, {"type": "Polygon"}, {"type": "Polygon", "coordinates": [[[0]]]},
+            {"type": "Polygon", "coordinates": [[[0, "1"]]]}, {"type": "Polygon", "coordinates": [[0, 1]]},
+            {"type": "Polygon", "coordinates": [[[0, [1]], [2, 3]]]},
+            {"type": "Polygon", "coordinates": [[[0, 1e999]]]}, {"type": "GeometryCollection"},
         ]
         for value in maps:
             with self.assertRaises(poster.MapError):
                 self.scene(value)
         styles: List[Any] = [
-            [], {"fog": 1}, {"projection": "mercator"}, {"window": [0, 0, 1]}, {"window": [1, 0, 0, 1]}, {"window": [0, 0, 1, 91]}, {"width": 0},
-            {"width": 1.5}, {"color": "red"}, {"color": [1, 2, 256]}, {"opacity": 2}, {"property": "a"}, {"colors": {}}, {"background": "#12345g"},
-            {"property": "a", "steps": [1]}, {"property": "a", "steps": [[2, "#000000"], [1, "#000000"]]}, {"property": "a", "colors": []},
+            [], {"fog": 1}, {"projection": "mercator"}, {"window": [0, 0, 1]}, {"window": [1, 0, 0, 1]},
+            {"window": [0, 0, 1, 91]}, {"width": 0}, {"width": 1.5}, {"color": "red"}, {"color": [1, 2, 256]},
+            {"opacity": 2}, {"property": "a"}, {"colors": {}}, {"background": "#12345g"},
+            {"property": "a", "steps": [1]}, {"property": "a", "steps": [[2, "#000000"], [1, "#000000"]]},
+            {"property": "a", "colors": []},
         ]
         for style in styles:
             with self.assertRaises(poster.MapError, msg=style):

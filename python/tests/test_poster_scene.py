@@ -32,16 +32,18 @@ def records_of(rows: Any) -> Any:
     return np.array([(*row, 0) for row in rows], trirast.VERTEX)
 
 
-def scene_of(vertices: Any = np.array(VERTICES), triangles: Any = TRIANGLE, draws: Any = ONE, **more: Any) -> poster.Scene:
+def scene_of(
+    vertices: Any = np.array(VERTICES), triangles: Any = TRIANGLE, draws: Any = ONE, **more: Any
+) -> poster.Scene:
     return poster.Scene(SHEET, vertices, triangles, draws, **more)
 
 
 class Sheets(unittest.TestCase):
     def test_wrong_values_are_refused_by_name(self) -> None:
         values: List[Dict[str, Any]] = [
-            {"width": 0}, {"width": 40_000}, {"height": 1.5}, {"height": "3"}, {"width": True}, {"samples": 3}, {"samples": 0},
-            {"clear": (0, 0, 300)}, {"clear": (0, 0)}, {"clear": 0}, {"clear": (0, -1, 0)}, {"clear_depth": 70_000},
-            {"clear_depth": -1}, {"clear_depth": None}, {"output": "alpha"},
+            {"width": 0}, {"width": 40_000}, {"height": 1.5}, {"height": "3"}, {"width": True}, {"samples": 3},
+            {"samples": 0}, {"clear": (0, 0, 300)}, {"clear": (0, 0)}, {"clear": 0}, {"clear": (0, -1, 0)},
+            {"clear_depth": 70_000}, {"clear_depth": -1}, {"clear_depth": None}, {"output": "alpha"},
         ]
         for wrong in values:
             with self.assertRaises(poster.ArraysError) as raised:
@@ -49,9 +51,13 @@ class Sheets(unittest.TestCase):
             self.assertIn(next(iter(wrong)), str(raised.exception))
 
     def test_integers_of_numpy_are_integers(self) -> None:
-        sheet = poster.Sheet(np.int64(3), np.uint8(4), clear=np.array([1, 2, 3]), clear_depth=np.uint16(65535))  # type: ignore[arg-type]
+        sheet = poster.Sheet(
+            np.int64(3), np.uint8(4), clear=np.array([1, 2, 3]), clear_depth=np.uint16(65535)  # type: ignore[arg-type]
+        )
         self.assertEqual(sheet, poster.Sheet(3, 4, clear=(1, 2, 3)))
-        self.assertEqual([type(value) for value in (sheet.width, sheet.height, *sheet.clear, sheet.clear_depth)], [int] * 6)
+        self.assertEqual(
+            [type(value) for value in (sheet.width, sheet.height, *sheet.clear, sheet.clear_depth)], [int] * 6
+        )
 
 
 class Draws(unittest.TestCase):
@@ -74,14 +80,15 @@ class Scenes(Files):
     def test_wrong_arrays_are_refused(self) -> None:
         vertices = np.array(VERTICES)
         for wrong in (
-            vertices[:, :2], vertices[0], vertices + (1 << 24), vertices + (1 << 40), vertices.astype(float), vertices.astype(bool), -vertices,
+            vertices[:, :2], vertices[0], vertices + (1 << 24), vertices + (1 << 40), vertices.astype(float),
+            vertices.astype(bool), -vertices,
             VERTICES, np.ma.masked_less(vertices, 1), None,  # type: ignore[no-untyped-call]
         ):
             with self.assertRaises(poster.ArraysError):
                 scene_of(vertices=wrong)
         for wrong in (
-            TRIANGLE + 1, TRIANGLE - 1, TRIANGLE + (1 << 32), TRIANGLE.astype(np.uint64) - np.uint64(1), TRIANGLE[:0], TRIANGLE[:, :2],
-            [[0, 1, 2]], TRIANGLE.astype(float),
+            TRIANGLE + 1, TRIANGLE - 1, TRIANGLE + (1 << 32), TRIANGLE.astype(np.uint64) - np.uint64(1), TRIANGLE[:0],
+            TRIANGLE[:, :2], [[0, 1, 2]], TRIANGLE.astype(float),
         ):
             with self.assertRaises(poster.ArraysError):
                 scene_of(triangles=wrong)
@@ -91,7 +98,8 @@ class Scenes(Files):
             with self.assertRaises(poster.ArraysError):
                 scene_of(draws=draws)
         states: List[Dict[str, Any]] = [
-            {"cull": "sideways"}, {"fog": 1}, {"scissor": [0, 0, 1]}, {"scissor": [0, 0, 1, 40_000]}, {"sample_mask": 99_999},
+            {"cull": "sideways"}, {"fog": 1}, {"scissor": [0, 0, 1]}, {"scissor": [0, 0, 1, 40_000]},
+            {"sample_mask": 99_999},
         ]
         for state in states:
             with self.assertRaises(trirast.DrawListError):
@@ -120,7 +128,8 @@ class Scenes(Files):
         self.assertEqual(self.content("a.ppm"), FILE)
 
     def must_not_crash(self, change: str) -> None:
-        """Arrays of the caller's own that another thread changes while they are drawn: a poster, or an error by name."""
+        """Arrays of the caller's own that another thread changes while they are drawn: a poster, or an
+        error by name."""
         done = run(f"""
             import os, threading, time, numpy as np, trirast
             from trirast import poster
@@ -131,7 +140,8 @@ class Scenes(Files):
             vertices["x"], vertices["y"] = places.T
             triangles = np.arange(3 * count, dtype=np.int32).reshape(-1, 3)
             scene = poster.scene_of_arrays(
-                vertices, triangles, {{"width": side, "height": side, "samples": 4, "draws": [{{"triangles": count}}]}}, copy=False
+                vertices, triangles, {{"width": side, "height": side, "samples": 4, "draws": [{{"triangles": count}}]}},
+                copy=False,
             )
             is_over = False
 
@@ -158,7 +168,8 @@ class Scenes(Files):
 
     def test_arrays_that_another_thread_changes(self) -> None:
         self.must_not_crash(
-            "vertices['x'][k] = 0x7fffffff; vertices['x'][k] = -0x80000000; vertices['x'][k] = 9; vertices['depth'][k] = 65535;"
+            "vertices['x'][k] = 0x7fffffff; vertices['x'][k] = -0x80000000; vertices['x'][k] = "
+            "9; vertices['depth'][k] = 65535;"
             "triangles[k, 1] = 0x7fffffff; triangles[k, 1] = -5; triangles[k, 1] = 2"
         )
 
@@ -193,9 +204,9 @@ class Texts(unittest.TestCase):
         for width in (3, 5000, 32768):
             text = json.dumps({**DRAW_LIST, "width": width}).encode()
             for wrong in (
-                text.replace(b"[128, 128, 0,", b"[128, 128, -0,"), text.replace(b'"width": ', b'"width": 0'), text.replace(b'"width": ', b'"width": -'),
-                text.replace(b"[128, 128, 0,", b"[128, 128, 0.0,"), text.replace(b"[128, 128, 0,", b"[128, 128, 1e400,"),
-                text + b" {}", b"\xef\xbb\xbf" + text,
+                text.replace(b"[128, 128, 0,", b"[128, 128, -0,"), text.replace(b'"width": ', b'"width": 0'),
+                text.replace(b'"width": ', b'"width": -'), text.replace(b"[128, 128, 0,", b"[128, 128, 0.0,"),
+                text.replace(b"[128, 128, 0,", b"[128, 128, 1e400,"), text + b" {}", b"\xef\xbb\xbf" + text,
             ):
                 self.assertNotEqual(wrong, text)
                 with self.assertRaises(trirast.DrawListError):
@@ -213,7 +224,9 @@ class Texts(unittest.TestCase):
 
     def test_scissors(self) -> None:
         draw = DRAW_LIST["draws"][0]
-        for scissor, is_read in (([0, 0, 32768, 9000], True), ([0, 0, 32769, 9000], False), ([0, 0, 9000.0, 3], False), ([0, 9000, 3], False)):
+        for scissor, is_read in (
+            ([0, 0, 32768, 9000], True), ([0, 0, 32769, 9000], False), ([0, 0, 9000.0, 3], False), ([0, 9000, 3], False)
+        ):
             text = json.dumps({**DRAW_LIST, "draws": [{**draw, "scissor": scissor}]}).encode()
             if is_read:
                 self.assertEqual(poster.scene_of_list(text).draws[0].state["scissor"], scissor)

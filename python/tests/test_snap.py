@@ -104,7 +104,9 @@ class Refused(unittest.TestCase):
         for xy in (pairs, np.array(pairs), np.array(pairs, np.float32), np.array(pairs, int), np.array(pairs, object)):
             self.must_say(ValueError, f"xy: row 1, y: {BAND}, and not 32768.0", xy)
         self.must_say(ValueError, f"xy: row 0, x: {BAND}, and not -32768.01", [[-32768.01, 0.0]])
-        self.must_say(ValueError, f"xy: row 1, x: {BAND}, and not 20000.0 by the scale 2.0", [[0.0, 1.0], [20000.0, 1.0]], 2)
+        self.must_say(
+            ValueError, f"xy: row 1, x: {BAND}, and not 20000.0 by the scale 2.0", [[0.0, 1.0], [20000.0, 1.0]], 2
+        )
         self.assertEqual(trirast.snap([[-32768.001, 32767.998]]).tolist(), [[LOW, HIGH]])
         for xy in ([[1e308, 0.0]], np.array([[1e308, 0.0]])):
             self.must_say(ValueError, f"xy: row 0, x: {BAND}, and not 1e+308 by the scale 1e+30", xy, 1e30)

@@ -1,4 +1,5 @@
-"""What a running call uses is its own until all threads end: interrupts, arrays that others change, threads that cannot be started."""
+"""What a running call uses is its own until all threads end: interrupts, arrays that others change, threads that
+cannot be started."""
 
 import gc
 import unittest
@@ -91,7 +92,8 @@ print(set(memoryview(canvas.rgb()).tobytes()))
             """
 for _ in range(4):
     interrupted(
-        lambda: trirast.draw({"width": 4096, "height": 4096, "draws": []}, threads=4, out=bytearray(3 * 4096 * 4096)), 0.01
+        lambda: trirast.draw({"width": 4096, "height": 4096, "draws": []}, threads=4, out=bytearray(3 * 4096 * 4096)),
+        0.01,
     )
 print("ended")
 """,
@@ -146,7 +148,9 @@ class Arrays(unittest.TestCase):
             import struct, threading, time, trirast
             from array import array
             count = 20000
-            vertices = bytearray().join(struct.pack("=iiHBBBB2x", 256 * k * k, 2560 * k, 0, 1, 2, 3, 255) for k in range(3))
+            vertices = bytearray().join(
+                struct.pack("=iiHBBBB2x", 256 * k * k, 2560 * k, 0, 1, 2, 3, 255) for k in range(3)
+            )
             numbers, indices = memoryview(vertices).cast("i"), array("I", [0, 1, 2] * count)
             canvas = trirast.Canvas(64, 256)
             canvas.clear()
@@ -249,7 +253,10 @@ class Starting(unittest.TestCase):
     def drawn(self, threads: int) -> bytes:
         canvas = trirast.Canvas(8, 256)
         canvas.clear(threads=threads)
-        canvas.draw([[0, 0, 0, 9, 9, 9, 255], [2048, 0, 0, 9, 9, 9, 255], [0, 65536, 0, 9, 9, 9, 255]], [[0, 1, 2]], threads=threads)
+        canvas.draw(
+            [[0, 0, 0, 9, 9, 9, 255], [2048, 0, 0, 9, 9, 9, 255], [0, 65536, 0, 9, 9, 9, 255]], [[0, 1, 2]],
+            threads=threads,
+        )
         return bytes_of(canvas.rgb(threads=threads)) + trirast.draw({**DRAW_LIST, "height": 256}, threads=threads).bytes
 
     def test_none_or_some(self) -> None:
@@ -303,8 +310,8 @@ class Starting(unittest.TestCase):
                 small, large = {DRAW_LIST}, {{**{DRAW_LIST}, "height": 512}}
                 calls = [
                     of_canvas, lambda: trirast.draw_file(large), lambda: trirast.draw(large).bytes,
-                    lambda: trirast.draw(large, threads=3).bytes, lambda: trirast.image_info(small), lambda: trirast.why(small, 1, 1),
-                    lambda: trirast.triangle_samples(small, 0, 0),
+                    lambda: trirast.draw(large, threads=3).bytes, lambda: trirast.image_info(small),
+                    lambda: trirast.why(small, 1, 1), lambda: trirast.triangle_samples(small, 0, 0),
                 ]
                 for depth in 63, 127, 500:
                     for begin, end in (("[", "]"), ('{{"a":', "}}"), ('[{{"a":', '}}]'), ('{{"a":[', ']}}')):
@@ -366,7 +373,9 @@ class Starting(unittest.TestCase):
         self.assertEqual((done.returncode, done.stdout, done.stderr), (0, 4 * b"left ", b""))
         # A copy of the process waits for none of them.
         done = run(program.format("os.fork() or os.write(1, b'copy ')"))
-        self.assertEqual((done.returncode, sorted(done.stdout.split()), done.stderr), (0, [b"copy"] + 4 * [b"left"], b""))
+        self.assertEqual(
+            (done.returncode, sorted(done.stdout.split()), done.stderr), (0, [b"copy"] + 4 * [b"left"], b"")
+        )
 
     def test_where_the_system_gives_little_stack(self) -> None:
         program = f"""
@@ -390,7 +399,8 @@ class Starting(unittest.TestCase):
             threading.stack_size(1 << 30)
             used = int(open("/proc/self/statm").read().split()[0]) * resource.getpagesize()
             resource.setrlimit(resource.RLIMIT_AS, (used + (5 << 29),) * 2)
-            square = [[0, 0, 0, 9, 9, 9, 9], [131072, 0, 0, 9, 9, 9, 9], [131072, 65536, 0, 9, 9, 9, 9], [0, 65536, 0, 9, 9, 9, 9]]
+            square = [[0, 0, 0, 9, 9, 9, 9], [131072, 0, 0, 9, 9, 9, 9], [131072, 65536, 0, 9, 9, 9, 9],
+                      [0, 65536, 0, 9, 9, 9, 9]]
             canvas.draw(square, quads=[[0, 1, 2, 3]] * 3000, blend="over", threads=4)
             print(len(set(memoryview(canvas.rgb()).tobytes())))
         """)
@@ -403,7 +413,10 @@ class OneCanvas(unittest.TestCase):
             self.skipTest("there is no numpy")
         canvas = trirast.Canvas(64, 256, samples=4)
         canvas.clear()
-        square = [[0, 0, 0, 1, 1, 1, 255], [16384, 0, 0, 1, 1, 1, 255], [16384, 65536, 0, 1, 1, 1, 255], [0, 65536, 0, 1, 1, 1, 255]]
+        square = [
+            [0, 0, 0, 1, 1, 1, 255], [16384, 0, 0, 1, 1, 1, 255], [16384, 65536, 0, 1, 1, 1, 255],
+            [0, 65536, 0, 1, 1, 1, 255],
+        ]
         pictures: List[Any] = []
 
         def draw_and_look(number: int) -> None:

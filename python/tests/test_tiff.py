@@ -25,7 +25,9 @@ class Tiff(Files):
         """The pixels of a PPM or PGM file."""
         sheet = scene.sheet
         found = self.content(name)[-sheet.width * sheet.height * sheet.pixel_bytes :]
-        return np.frombuffer(found, ">u2" if sheet.is_depth else "u1").reshape((sheet.height, sheet.width, 3)[: 2 if sheet.is_depth else 3])
+        return np.frombuffer(found, ">u2" if sheet.is_depth else "u1").reshape(
+            (sheet.height, sheet.width, 3)[: 2 if sheet.is_depth else 3]
+        )
 
     @unittest.skipUnless(IS_THERE, "needs tifffile")
     def test_files_have_the_same_pixels(self) -> None:
@@ -39,7 +41,10 @@ class Tiff(Files):
             with tifffile.TiffFile(self.path("a.TIF")) as file:
                 self.assertTrue((file.asarray() == self.pixels("a.ppm", each)).all())
                 tags = file.pages[0].tags
-                self.assertEqual((tags["XResolution"].value, tags["ResolutionUnit"].value, file.pages[0].is_tiled), ((300, 1), 2, True))
+                self.assertEqual(
+                    (tags["XResolution"].value, tags["ResolutionUnit"].value, file.pages[0].is_tiled),
+                    ((300, 1), 2, True),
+                )
             self.assertEqual(sorted(os.listdir(self.folder)), ["a.TIF", "a.ppm"])
         if importlib.util.find_spec("PIL") is not None:
             from PIL import Image
@@ -69,7 +74,9 @@ class Tiff(Files):
 
     def test_a_stopped_run_of_the_command_says_that_it_begins_anew(self) -> None:
         for name, text in (("a.TIF", "a TIFF file begins anew"), ("a.png", "--resume goes on")):
-            with mock.patch.object(_command, "scene_of", side_effect=KeyboardInterrupt), contextlib.redirect_stderr(io.StringIO()) as errors:
+            with mock.patch.object(
+                _command, "scene_of", side_effect=KeyboardInterrupt
+            ), contextlib.redirect_stderr(io.StringIO()) as errors:
                 self.assertEqual(_command.main(["a.json", "-o", self.path(name)]), 130)
             self.assertEqual(errors.getvalue(), f"poster: stopped; {text}\n")
 

@@ -30,7 +30,8 @@ class Forms(unittest.TestCase):
         for place, (x, y) in zip(of_ctypes, XY):
             place[:] = x, y
         forms: List[Any] = [
-            VERTICES, tuple(map(tuple, VERTICES)), XY, RECORDS, bytearray(RECORDS), memoryview(two).cast("B").cast("i", shape=[3, 2]),
+            VERTICES, tuple(map(tuple, VERTICES)), XY, RECORDS, bytearray(RECORDS),
+            memoryview(two).cast("B").cast("i", shape=[3, 2]),
             memoryview(whole).cast("B").cast("q", shape=[3, 7]).toreadonly(), of_ctypes, iter(XY),
         ]
         for vertices in forms:
@@ -38,8 +39,9 @@ class Forms(unittest.TestCase):
 
     def test_of_indices(self) -> None:
         forms: List[Any] = [
-            [(0, 1, 2)], array("I", [0, 1, 2]), array("i", [0, 1, 2]), array("B", [0, 1, 2]), bytes(array("I", [0, 1, 2])),
-            bytearray(array("I", [0, 1, 2])), (ctypes.c_uint32 * 3)(0, 1, 2), memoryview(array("h", [0, 9, 1, 9, 2, 9]))[::2], None,
+            [(0, 1, 2)], array("I", [0, 1, 2]), array("i", [0, 1, 2]), array("B", [0, 1, 2]),
+            bytes(array("I", [0, 1, 2])), bytearray(array("I", [0, 1, 2])), (ctypes.c_uint32 * 3)(0, 1, 2),
+            memoryview(array("h", [0, 9, 1, 9, 2, 9]))[::2], None,
         ]
         for triangles in forms:
             self.assertEqual(drawn(VERTICES, triangles), PIXELS, triangles)
@@ -55,7 +57,10 @@ class Forms(unittest.TestCase):
             for order in ("C", "F"):
                 for rows in (VERTICES, XY):
                     vertices = np.array(rows, kind, order=order)
-                    for triangles in (np.array(TRIANGLE, "u4"), np.array(TRIANGLE), np.array([0, 1, 2], "u1"), np.array(TRIANGLE, ">u2")):
+                    for triangles in (
+                        np.array(TRIANGLE, "u4"), np.array(TRIANGLE), np.array([0, 1, 2], "u1"),
+                        np.array(TRIANGLE, ">u2"),
+                    ):
                         self.assertEqual(drawn(vertices, triangles), PIXELS, vertices)
         many = np.random.default_rng(1).integers(-5000, 5000, (9000, 2))
         self.assertEqual([row[:2] for row in records(many)], [tuple(row) for row in many.tolist()])
@@ -68,7 +73,9 @@ class Forms(unittest.TestCase):
         wide = np.zeros((3, 2), trirast.VERTEX)
         wide[:, 0] = own
         unaligned = np.frombuffer(b"1" + RECORDS, np.uint8)[1:].view(trirast.VERTEX)
-        other = np.zeros(3, [("alpha", "i8"), ("y", ">i4"), ("x", "i2"), ("blue", "u1"), ("green", "u1"), ("red", "u1")])
+        other = np.zeros(
+            3, [("alpha", "i8"), ("y", ">i4"), ("x", "i2"), ("blue", "u1"), ("green", "u1"), ("red", "u1")]
+        )
         for name in other.dtype.names:
             other[name] = own[name]
         places = np.array([tuple(row) for row in XY], [("x", "i8"), ("y", "i8")])
@@ -103,7 +110,12 @@ class Forms(unittest.TestCase):
             self.assertEqual(records(vertices, depth=5)[0][2], 5)
             canvas = trirast.Canvas(3, 3)
             canvas.clear()
-            canvas.draw_batch([trirast.Draw(vertices[:0], []), trirast.Draw(vertices), trirast.Draw(own, TRIANGLE), trirast.Draw(vertices, TRIANGLE)])
+            canvas.draw_batch(
+                [
+                    trirast.Draw(vertices[:0], []), trirast.Draw(vertices), trirast.Draw(own, TRIANGLE),
+                    trirast.Draw(vertices, TRIANGLE),
+                ]
+            )
             self.assertEqual(bytes_of(canvas.rgb()), PIXELS)
             vertices["x"] = 1 << 23
             with self.assertRaises(trirast.BatchError) as caught:
@@ -119,8 +131,12 @@ class Forms(unittest.TestCase):
         odd = np.zeros(3, trirast.VERTEX + [("more", "u1", 3)])
         turned = np.zeros(3, [*trirast.VERTEX[1::-1], *trirast.VERTEX[2:], ("more", "u4")])
         cut = np.zeros(3, [("more", "u4"), *trirast.VERTEX[:-1]])
-        swapped = np.zeros(3, [*trirast.VERTEX, ("more", "u4")]).astype([(name, kind.newbyteorder()) for name, (kind, _place) in
-                                                                       np.dtype([*trirast.VERTEX, ("more", "u4")]).fields.items()])
+        swapped = np.zeros(3, [*trirast.VERTEX, ("more", "u4")]).astype(
+            [
+                (name, kind.newbyteorder())
+                for name, (kind, _place) in np.dtype([*trirast.VERTEX, ("more", "u4")]).fields.items()
+            ]
+        )
         padded = np.zeros(3, [*trirast.VERTEX, ("more", "u4")])
         for vertices in (too_wide, odd, turned, cut, swapped, padded[::-1]):
             for name, _kind in trirast.VERTEX:
@@ -130,18 +146,24 @@ class Forms(unittest.TestCase):
             self.assertEqual(drawn(vertices, TRIANGLE), PIXELS)
 
     def test_that_are_none_draw_nothing(self) -> None:
-        empty: List[Any] = [([], []), (VERTICES, []), (b"", b""), (RECORDS, array("I")), (VERTICES, array("d")), ([], None)]
+        empty: List[Any] = [
+            ([], []), (VERTICES, []), (b"", b""), (RECORDS, array("I")), (VERTICES, array("d")), ([], None)
+        ]
         if NUMPY is not None:
             np = NUMPY
-            empty += [(np.zeros(0, trirast.VERTEX), np.zeros((0, 3), int)), (np.array([]), np.array([])), (np.zeros((0, 2)), None),
-                      (np.zeros(3, trirast.VERTEX), np.zeros((0, 3), int))]
+            empty += [
+                (np.zeros(0, trirast.VERTEX), np.zeros((0, 3), int)), (np.array([]), np.array([])),
+                (np.zeros((0, 2)), None), (np.zeros(3, trirast.VERTEX), np.zeros((0, 3), int)),
+            ]
         for vertices, triangles in empty:
             self.assertEqual(drawn(vertices, triangles), bytes(27))
         canvas = trirast.Canvas(3, 3)
         canvas.clear()
         canvas.draw_batch([])
         # A draw without indices beside others takes its vertices in their order, and one of none draws nothing.
-        canvas.draw_batch([trirast.Draw(VERTICES, []), trirast.Draw(VERTICES), trirast.Draw([], []), trirast.Draw(VERTICES, TRIANGLE)])
+        canvas.draw_batch(
+            [trirast.Draw(VERTICES, []), trirast.Draw(VERTICES), trirast.Draw([], []), trirast.Draw(VERTICES, TRIANGLE)]
+        )
         self.assertEqual(bytes_of(canvas.rgb()), PIXELS)
 
 
@@ -151,7 +173,9 @@ class Values(unittest.TestCase):
         self.assertEqual([row[3:] for row in records(XY)], [WHITE] * 3)
         self.assertEqual([row[3:] for row in records(XY, colors=rows[0])], [(1, 2, 3, 255)] * 3)
         self.assertEqual([row[3:] for row in records(XY, colors=rows)], [(*row, 255) for row in rows])
-        self.assertEqual([row[3:] for row in records(VERTICES, colors=[(*row, 9) for row in rows])], [(*row, 9) for row in rows])
+        self.assertEqual(
+            [row[3:] for row in records(VERTICES, colors=[(*row, 9) for row in rows])], [(*row, 9) for row in rows]
+        )
         self.assertEqual([row[3:] for row in records([(0, 0)] * 4, colors=[(1, 2, 3, 4)] * 4)], [(1, 2, 3, 4)] * 4)
         self.assertEqual(records([], colors=(1, 2, 3)), [])
         if NUMPY is not None:

@@ -58,10 +58,11 @@ from ._version import VERSION as __version__
 from ._vertices import VERTEX
 
 __all__ = [
-    "BLENDS", "BatchError", "Blend", "BufferTooSmallError", "Canvas", "CanvasError", "Clipped", "Draw", "DrawList", "DrawListError", "Error",
-    "Event", "FormatError", "Fragment", "Fragments", "ImageInfo", "IndexSizeError", "LimitError", "MemorySizeError", "OutOfMemoryError",
-    "Picture", "PixelError", "PixelHistory", "PositionError", "SampleError", "SampleHistory", "State", "Stored", "StrideError",
-    "StructSizeError", "TileError", "TileRowsError", "TileSizeError", "TriangleError", "TriangleSamples", "VERTEX",
-    "__version__", "clip", "draw", "draw_file", "edges_at", "image_info", "snap",
+    "BLENDS", "BatchError", "Blend", "BufferTooSmallError", "Canvas", "CanvasError", "Clipped", "Draw", "DrawList",
+    "DrawListError", "Error", "Event", "FormatError", "Fragment", "Fragments", "ImageInfo", "IndexSizeError",
+    "LimitError", "MemorySizeError", "OutOfMemoryError", "Picture", "PixelError", "PixelHistory", "PositionError",
+    "SampleError", "SampleHistory", "State", "Stored", "StrideError", "StructSizeError", "TileError", "TileRowsError",
+    "TileSizeError", "TriangleError", "TriangleSamples", "VERTEX", "__version__", "clip", "draw", "draw_file",
+    "edges_at", "image_info", "snap",
     "triangle_samples", "why",
 ]

@@ -1,7 +1,7 @@
 """What callers pass, as numbers. `_buffers` does the same for arrays.
 
-Each function takes the name of the parameter. Its message is that name, what is wanted and what was passed: "threads: at least 1, and
-not 0". Nothing is rounded, cut or guessed.
+Each function takes the name of the parameter. Its message is that name, what is wanted and what was passed: "threads:
+at least 1, and not 0". Nothing is rounded, cut or guessed.
 """
 
 import math
@@ -31,13 +31,15 @@ def integer(name: str, value: SupportsIndex, unit: str = "") -> int:
 
 
 def number(name: str, value: SupportsIndex, otherwise: int = NUMBERS - 1) -> int:
-    """An integer that the library judges: if it does not fit 32 bits, another that no range has. ctypes would cut it."""
+    """An integer that the library judges: if it does not fit 32 bits, another that no range has. ctypes
+    would cut it."""
     given = integer(name, value)
     return given if 0 <= given < NUMBERS else otherwise
 
 
 def between(
-    name: str, value: SupportsIndex, least: int, greatest: int, refused: Callable[[str], Exception] = ValueError, unit: str = ""
+    name: str, value: SupportsIndex, least: int, greatest: int, refused: Callable[[str], Exception] = ValueError,
+    unit: str = "",
 ) -> int:
     """An integer in a range. Raises ValueError at any other, or what is made of the message."""
     given = integer(name, value, unit)

@@ -28,7 +28,9 @@ def batch_of(draws: List[Draw]) -> CBatch:
     in_c = (CDraw * len(draws))(*(each._in_c(part) for each, part in zip(draws, parts)))
     of_draws, indices = [each._vertices for each in draws], joined(parts)
     vertices = of_draws[0] if len(draws) == 1 else joined([packed(each) for each in of_draws])
-    where, stride = (vertices.address, vertices.stride) if isinstance(vertices, Strided) else (address_of(vertices), VERTEX_BYTES)
+    where, stride = (
+        (vertices.address, vertices.stride) if isinstance(vertices, Strided) else (address_of(vertices), VERTEX_BYTES)
+    )
     batch = CBatch(
         0, stride, INDEX_BYTES, ctypes.addressof(in_c), len(draws), where, count_of(vertices),
         address_of(indices) if has_indices else None, len(indices) // INDEX_BYTES,

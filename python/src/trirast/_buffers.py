@@ -8,7 +8,9 @@ from typing import Any, NamedTuple, Optional, Tuple
 from ._arguments import shown
 
 # By the letter of a buffer's format, as the module struct has it.
-FAMILIES = {**dict.fromkeys("bhilqn", "int"), **dict.fromkeys("cBHILQN", "uint"), **dict.fromkeys("efdg", "float"), "?": "bool"}
+FAMILIES = {
+    **dict.fromkeys("bhilqn", "int"), **dict.fromkeys("cBHILQN", "uint"), **dict.fromkeys("efdg", "float"), "?": "bool"
+}
 ORDERS = ("", "@", "=", "<", ">", "!")
 OTHER_ORDER, OTHER_NAME = (">!", "big-endian") if sys.byteorder == "little" else ("<", "little-endian")
 ARRAY_PROTOCOLS = ("__array__", "__array_interface__")
@@ -48,7 +50,10 @@ def refuse_masked(name: str, value: Any) -> None:
 def buffer_of(value: Any) -> Optional[memoryview]:
     """The buffer of an object, or None if it has none, or one that cannot be read."""
     numpy = sys.modules.get("numpy")
-    if numpy is not None and not isinstance(value, numpy.ndarray) and any(hasattr(value, name) for name in ARRAY_PROTOCOLS):
+    if (
+        numpy is not None and not isinstance(value, numpy.ndarray)
+        and any(hasattr(value, name) for name in ARRAY_PROTOCOLS)
+    ):
         value = numpy.asarray(value)
     try:
         return memoryview(value)
@@ -94,7 +99,8 @@ class Buffer:
 
 
 def check_writable(name: str, value: Any, *forms: Form) -> memoryview:
-    """A buffer that can be written, of one of these forms. Raises TypeError at what is none, and ValueError at another."""
+    """A buffer that can be written, of one of these forms. Raises TypeError at what is none, and
+    ValueError at another."""
     wanted = f"{' or '.join(map(str, forms))}, contiguous and writable"
     view = view_of(name, value, wanted)
     if view.readonly or not view.c_contiguous or not any(form.fits(view) for form in forms):

@@ -43,10 +43,11 @@ class Canvas:
     has, in the standard patterns of Direct3D 11.
 
     `origin` is the pixel of the screen at which the upper left pixel of the canvas lies; positions and scissors are
-    those of the screen. `memory` is a buffer of at least Canvas.size(..) bytes that can be written, in which the samples
-    lie; what they begin with is not specified, so call `clear` first. Without it the canvas has memory of its own, and
-    begins as `clear()` makes it. With `alpha` a sample has a fourth channel: one that is cleared to alpha 0 and drawn on by "over"
-    or "premultiplied" holds what was drawn without a background, its colours multiplied by their alpha.
+    those of the screen. `memory` is a buffer of at least Canvas.size(..) bytes that can be written, in which the
+    samples lie; what they begin with is not specified, so call `clear` first. Without it the canvas has memory of
+    its own, and begins as `clear()` makes it. With `alpha` a sample has a fourth channel: one that is cleared to
+    alpha 0 and drawn on by "over" or "premultiplied" holds what was drawn without a background, its colours
+    multiplied by their alpha.
 
     Calls of several threads on one canvas wait for each other. `threads` is the number of threads among which a call
     shares its tile rows. An interrupt, as by Ctrl-C, is raised when the call is done. A copy, by copy or pickle, has
@@ -134,17 +135,18 @@ class Canvas:
         self._each(threads, lambda piece, _top: library().trirast_canvas_clear(piece, clear))
 
     def load(self, image: Any, *, format: Optional[Format] = None, threads: SupportsIndex = 1) -> None:
-        """Makes an image the colour of all samples of its pixels; depths stay. The image is a buffer of bytes of the shape (height,
-        width, 3) or (height, width, 4), or of as many bytes without a shape. `format` is "rgb", "rgba" or "bgra"; without it the
-        image is "rgb" or "rgba" by its length. "rgba_straight" and "bgra_straight" are images as files have them, whose colours
-        are multiplied by their alpha; the others are stored as they are. The alpha of "rgb" is 255. An image that cannot be
-        written or is not contiguous is copied."""
+        """Makes an image the colour of all samples of its pixels; depths stay. The image is a buffer of bytes of the
+        shape (height, width, 3) or (height, width, 4), or of as many bytes without a shape. `format` is "rgb", "rgba"
+        or "bgra"; without it the image is "rgb" or "rgba" by its length. "rgba_straight" and "bgra_straight" are images
+        as files have them, whose colours are multiplied by their alpha; the others are stored as they are. The alpha of
+        "rgb" is 255. An image that cannot be written or is not contiguous is copied."""
         self._stored(library().trirast_canvas_load, image, format, threads)
 
     def store(
         self, image: Any, sample: SupportsIndex = 0, *, format: Optional[Format] = None, threads: SupportsIndex = 1
     ) -> None:
-        """Makes an image the colour of one sample of its pixels; depths and other samples stay. The image is as for `load`."""
+        """Makes an image the colour of one sample of its pixels; depths and other samples stay. The image
+        is as for `load`."""
         self._stored(of_sample(library().trirast_canvas_store, self._sample(sample)), image, format, threads)
 
     def _stored(self, call: Any, image: Any, format: Optional[Format], threads: SupportsIndex) -> None:
@@ -185,9 +187,9 @@ class Canvas:
 
         One of `triangles`, `strip` and `quads` has rows of 3, 1 and 4 indices of vertices; without any, each three
         vertices are a triangle. Rows are sequences, or buffers of integers of any type and layout, as arrays of numpy.
-        They are copied, and nothing of them is rounded or wrapped. An array of VERTEX, or of records of 20 to 2048 bytes
-        that have its members in their order among others, is not copied: nobody may change it meanwhile. bytes and a bytearray have records of 16 bytes, and indices of 32 bits. Without
-        rows nothing is drawn.
+        They are copied, and nothing of them is rounded or wrapped. An array of VERTEX, or of records of 20 to 2048
+        bytes that have its members in their order among others, is not copied: nobody may change it meanwhile. bytes
+        and a bytearray have records of 16 bytes, and indices of 32 bits. Without rows nothing is drawn.
 
         `blend` is one of BLENDS, by its name, or a Blend. `cull` drops front-facing triangles, which run clockwise on
         the screen, or back-facing ones. A sample is drawn if its new depth passes `depth_test` against the stored one;
@@ -202,8 +204,8 @@ class Canvas:
         TypeError or ValueError, which name the parameter, row and column, at what is no such value.
         """
         draw = Draw(
-            vertices, triangles, strip=strip, quads=quads, colors=colors, depth=depth, blend=blend, cull=cull, depth_test=depth_test,
-            depth_write=depth_write, keep=keep, sample_mask=sample_mask, scissor=scissor,
+            vertices, triangles, strip=strip, quads=quads, colors=colors, depth=depth, blend=blend, cull=cull,
+            depth_test=depth_test, depth_write=depth_write, keep=keep, sample_mask=sample_mask, scissor=scissor,
         )
         self.draw_batch([draw], first_id=first_id, threads=threads)
 
@@ -266,16 +268,18 @@ class Canvas:
             self._each(threads, lambda piece, _top: call(piece, polygons, *ids, scratch_of(size), size, CError()))
 
     def rgb(self, out: Optional[Any] = None, *, threads: SupportsIndex = 1) -> Any:
-        """The colours, of the shape (height, width, 3): a numpy array, or without numpy a memoryview; or what `out` is."""
+        """The colours, of the shape (height, width, 3): a numpy array, or without numpy a memoryview;
+        or what `out` is."""
         return self._resolved("rgb", out, threads)
 
     def rgba(self, out: Optional[Any] = None, *, straight: bool = False, threads: SupportsIndex = 1) -> Any:
-        """The colours with alpha, of the shape (height, width, 4): an array as that of `rgb`, or what `out` is. Alpha is 255 on a
-        canvas without it. If it is `straight`, colours are divided by alpha, as image files have them."""
+        """The colours with alpha, of the shape (height, width, 4): an array as that of `rgb`, or what `out` is. Alpha
+        is 255 on a canvas without it. If it is `straight`, colours are divided by alpha, as image files have them."""
         return self._resolved("rgba_straight" if flag("straight", straight) else "rgba", out, threads)
 
     def bgra(self, out: Optional[Any] = None, *, straight: bool = False, threads: SupportsIndex = 1) -> Any:
-        """The colours in the order blue, green, red, alpha, of the shape (height, width, 4); all else is as for `rgba`."""
+        """The colours in the order blue, green, red, alpha, of the shape (height, width, 4); all else
+        is as for `rgba`."""
         return self._resolved("bgra_straight" if flag("straight", straight) else "bgra", out, threads)
 
     def save(self, path: Path, *, dpi: Optional[SupportsFloat] = None, threads: SupportsIndex = 1) -> None:
@@ -299,16 +303,22 @@ class Canvas:
 
     def depth(self, sample: SupportsIndex = 0, out: Optional[Any] = None, *, threads: SupportsIndex = 1) -> Any:
         """The depth of one sample of each pixel: 16 bits, of the shape (height, width)."""
-        return self._written(library().trirast_canvas_depths, self._sample(sample), self._form(("uint16",)), out, threads)
+        return self._written(
+            library().trirast_canvas_depths, self._sample(sample), self._form(("uint16",)), out, threads
+        )
 
     def ids(self, sample: SupportsIndex = 0, out: Optional[Any] = None, *, threads: SupportsIndex = 1) -> Any:
         """The id of one sample of each pixel: 32 bits, of the shape (height, width)."""
-        return self._written(library().trirast_canvas_ids, self._sample(sample), self._form(("uint32", "int32")), out, threads)
+        return self._written(
+            library().trirast_canvas_ids, self._sample(sample), self._form(("uint32", "int32")), out, threads
+        )
 
     def colors(
-        self, sample: SupportsIndex = 0, out: Optional[Any] = None, *, format: Format = "rgb", threads: SupportsIndex = 1
+        self, sample: SupportsIndex = 0, out: Optional[Any] = None, *, format: Format = "rgb",
+        threads: SupportsIndex = 1,
     ) -> Any:
-        """The colour of one sample of each pixel, which is not resolved: bytes of the shape (height, width, 3), or 4 with alpha."""
+        """The colour of one sample of each pixel, which is not resolved: bytes of the shape (height, width,
+        3), or 4 with alpha."""
         named("format", FORMATS, format)
         code, channels = FORMATS[format]
         call = of_sample(library().trirast_canvas_colors, self._sample(sample))
@@ -339,7 +349,9 @@ class Canvas:
             for name, each, side in zip(("column", "row"), of_length("tile", tile, 2), (self.width, self.height))
         )
         origin = self.origin[0] + column * TILE_SIZE, self.origin[1] + row * TILE_SIZE
-        return fragments_of(self._tile_ids(column, row), origin, vertices, triangles, w, rate)._replace(tile=(column, row))
+        return (
+            fragments_of(self._tile_ids(column, row), origin, vertices, triangles, w, rate)._replace(tile=(column, row))
+        )
 
     def shade(
         self, fragments: Fragments, colors: Any, background: Any = (0, 0, 0), *, threads: SupportsIndex = 1
@@ -402,7 +414,9 @@ class Canvas:
     def __setstate__(self, state: Dict[str, Any]) -> None:
         interface, kind, origin, samples = state.pop("_canvas")
         if interface != INTERFACE or len(samples) != library().trirast_canvas_size(CCanvas(0, *kind)):
-            raise ValueError(f"a canvas of interface {interface}, whose samples may lie in another way than those of {INTERFACE}")
+            raise ValueError(
+                f"a canvas of interface {interface}, whose samples may lie in another way than those of {INTERFACE}"
+            )
         memory, first = aligned(len(samples))
         ctypes.memmove(ctypes.addressof(memory) + first, samples, len(samples))
         self._set(kind, origin, (memory, first), len(samples))
@@ -449,7 +463,10 @@ class Canvas:
         self._check_apart(name, buffer)
         start, size = buffer.address, buffer.size
         stride = size // self.height
-        self._each(threads, lambda piece, top: call(piece, chosen, start + top * stride, (size - top * stride) // unit, stride), buffer)
+        self._each(
+            threads,
+            lambda piece, top: call(piece, chosen, start + top * stride, (size - top * stride) // unit, stride), buffer,
+        )
 
     def _resolved(self, kind: str, out: Optional[Any], threads: SupportsIndex) -> Any:
         code, channels = FORMATS[kind]
@@ -490,7 +507,9 @@ def edges_at(
     found = new_array(Form(("int64",), (table.count, 5)))
     if not table.count:
         return found
-    with Buffer(memoryview(places)) as given_points, Buffer(check_writable("points", found, Form(("int64",), (table.count, 5)))) as written:
+    with Buffer(memoryview(places)) as given_points, Buffer(
+        check_writable("points", found, Form(("int64",), (table.count, 5)))
+    ) as written:
         with adding(PositionError, lambda _error: point_values(places)):
             library().trirast_edges_at(CCorners(*corners), given_points.address, 0, table.count, written.address)
     return found

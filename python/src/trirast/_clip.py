@@ -19,9 +19,10 @@ LEAST_W = 2.0**-30
 
 
 class Clipped(NamedTuple):
-    """Triangles on the screen. The first vertices are the projected positions, at their own indices; those that a plane does not keep are
-    unspecified. Behind them lie those that cuts made: `cuts` has of each the triangle of the source in which it lies, `corners` the three
-    indices of that triangle, and `weights` the weights of its corners. `sources` has of each triangle that of the source."""
+    """Triangles on the screen. The first vertices are the projected positions, at their own indices; those that a plane
+    does not keep are unspecified. Behind them lie those that cuts made: `cuts` has of each the triangle of the source
+    in which it lies, `corners` the three indices of that triangle, and `weights` the weights of its corners. `sources`
+    has of each triangle that of the source."""
 
     vertices: Array  # of VERTEX, in colours of 0: Canvas.draw takes them with `colors`, or whose fields are set
     w: Array  # float32, of each vertex
@@ -30,10 +31,12 @@ class Clipped(NamedTuple):
     cuts: Array  # uint32, of each vertex that a cut made the triangle of the source in which it lies
     corners: Array  # uint32, rows of the three indices of that triangle
     weights: Array  # float64, rows of the weights of its corners
-    folded: int  # polygons that rounding to 1/256 pixel has folded: thinner than that, a sample in one may be drawn twice
+    # Polygons that rounding to 1/256 pixel has folded: thinner than that, a sample in one may be drawn twice.
+    folded: int
 
     def attributes(self, values: Any) -> Array:
-        """Attributes of all vertices: those of the positions, a row each, and then weighted sums for those that cuts made."""
+        """Attributes of all vertices: those of the positions, a row each, and then weighted sums for
+        those that cuts made."""
         import numpy as np
 
         given = np.asarray(values)
@@ -46,7 +49,9 @@ class Clipped(NamedTuple):
 class View:
     """What does not change from triangle to triangle."""
 
-    def __init__(self, viewport: Sequence[SupportsIndex], near_plane: int, sides: int, depths: Sequence[SupportsIndex]) -> None:
+    def __init__(
+        self, viewport: Sequence[SupportsIndex], near_plane: int, sides: int, depths: Sequence[SupportsIndex]
+    ) -> None:
         left, top, width, height = of_length("viewport", viewport, 4)
         starts = tuple(between("viewport", each, -LARGEST, LARGEST) for each in (left, top))
         sizes = tuple(between("viewport", each, 1, LARGEST) for each in (width, height))
@@ -61,8 +66,8 @@ class View:
         self.planes = (Plane(self.near_factor, 1.0, 2), Plane(0.0, 1.0, 3, LEAST_W), Plane(1.0, -1.0, 2), *beside)
 
     def marks(self, places: Array) -> Array:
-        """A bit for each plane that does not keep the position, then for each side of the viewport that it lies beyond, then one if a
-        coordinate is infinite or not a number."""
+        """A bit for each plane that does not keep the position, then for each side of the viewport that it lies beyond,
+        then one if a coordinate is infinite or not a number."""
         import numpy as np
 
         found = np.zeros(places.shape[1], np.uint16)
@@ -95,7 +100,8 @@ class View:
 
 
 def guard(half: float, middle: float) -> float:
-    """The largest power of two of half viewports from the middle that fit the positions of a canvas, with a pixel to spare."""
+    """The largest power of two of half viewports from the middle that fit the positions of a canvas, with
+    a pixel to spare."""
     found = 1.0
     while 2 * found * half + abs(middle) <= HIGH - 256:
         found *= 2
@@ -114,8 +120,8 @@ class Parts:
         self.folded = 0
 
     def add(self, source: int, corners: Sequence[Corner], marks: int) -> None:
-        """Cuts a triangle by those planes that a corner is behind, and by no others: rounding errors would cut parts off a triangle that
-        lies in a plane."""
+        """Cuts a triangle by those planes that a corner is behind, and by no others: rounding errors would cut parts
+        off a triangle that lies in a plane."""
         import numpy as np
 
         for bit, plane in enumerate(self._view.planes):
@@ -149,14 +155,15 @@ def clip(
 ) -> Clipped:
     """Makes the triangles on the screen of triangles in clip space, without cracks between them. It needs numpy.
 
-    `positions` are rows of x, y, z and w, floats or integers. One is in front of the eye if w is positive; x / w goes to the right and
-    y / w upwards, each from -1 to 1 over the viewport. `triangles` are rows of three indices. `viewport` is left, top, width and height, in
-    pixels of the screen. `near_plane` says what z / w is there: "zero", as in Direct3D and Vulkan, or "minus_one", as in OpenGL. `sides`
-    cut at the "guard_band", far outside of the viewport, so that a scissor has to leave out what lies there, or at the "viewport".
-    `depths` are those at the near plane and at the far plane.
+    `positions` are rows of x, y, z and w, floats or integers. One is in front of the eye if w is positive; x / w goes
+    to the right and y / w upwards, each from -1 to 1 over the viewport. `triangles` are rows of three indices.
+    `viewport` is left, top, width and height, in pixels of the screen. `near_plane` says what z / w is there: "zero",
+    as in Direct3D and Vulkan, or "minus_one", as in OpenGL. `sides` cut at the "guard_band", far outside of the
+    viewport, so that a scissor has to leave out what lies there, or at the "viewport". `depths` are those at the near
+    plane and at the far plane.
 
-    The results are those of trirast_clip.h for positions of 32 bits. Triangles that cover no sample of the viewport may be left out, and
-    those with a coordinate that is infinite, not a number or above 3.4e38 are."""
+    The results are those of trirast_clip.h for positions of 32 bits. Triangles that cover no sample of the viewport may
+    be left out, and those with a coordinate that is infinite, not a number or above 3.4e38 are."""
     import numpy as np
 
     view = View(viewport, named("near_plane", NEAR_PLANES, near_plane), named("sides", SIDES, sides), depths)

@@ -1,4 +1,5 @@
-"""One triangle of clip space, cut by planes and into triangles on the screen: include/trirast_clip.h in Python, to the last bit.
+"""One triangle of clip space, cut by planes and into triangles on the screen: include/trirast_clip.h in
+Python, to the last bit.
 
 The header says why no crack comes about. A float of Python is a double, and no product is fused with a sum.
 """
@@ -11,8 +12,8 @@ MADE = -1
 
 
 class Plane(NamedTuple):
-    """A plane keeps a position if factor * w + sign * (its coordinate on the axis) is at least `constant`. The factor is 0 or a power of
-    two and the sign 1 or -1, so that products are exact."""
+    """A plane keeps a position if factor * w + sign * (its coordinate on the axis) is at least `constant`. The factor
+    is 0 or a power of two and the sign 1 or -1, so that products are exact."""
 
     factor: float
     sign: float
@@ -20,7 +21,8 @@ class Plane(NamedTuple):
     constant: float = 0.0
 
     def distance(self, place: Any) -> Any:
-        """Not negative if the plane keeps the position, which is four floats, or four arrays of them. Its sign is exact."""
+        """Not negative if the plane keeps the position, which is four floats, or four arrays of them.
+        Its sign is exact."""
         return self.factor * place[3] + self.sign * place[self.axis] - self.constant
 
 
@@ -36,7 +38,8 @@ class Corner(NamedTuple):
 
 
 def cut(plane: Plane, one: Corner, other: Corner) -> Corner:
-    """The point in which a plane cuts the edge between two corners on either side of it, taken in the order of their coordinates."""
+    """The point in which a plane cuts the edge between two corners on either side of it, taken in the order of
+    their coordinates."""
     first, last = (other, one) if other.place < one.place else (one, other)
     behind = plane.distance(first.place)
     share = behind / (behind - plane.distance(last.place))
@@ -63,8 +66,8 @@ def kept(plane: Plane, corners: Sequence[Corner]) -> Iterator[Corner]:
 
 
 class Ears:
-    """The corners on the screen, x and y, that are left of a polygon. Rounding may bend a side inwards, so a fan from the first corner
-    could have triangles that lie upon each other."""
+    """The corners on the screen, x and y, that are left of a polygon. Rounding may bend a side inwards, so a fan from
+    the first corner could have triangles that lie upon each other."""
 
     def __init__(self, corners: Sequence[Tuple[int, int]]) -> None:
         self._corners = corners
@@ -89,8 +92,8 @@ class Ears:
         return self._sense * ((bx - ax) * (cy - ay) - (by - ay) * (cx - ax))
 
     def _is_ear(self, a: int) -> bool:
-        """Whether the corner behind `a` can be cut off: it does not bend inwards, no other corner lies in what is cut off, and a triangle
-        that is left is not turned over."""
+        """Whether the corner behind `a` can be cut off: it does not bend inwards, no other corner lies in what is cut
+        off, and a triangle that is left is not turned over."""
         b, c, count = a + 1, a + 2, len(self._left)
         if self._area(a, b, c) < 0:
             return False

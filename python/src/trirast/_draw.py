@@ -65,7 +65,8 @@ class Draw:
         self._topology, indices = given[0] if given else (0, None)
         name, length = TOPOLOGIES[self._topology]
         self._vertices = vertices_of(vertices, colors, depth)
-        # Without any the vertices are taken in their order. An empty array of indices may have no address, and is not without any.
+        # Without any the vertices are taken in their order. An empty array of indices may have no address,
+        # and is not without any.
         self._indices = indices_of(name, indices, index_columns(length)) if given else None
         if given and not self._indices:
             self._vertices = b""
@@ -98,8 +99,8 @@ def state_in_c(
 ) -> Tuple[Any, ...]:
     """The members of a trirast_draw behind its topology."""
     return (
-        named("cull", CULLS, cull), named("depth_test", DEPTH_TESTS, depth_test), flag("depth_write", depth_write), kept_of(keep),
-        int(scissor is not None), ~between("sample_mask", sample_mask, 0, EVERY_SAMPLE) & EVERY_SAMPLE,
+        named("cull", CULLS, cull), named("depth_test", DEPTH_TESTS, depth_test), flag("depth_write", depth_write),
+        kept_of(keep), int(scissor is not None), ~between("sample_mask", sample_mask, 0, EVERY_SAMPLE) & EVERY_SAMPLE,
         *(signed("scissor", side) for side in of_length("scissor", (0, 0, 0, 0) if scissor is None else scissor, 4)),
         blend_in_c(blend),
     )

@@ -21,11 +21,11 @@ def draw(
 ) -> Picture:
     """Draws a draw list: a text or its bytes, or a value that json writes as one.
 
-    `tile_size` is the width and height of a tile in pixels, 8, 16, 32 or 64. `threads` is how many threads draw, each its own
-    part of the picture; it is what the program calls workers. Neither changes a byte. Each thread reads the whole list, so
-    several pay if drawing takes longer than reading. `out` is a buffer for the pixels, as a numpy array or a bytearray, of
-    exactly their size and shape. An interrupt is raised when the threads have ended. Raises an Error, and ValueError if `threads` is less
-    than 1 or `out` does not fit.
+    `tile_size` is the width and height of a tile in pixels, 8, 16, 32 or 64. `threads` is how many threads draw, each
+    its own part of the picture; it is what the program calls workers. Neither changes a byte. Each thread reads the
+    whole list, so several pay if drawing takes longer than reading. `out` is a buffer for the pixels, as a numpy array
+    or a bytearray, of exactly their size and shape. An interrupt is raised when the threads have ended. Raises an
+    Error, and ValueError if `threads` is less than 1 or `out` does not fit.
     """
     count = thread_count(threads)
     size, data = tile_size_of(tile_size), as_bytes(draw_list)
@@ -44,7 +44,8 @@ def draw(
 
 @with_stack
 def draw_file(draw_list: DrawList, tile_size: SupportsIndex = 32) -> bytes:
-    """The whole file of a draw list's picture, PPM or PGM, header and pixels, on the calling thread. Raises an Error."""
+    """The whole file of a draw list's picture, PPM or PGM, header and pixels, on the calling thread.
+    Raises an Error."""
     size, data = tile_size_of(tile_size), as_bytes(draw_list)
     file = bytearray(read_image_info(data).file_bytes)
     library().trirast_list_draw(data, len(data), size, memory_of(memoryview(file)), len(file), CError())

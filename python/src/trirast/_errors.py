@@ -33,7 +33,8 @@ class PlacedError(Error, ValueError):
     causes: Dict[int, str] = {}
 
     def __init__(
-        self, status: int, line: str, number: int, draw: Optional[int], element: Optional[int] = None, value: Optional[int] = None
+        self, status: int, line: str, number: int, draw: Optional[int], element: Optional[int] = None,
+        value: Optional[int] = None,
     ) -> None:
         super().__init__(status, line)
         self.number, self.name = number, self.causes.get(number, "")
@@ -47,8 +48,8 @@ class DrawListError(PlacedError):
     """What was given is no draw list. Numbers and names are those of docs/draw-list.md."""
 
     causes = {
-        1: "NotJson", 2: "UnknownKey", 3: "MissingKey", 4: "WrongKind", 5: "OutOfRange", 6: "BadIndex", 7: "TooMany", 9: "TwoLists",
-        10: "NotConvex",
+        1: "NotJson", 2: "UnknownKey", 3: "MissingKey", 4: "WrongKind", 5: "OutOfRange", 6: "BadIndex", 7: "TooMany",
+        9: "TwoLists", 10: "NotConvex",
     }
 
 
@@ -56,10 +57,11 @@ class BatchError(PlacedError):
     """A canvas cannot draw this. Numbers and names are those of trirast_batch_cause in trirast.h."""
 
     causes = {
-        1: "TooFewVertices", 2: "TooFewIndices", 3: "BadState", 4: "NotWhole", 5: "TooManyIds", 6: "BadIndex", 7: "BadPosition", 8: "NotConvex",
-        9: "LeftOver", 10: "TooManyCorners", 11: "BadRing", 12: "BadPolygon", 13: "TooFewColors", 14: "TooFewDepths",
-        15: "BadTopology", 16: "BadCull", 17: "BadDepthTest", 18: "BadDepthWrite", 19: "BadKeep", 20: "BadScissorEnable", 21: "BadFactor",
-        22: "BadOperation", 23: "BadFillRule",
+        1: "TooFewVertices", 2: "TooFewIndices", 3: "BadState", 4: "NotWhole", 5: "TooManyIds", 6: "BadIndex",
+        7: "BadPosition", 8: "NotConvex", 9: "LeftOver", 10: "TooManyCorners", 11: "BadRing", 12: "BadPolygon",
+        13: "TooFewColors", 14: "TooFewDepths", 15: "BadTopology", 16: "BadCull", 17: "BadDepthTest",
+        18: "BadDepthWrite", 19: "BadKeep", 20: "BadScissorEnable", 21: "BadFactor", 22: "BadOperation",
+        23: "BadFillRule",
     }
 
 
@@ -151,7 +153,9 @@ PLACED: Dict[int, Type[PlacedError]] = {BAD_LIST: DrawListError, BAD_BATCH: Batc
 def error_of(status: int, line: str, cause: int = 0, draw: int = NONE, element: int = NONE, value: int = NONE) -> Error:
     """The exception of a status, by what trirast_error has."""
     if status in PLACED:
-        return PLACED[status](status, line, cause, *(None if place == NONE else place for place in (draw, element, value)))
+        return PLACED[status](
+            status, line, cause, *(None if place == NONE else place for place in (draw, element, value))
+        )
     return BY_STATUS.get(status, Error)(status, line)
 
 

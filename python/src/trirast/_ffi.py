@@ -1,7 +1,8 @@
 """The structs and calls of include/trirast.h by ctypes, and the buffers that go in and out.
 
-The library is loaded at the first call. It is the one that the environment's TRIRAST_LIBRARY names, else the one in the folder
-lib of this package, as a wheel has it, else the one in lib of the repository in which this file lies, else the installed one.
+The library is loaded at the first call. It is the one that the environment's TRIRAST_LIBRARY names, else the one in
+the folder lib of this package, as a wheel has it, else the one in lib of the repository in which this file lies,
+else the installed one.
 """
 
 import ctypes
@@ -40,7 +41,8 @@ class CBlend(ctypes.Structure):
     """trirast_blend of the header."""
 
     _fields_ = [
-        *fields(BYTE, "color_source color_stored color_operation alpha_source alpha_stored alpha_operation"), ("constant", 4 * BYTE),
+        *fields(BYTE, "color_source color_stored color_operation alpha_source alpha_stored alpha_operation"),
+        ("constant", 4 * BYTE),
     ]
 
 
@@ -48,8 +50,9 @@ class CDraw(ctypes.Structure):
     """trirast_draw of the header."""
 
     _fields_ = [
-        *fields(COUNT, "vertex_count index_count"), *fields(BYTE, "topology cull depth_test depth_write keep scissor_enable"),
-        ("skip_samples", HALF), *fields(SIGNED, "scissor_left scissor_top scissor_right scissor_bottom"), ("blend", CBlend),
+        *fields(COUNT, "vertex_count index_count"),
+        *fields(BYTE, "topology cull depth_test depth_write keep scissor_enable"), ("skip_samples", HALF),
+        *fields(SIGNED, "scissor_left scissor_top scissor_right scissor_bottom"), ("blend", CBlend),
     ]
 
 
@@ -58,8 +61,8 @@ class CBatch(ctypes.Structure):
 
     kept: Tuple[Any, ...]
     _fields_ = [
-        *fields(WORD, "struct_size vertex_stride index_size"), ("draws", POINTER), ("draw_count", COUNT), ("vertices", POINTER),
-        ("vertex_count", COUNT), ("indices", POINTER), ("index_count", COUNT),
+        *fields(WORD, "struct_size vertex_stride index_size"), ("draws", POINTER), ("draw_count", COUNT),
+        ("vertices", POINTER), ("vertex_count", COUNT), ("indices", POINTER), ("index_count", COUNT),
     ]
 
 
@@ -68,9 +71,9 @@ class CPolygons(ctypes.Structure):
 
     kept: Tuple[Any, ...]
     _fields_ = [
-        *fields(WORD, "struct_size fill_rule"), ("corners", POINTER), ("corner_count", COUNT), ("ring_ends", POINTER), ("ring_count", COUNT),
-        ("polygon_ends", POINTER), ("polygon_count", COUNT), ("colors", POINTER), ("color_count", COUNT), ("depths", POINTER),
-        ("depth_count", COUNT), ("state", CDraw),
+        *fields(WORD, "struct_size fill_rule"), ("corners", POINTER), ("corner_count", COUNT), ("ring_ends", POINTER),
+        ("ring_count", COUNT), ("polygon_ends", POINTER), ("polygon_count", COUNT), ("colors", POINTER),
+        ("color_count", COUNT), ("depths", POINTER), ("depth_count", COUNT), ("state", CDraw),
     ]
 
 
@@ -79,8 +82,8 @@ class CCanvas(ctypes.Structure):
 
     kept: Tuple[Any, ...]
     _fields_ = [
-        *fields(WORD, "struct_size width height samples channels"), *fields(SIGNED, "origin_x origin_y"), *fields(WORD, "first end"),
-        ("memory", POINTER), ("plane_count", COUNT),
+        *fields(WORD, "struct_size width height samples channels"), *fields(SIGNED, "origin_x origin_y"),
+        *fields(WORD, "first end"), ("memory", POINTER), ("plane_count", COUNT),
     ]
 
 
@@ -122,7 +125,8 @@ class CSampleInfo(ctypes.Structure):
     """trirast_sample_info of the header."""
 
     _fields_ = [
-        ("event_count", COUNT), *fields(WORD, "samples output"), *fields(SIGNED, "x y"), ("begin", CStored), ("end", CStored),
+        ("event_count", COUNT), *fields(WORD, "samples output"), *fields(SIGNED, "x y"), ("begin", CStored),
+        ("end", CStored),
     ]
 
 
@@ -149,7 +153,9 @@ def to(kind: Any) -> List[Any]:
     return [ctypes.POINTER(kind)]
 
 
-TEXT, NUMBER, BUFFER, STRIDE, ERROR, CANVAS = [ctypes.c_char_p, COUNT], [WORD], [POINTER, COUNT], [COUNT], to(CError), to(CCanvas)
+TEXT, NUMBER, BUFFER, STRIDE, ERROR, CANVAS = (
+    [ctypes.c_char_p, COUNT], [WORD], [POINTER, COUNT], [COUNT], to(CError), to(CCanvas)
+)
 PIXELS = CANVAS + NUMBER + BUFFER + STRIDE
 # Of each call that returns a status its parameters, and of each other one also its result.
 STATUSES: Dict[str, List[Any]] = {
@@ -190,14 +196,17 @@ def library_path() -> str:
     """Where the library is, or its name, by which the system's loader finds it."""
     package = os.path.dirname(os.path.abspath(__file__))
     # load.so is empty and needs the library, so that the loader takes the one for the processor's level.
-    in_wheel, in_repository = (os.path.join(folder, "lib", "load.so") for folder in (package, os.path.join(package, "..", "..", "..")))
+    in_wheel, in_repository = (
+        os.path.join(folder, "lib", "load.so") for folder in (package, os.path.join(package, "..", "..", ".."))
+    )
     found = [path for path in (in_wheel, in_repository) if os.path.exists(path)]
     return os.environ.get("TRIRAST_LIBRARY") or (found or [SHARED])[0]
 
 
 @lru_cache(maxsize=None)
 def library(kind: Any = ctypes.CDLL) -> Any:
-    """The library with the types of its calls. ctypes releases Python's lock during a call, and keeps it if the kind is ctypes.PyDLL.
+    """The library with the types of its calls. ctypes releases Python's lock during a call, and keeps it if the
+    kind is ctypes.PyDLL.
 
     Raises OSError if it cannot be loaded, and ImportError if it is another or an older one.
     """

@@ -22,11 +22,13 @@ class Fragments(NamedTuple):
     y: Array
     corners: Array  # int64, the three indices of the triangle
     weights: Array  # float64, of the corners, right in perspective
-    # How the weights differ at the pixel to the right; where 1 / w falls to less than a half, at the one to the left, turned.
+    # How the weights differ at the pixel to the right; where 1 / w falls to less than a half, at the one
+    # to the left, turned.
     right: Array
     down: Array  # the same of the pixel below, or above
     index: Array  # int64, of the shape (samples, height, width): the row of each sample's fragment, or -1
-    tile: Optional[Tuple[int, int]] = None  # the column and row of the tile whose fragments these are; None of the whole canvas
+    # The column and row of the tile whose fragments these are; None of the whole canvas.
+    tile: Optional[Tuple[int, int]] = None
 
     def value(self, values: Any) -> Array:
         """A number at the points, or a row of them, of those of the vertices."""
@@ -58,7 +60,10 @@ class Fragments(NamedTuple):
 
         given = np.asarray(colors, float)
         if given.shape != (len(self.id), 3):
-            raise ValueError(f"colors: {len(self.id)} rows of red, green and blue, one for each fragment, and not the shape {given.shape}")
+            raise ValueError(
+                f"colors: {len(self.id)} rows of red, green and blue, one for each fragment, "
+                f"and not the shape {given.shape}"
+            )
         table = packed(given)
         found = table[self.index] if len(table) else np.zeros(self.index.shape, np.uint32)
         np.copyto(found, packed(background), where=self.index < 0)
@@ -104,9 +109,9 @@ def shown_by(ids: Array, count: int, rate: str) -> Tuple[Array, Array, Tuple[Arr
 
 
 def middles(index: Array, count: int) -> Array:
-    """Where each fragment is shaded in its pixel: in the centre if all samples show it, else in the middle of those that
-    do, rounded to 1/256; of three of sixteen in that of the first and the last, since the mean of three on a line may
-    be rounded off it."""
+    """Where each fragment is shaded in its pixel: in the centre if all samples show it, else in the middle of those
+    that do, rounded to 1/256; of three of sixteen in that of the first and the last, since the mean of three on a line
+    may be rounded off it."""
     import numpy as np
 
     sample, *_pixel = np.nonzero(index >= 0)

@@ -45,9 +45,9 @@ class Fragment(NamedTuple):
 
 
 class Event(NamedTuple):
-    """What a triangle did to a sample. `result` is "drawn", "depth_failed" or "missed", and `reasons` has every reason that holds, of
-    "culled", "zero_area", "not_covered", "outside_scissor", "masked" and "depth_failed". `fragment` is None if the triangle does not
-    cover the sample."""
+    """What a triangle did to a sample. `result` is "drawn", "depth_failed" or "missed", and `reasons` has every reason
+    that holds, of "culled", "zero_area", "not_covered", "outside_scissor", "masked" and "depth_failed". `fragment` is
+    None if the triangle does not cover the sample."""
 
     draw: int
     triangle: int
@@ -68,8 +68,8 @@ class Event(NamedTuple):
 
 
 class SampleHistory(NamedTuple):
-    """The history of one sample: its number in the pixel, its position in 1/256 pixel, and what it stores before and after the
-    events."""
+    """The history of one sample: its number in the pixel, its position in 1/256 pixel, and what it stores before and
+    after the events."""
 
     sample: int
     position: Tuple[int, int]
@@ -85,8 +85,8 @@ class SampleHistory(NamedTuple):
 
 
 class PixelHistory(NamedTuple):
-    """The histories of a pixel's samples. `color` is the resolved colour, or None of a list whose output is depths; `depth` is then
-    the depth of sample 0, and else None."""
+    """The histories of a pixel's samples. `color` is the resolved colour, or None of a list whose output is depths;
+    `depth` is then the depth of sample 0, and else None."""
 
     x: int
     y: int
@@ -100,7 +100,8 @@ class PixelHistory(NamedTuple):
 
 
 class TriangleSamples(NamedTuple):
-    """How many samples of the picture a triangle covers, how many it changes, and how many still show it after all triangles."""
+    """How many samples of the picture a triangle covers, how many it changes, and how many still show it
+    after all triangles."""
 
     draw: int
     triangle: int
@@ -109,23 +110,32 @@ class TriangleSamples(NamedTuple):
     shown: int
 
     def __str__(self) -> str:
-        return f"draw {self.draw} triangle {self.triangle} covers {self.covered}, changes {self.changed}, shown by {self.shown} samples"
+        return (
+            f"draw {self.draw} triangle {self.triangle} covers {self.covered}, changes "
+            f"{self.changed}, shown by {self.shown} samples"
+        )
 
 
 @with_stack
 def why(
-    draw_list: DrawList, x: SupportsIndex, y: SupportsIndex, sample: Optional[SupportsIndex] = None, all_triangles: bool = False
+    draw_list: DrawList, x: SupportsIndex, y: SupportsIndex, sample: Optional[SupportsIndex] = None,
+    all_triangles: bool = False,
 ) -> PixelHistory:
-    """Returns the history of the samples of the pixel in column `x` and row `y`, or of one of them: an event for each triangle that
-    covers the sample, or for each triangle. `draw_list` is a text or its bytes, or a value that json writes as one. Print what is
-    returned, or take its parts. Each sample is a call of the library, which reads the whole list.
+    """Returns the history of the samples of the pixel in column `x` and row `y`, or of one of them: an event for
+    each triangle that covers the sample, or for each triangle. `draw_list` is a text or its bytes, or a value that
+    json writes as one. Print what is returned, or take its parts. Each sample is a call of the library, which
+    reads the whole list.
 
-    Raises a PixelError or a SampleError, which are IndexErrors, if the picture has no such pixel or the pixel no such sample, and
-    another Error, as `draw` does, of a list that is not drawn.
+    Raises a PixelError or a SampleError, which are IndexErrors, if the picture has no such pixel or the pixel no such
+    sample, and another Error, as `draw` does, of a list that is not drawn.
     """
-    data, column, row, is_all = as_bytes(draw_list), number("x", x), number("y", y), bool(flag("all_triangles", all_triangles))
+    data, column, row, is_all = (
+        as_bytes(draw_list), number("x", x), number("y", y), bool(flag("all_triangles", all_triangles))
+    )
     chosen = 0 if sample is None else number("sample", sample)
-    with adding(PixelError, lambda _error: pixel_values(data, x, y)), adding(SampleError, lambda _error: sample_values(data, sample)):
+    with adding(PixelError, lambda _error: pixel_values(data, x, y)), adding(
+        SampleError, lambda _error: sample_values(data, sample)
+    ):
         found, info = sample_history(data, column, row, chosen, is_all)
     samples: Tuple[SampleHistory, ...] = (found,)
     others = [s for s in range(info.samples) if s != chosen]
@@ -142,10 +152,12 @@ def why(
 
 @with_stack
 def triangle_samples(draw_list: DrawList, draw: SupportsIndex, triangle: SupportsIndex) -> TriangleSamples:
-    """Returns how many samples of the picture this triangle of this draw covers, how many it changes, and how many still show it:
-    it is the last triangle that changes them. Both numbers count from 0; a strip and quads count the triangles as which they are drawn.
+    """Returns how many samples of the picture this triangle of this draw covers, how many it changes, and how many
+    still show it: it is the last triangle that changes them. Both numbers count from 0; a strip and quads count the
+    triangles as which they are drawn.
 
-    Raises a TriangleError, which is an IndexError, if the list has no such triangle, and another Error of a list that is not drawn.
+    Raises a TriangleError, which is an IndexError, if the list has no such triangle, and another Error of a
+    list that is not drawn.
     """
     data, counts = as_bytes(draw_list), CSampleCounts()
     place = number("draw", draw), number("triangle", triangle)

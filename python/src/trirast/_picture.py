@@ -35,8 +35,8 @@ class Picture:
     """A picture: `width` and `height` in pixels, and `pixels`, row after row from the top.
 
     A pixel is three bytes, red, green and blue; or, if the picture shows depths (`is_depth`), two, the high one first.
-    numpy.asarray(picture) shares the bytes, with the shape (height, width, 3) of 8 bits, or (height, width) of 16. A copy, by copy or
-    pickle, has bytes of its own.
+    numpy.asarray(picture) shares the bytes, with the shape (height, width, 3) of 8 bits, or (height, width) of 16. A
+    copy, by copy or pickle, has bytes of its own.
     """
 
     def __init__(self, width: int, height: int, is_depth: bool, memory: memoryview) -> None:
@@ -76,8 +76,8 @@ class Picture:
         return header_of(self.width, self.height, self.is_depth)
 
     def pixel(self, column: int, row: int) -> Tuple[int, int, int]:
-        """Red, green and blue of a pixel. Columns and rows are counted from 0 at the upper left corner. Raises ValueError at a
-        picture of depths."""
+        """Red, green and blue of a pixel. Columns and rows are counted from 0 at the upper left corner. Raises
+        ValueError at a picture of depths."""
         if self.is_depth:
             raise ValueError("a picture of depths has no colours: use depth")
         red, green, blue = self._at(column, row)
@@ -98,9 +98,9 @@ class Picture:
         return bytes(self._pixels.cast("B")[first : first + length])
 
     def save(self, path: Path, *, dpi: Optional[SupportsFloat] = None) -> None:
-        """Writes the picture's file. By the end of the path it is a PNG file (.png), or the file that the program writes: PPM (.ppm) of
-        colours, PGM (.pgm) of depths. `dpi` is the number of pixels per inch, which a PNG file alone has. Raises
-        ValueError at any other end, and at `dpi` for another file."""
+        """Writes the picture's file. By the end of the path it is a PNG file (.png), or the file that the program
+        writes: PPM (.ppm) of colours, PGM (.pgm) of depths. `dpi` is the number of pixels per inch, which a PNG file
+        alone has. Raises ValueError at any other end, and at `dpi` for another file."""
         name, ends = os.fsdecode(path), (PNG, ".pgm" if self.is_depth else ".ppm")
         end = os.path.splitext(name)[1].lower()
         if end not in ends:
@@ -110,8 +110,8 @@ class Picture:
         write(path, png_chunks(self._pixels, dots) if end == PNG else self._netpbm())
 
     def save_ppm(self, path: Path) -> None:
-        """Writes a picture of colours as a PPM file, whatever its name. Raises ValueError at one of depths, which only a PGM file can
-        hold."""
+        """Writes a picture of colours as a PPM file, whatever its name. Raises ValueError at one of depths, which only
+        a PGM file can hold."""
         if self.is_depth:
             raise ValueError("a picture of depths is no PPM file: use save, which writes PGM")
         write(path, self._netpbm())
@@ -166,5 +166,7 @@ def memory_for(info: ImageInfo, out: Optional[Any]) -> memoryview:
     if out is None:
         return memoryview(bytearray(info.file_bytes - info.header_bytes))
     size = (info.height, info.width)
-    forms = [Form((HIGH_FIRST,), size), Form(("uint8",), (*size, 2))] if info.is_depth else [Form(("uint8",), (*size, 3))]
+    forms = (
+        [Form((HIGH_FIRST,), size), Form(("uint8",), (*size, 2))] if info.is_depth else [Form(("uint8",), (*size, 3))]
+    )
     return check_writable("out", out, *forms).cast("B")

@@ -25,12 +25,16 @@ def chunk(kind: bytes, data: bytes) -> bytes:
 def checked_dpi(dpi: Optional[Any], path: Optional[str], ends: Tuple[str, ...] = (PNG,)) -> Optional[float]:
     """The dots per inch for a file, or `None` if none are given. `path` is `None` for tiles.
 
-    Raises ValueError if they are out of range, or the file's name has none of the ends, with which it is of a kind that has them.
+    Raises ValueError if they are out of range, or the file's name has none of the ends, with which it is of
+    a kind that has them.
     """
     if dpi is None:
         return None
     if path is None or not path.lower().endswith(ends):
-        raise ValueError(f"dpi: only for a name that ends in {', '.join(ends)}, and not for {'tiles' if path is None else shown(path)}")
+        raise ValueError(
+            f"dpi: only for a name that ends in {', '.join(ends)}, and not for "
+            f"{'tiles' if path is None else shown(path)}"
+        )
     given = real("dpi", dpi)
     if not LEAST_DPI <= given <= GREATEST_DPI:
         raise ValueError(f"dpi: {LEAST_DPI} to {GREATEST_DPI}, and not {shown(dpi)}")
@@ -48,8 +52,8 @@ def head_of(width: int, height: int, pixel_bytes: int, dpi: Optional[float] = No
 
 
 def png_chunks(pixels: memoryview, dpi: Optional[float] = None) -> Iterator[bytes]:
-    """The pieces of a file, of pixels of the shape (height, width, 3), with alpha (height, width, 4), or (height, width, 2) of depths
-    with the high byte first."""
+    """The pieces of a file, of pixels of the shape (height, width, 3), with alpha (height, width, 4), or (height,
+    width, 2) of depths with the high byte first."""
     height, width, pixel_bytes = pixels.shape or (0, 0, 0)
     yield head_of(width, height, pixel_bytes, dpi)
     flat, row = pixels.cast("B"), width * pixel_bytes

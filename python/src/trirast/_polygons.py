@@ -19,7 +19,8 @@ DEPTH = Column("depth", "H", 0)
 
 
 def polygons_of(
-    corners: Any, ring_ends: Any, polygon_ends: Any, colors: Any, depth: Optional[Any], rule: int, state: Tuple[Any, ...]
+    corners: Any, ring_ends: Any, polygon_ends: Any, colors: Any, depth: Optional[Any], rule: int,
+    state: Tuple[Any, ...],
 ) -> CPolygons:
     """Polygons as C has them, which keep what they point to."""
     places = table_of("corners", corners, PLACE)
@@ -31,8 +32,9 @@ def polygons_of(
     put_colors(filled, count, colors, COLOR, COLOR_BYTES)
     depths = b"" if depth is None else depths_of(depth, count)
     made = CPolygons(
-        0, rule, address_of(packed), places.count, address_of(of_rings), len(of_rings) // END_BYTES, address_of(of_polygons), count,
-        address_of(filled), count, address_of(depths), len(depths) // DEPTH_BYTES, CDraw(0, 0, 0, *state),
+        0, rule, address_of(packed), places.count, address_of(of_rings), len(of_rings) // END_BYTES,
+        address_of(of_polygons), count, address_of(filled), count, address_of(depths), len(depths) // DEPTH_BYTES,
+        CDraw(0, 0, 0, *state),
     )
     made.kept = packed, of_rings, of_polygons, filled, depths
     return made
@@ -40,8 +42,13 @@ def polygons_of(
 
 def leading_zero(ring_ends: Any, polygon_ends: Any) -> str:
     """What to say of ends that do not fit and begin with 0, as offsets do; nothing of others."""
-    names = [name for name, ends in (("ring_ends", ring_ends), ("polygon_ends", polygon_ends)) if len(ends) and ends[0] == 0]
-    return f"; {' and '.join(names)} begin{'s' * (len(names) == 1)} with 0: leave the leading 0 of offsets out" if names else ""
+    names = [
+        name for name, ends in (("ring_ends", ring_ends), ("polygon_ends", polygon_ends)) if len(ends) and ends[0] == 0
+    ]
+    return (
+        f"; {' and '.join(names)} begin{'s' * (len(names) == 1)} with 0: leave the leading 0 of offsets out"
+        if names else ""
+    )
 
 
 def depths_of(depth: Any, count: int) -> Copy:

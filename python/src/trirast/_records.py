@@ -50,7 +50,9 @@ class Column(NamedTuple):
         except TypeError:
             is_real = self.is_position and hasattr(value, "__float__")
             unit = self.unit if is_real or not self.is_position else ""
-            return TypeError(f"{name}: row {row}, {self.name}: an integer{unit}, and not {shown(value)}{f'; {SNAP}' * is_real}")
+            return TypeError(
+                f"{name}: row {row}, {self.name}: an integer{unit}, and not {shown(value)}{f'; {SNAP}' * is_real}"
+            )
         # What lies between the band and 32 bits the library refuses, if an index names it.
         wanted = f"{LOW} to {HIGH}{POSITION}" if self.is_position else f"{least} to {greatest}"
         return ValueError(f"{name}: row {row}, {self.name}: {wanted}, and not {shown(value)}")
@@ -111,7 +113,9 @@ class Table:
     def _error(self, column: Column, values: Iterable[Any], first: int) -> Exception:
         """The error of the first of a column's values that is refused. The row of the first one is `first`."""
         errors = (column.refused(self._name, row, value) for row, value in enumerate(values, first))
-        return next((error for error in errors if error), TypeError(f"{self._name}: integers, which no other thread changes"))
+        return next(
+            (error for error in errors if error), TypeError(f"{self._name}: integers, which no other thread changes")
+        )
 
 
 def fits(numpy: Any, column: Column, part: Any) -> bool:
@@ -153,7 +157,8 @@ def table_of(name: str, values: Any, *choices: Columns) -> Table:
 
 
 def in_own_order(view: memoryview, family: str) -> memoryview:
-    """The same integers by a code without an order of bytes, which `tolist` does not know. Arrays of ctypes name the machine's own."""
+    """The same integers by a code without an order of bytes, which `tolist` does not know. Arrays of ctypes name
+    the machine's own."""
     order = view.format[0]
     if order not in "<>=!" or (view.itemsize > 1 and order in OTHER_ORDER):
         return view
@@ -202,7 +207,9 @@ def of_sequence(name: str, values: Any, choices: Sequence[Columns]) -> Table:
     if columns is None:
         counts = " or ".join(str(len(each)) for each in choices)
         raise ValueError(f"{name}: row 0: {counts} values, and not {first}")
-    listed: List[Tuple[Any, ...]] = [tuple(of_length(f"{name}: row {number}", row, len(columns))) for number, row in enumerate(rows)]
+    listed: List[Tuple[Any, ...]] = [
+        tuple(of_length(f"{name}: row {number}", row, len(columns))) for number, row in enumerate(rows)
+    ]
     return Table(name, columns, list(zip(*listed)) or [()] * len(columns))
 
 

@@ -12,14 +12,15 @@ BAND = f"{LOW // UNIT} to {HIGH / UNIT} pixels"
 
 
 def snap(xy: Any, scale: SupportsFloat = 1) -> Any:
-    """Positions in 1/256 pixel, as `Canvas.draw` takes them: `scale` times x and y in doubles, times 256, rounded to the
-    nearest integer, and to the even one at a half.
+    """Positions in 1/256 pixel, as `Canvas.draw` takes them: `scale` times x and y in doubles, times 256, rounded to
+    the nearest integer, and to the even one at a half.
 
-    `xy` has rows of x and y: an array of the shape (n, 2), or a sequence of pairs, of floats or integers. `scale` is the
-    number of pixels of one unit of `xy`. Returns a numpy array of 32-bit integers, or without numpy a list of pairs.
+    `xy` has rows of x and y: an array of the shape (n, 2), or a sequence of pairs, of floats or integers.
+    `scale` is the number of pixels of one unit of `xy`. Returns a numpy array of 32-bit integers, or without
+    numpy a list of pairs.
 
-    Raises ValueError at NaN, infinities and positions outside of the guard band, -32768 to 32767.99609375 pixels, and at
-    another shape. Raises TypeError at what is no number. Both name the row.
+    Raises ValueError at NaN, infinities and positions outside of the guard band, -32768 to 32767.99609375 pixels, and
+    at another shape. Raises TypeError at what is no number. Both name the row.
     """
     factor = real("scale", scale)
     refuse_masked("xy", xy)

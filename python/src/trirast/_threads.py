@@ -1,8 +1,9 @@
-"""Shares a call among threads. What the call uses is theirs until all have ended, whatever happens to the caller meanwhile.
+"""Shares a call among threads. What the call uses is theirs until all have ended, whatever happens to
+the caller meanwhile.
 
-A thread that comes back to Python while the interpreter ends may crash the process, and one may begin long after others have done its part.
-So the interpreter ends when all threads have left Python: the last that each does is to add itself to those that are gone, and no bytecode of
-Python runs after that.
+A thread that comes back to Python while the interpreter ends may crash the process, and one may begin long after others
+have done its part. So the interpreter ends when all threads have left Python: the last that each does is to add itself
+to those that are gone, and no bytecode of Python runs after that.
 """
 
 import atexit
@@ -45,9 +46,9 @@ def with_stack(call: Function) -> Function:
 def share(call: Call, split: Callable[[int], Sequence[Part]], threads: int, used: Sequence[Buffer] = ()) -> None:
     """Makes a call on each of the parts into which `split` cuts the work for this number of threads: at most as many.
 
-    All parts are done or, if the call is interrupted before they begin, none. An interrupt is raised after they have ended, and so is the
-    error of the first part that has one. If no thread can be started, the calling thread does the whole, or raises RuntimeError if it has
-    too little stack.
+    All parts are done or, if the call is interrupted before they begin, none. An interrupt is raised after they have
+    ended, and so is the error of the first part that has one. If no thread can be started, the calling thread does the
+    whole, or raises RuntimeError if it has too little stack.
     """
     parts = split(threads)
     if len(parts) > 1 or not _stack.is_enough():
@@ -56,7 +57,10 @@ def share(call: Call, split: Callable[[int], Sequence[Part]], threads: int, used
             work.raise_error()
             return
         if not _stack.is_enough():
-            raise RuntimeError(f"a thread has {_stack.size()} bytes of stack, and none can be started that has the {_stack.STACK} it takes")
+            raise RuntimeError(
+                f"a thread has {_stack.size()} bytes of stack, and none can be started that "
+                f"has the {_stack.STACK} it takes"
+            )
         parts = split(1)
     for part in parts:
         call(*part)
@@ -83,7 +87,8 @@ class Work:
         return bool(self._started)
 
     def _outlast(self, levels: int) -> None:
-        """Waits in a loop within some `try`. An interrupt that comes as the loop takes up another one leaves it, and meets the next."""
+        """Waits in a loop within some `try`. An interrupt that comes as the loop takes up another one leaves it,
+        and meets the next."""
         try:
             if levels:
                 self._outlast(levels - 1)
@@ -119,7 +124,8 @@ class Work:
         ends = [(map(self._gone.append, iter(self._run, self)),) for _ in range(self._count)]
         try:
             with _stack.enough():
-                # Nothing of Python runs within this line, so no interrupt comes between the start of a thread and its entry in the list.
+                # Nothing of Python runs within this line, so no interrupt comes between the start of a thread and
+                # its entry in the list.
                 self._started.extend(map(start_new_thread, repeat(next), ends))
         except RuntimeError:
             pass  # There are no more threads.

@@ -1,4 +1,5 @@
-"""Some tile rows of a canvas, loaded and resolved by themselves, from and to arrays of numpy that have a word for each pixel."""
+"""Some tile rows of a canvas, loaded and resolved by themselves, from and to arrays of numpy that have a
+word for each pixel."""
 
 from typing import Any, Callable, List, Tuple
 
@@ -23,7 +24,8 @@ class TileRows:
         return slice(self._first * TILE_SIZE, min(self._end * TILE_SIZE, self._canvas.height))
 
     def load(self, picture: Any) -> None:
-        """Makes a picture the colour of all samples of its pixels. Alpha is read if the canvas has it, and colours are multiplied by it."""
+        """Makes a picture the colour of all samples of its pixels. Alpha is read if the canvas has it, and colours are
+        multiplied by it."""
         self._each(library().trirast_canvas_load, (self._format,), picture)
 
     def resolve(self, picture: Any) -> None:

@@ -72,7 +72,10 @@ class PolygonValues(NamedTuple):
         if error.name not in ("BadRing", "BadPolygon", "LeftOver"):
             return ""
         is_ring = error.name == "BadRing" or (error.name == "LeftOver" and last_of(rings) < given.corner_count)
-        ends = ("ring", rings, element, f"{given.corner_count} corners") if is_ring else ("polygon", polygons, element, f"{given.ring_count} rings")
+        ends = (
+            ("ring", rings, element, f"{given.corner_count} corners")
+            if is_ring else ("polygon", polygons, element, f"{given.ring_count} rings")
+        )
         return end_values(*ends) + leading_zero(rings, polygons)
 
 

@@ -8,9 +8,11 @@ from ._arguments import between, color_of
 from ._buffers import refuse_masked
 from ._records import Column, Columns, table_of
 
-# The fields of a vertex, as numpy takes them: numpy.zeros(3, trirast.VERTEX) are three. x and y are in 1/256 pixel. The last is not read.
+# The fields of a vertex, as numpy takes them: numpy.zeros(3, trirast.VERTEX) are three. x and y are in 1/256 pixel.
+# The last is not read.
 VERTEX = [
-    ("x", "i4"), ("y", "i4"), ("depth", "u2"), ("red", "u1"), ("green", "u1"), ("blue", "u1"), ("alpha", "u1"), ("unused", "u2"),
+    ("x", "i4"), ("y", "i4"), ("depth", "u2"), ("red", "u1"), ("green", "u1"), ("blue", "u1"), ("alpha", "u1"),
+    ("unused", "u2"),
 ]
 VERTEX_BYTES = 16
 X, Y, DEPTH = Column("x", "i", 0), Column("y", "i", 4), Column("depth", "H", 8)
@@ -54,7 +56,9 @@ def vertices_of(vertices: Any, colors: Optional[Any] = None, depth: Optional[Any
 def strided_of(vertices: Any) -> Optional[Strided]:
     """Vertices that the library can read where they lie, with a stride of their own. `None` if there are none such."""
     numpy = sys.modules.get("numpy")
-    is_array = numpy is not None and isinstance(vertices, numpy.ndarray) and not isinstance(vertices, numpy.ma.MaskedArray)
+    is_array = (
+        numpy is not None and isinstance(vertices, numpy.ndarray) and not isinstance(vertices, numpy.ma.MaskedArray)
+    )
     if not is_array or not vertices.dtype.names or vertices.ndim != 1 or not has_members(numpy, vertices):
         return None
     stride, address = vertices.strides[0], vertices.ctypes.data + vertices.dtype.fields["x"][1]
@@ -90,7 +94,10 @@ def of_fields(vertices: Any, names: Any) -> Vertices:
 
     refuse_masked("vertices", vertices)
     if not {"x", "y"} <= set(names) or vertices.ndim != 1:
-        raise ValueError(f"vertices: one dimension, with the fields x and y, and not {', '.join(names)} of the shape {vertices.shape}")
+        raise ValueError(
+            f"vertices: one dimension, with the fields x and y, and not {', '.join(names)} of "
+            f"the shape {vertices.shape}"
+        )
     if is_own_layout(np, vertices):
         return np.asarray(vertices).view(np.uint8)
     made = bytearray(BLANK * len(vertices))
@@ -120,7 +127,9 @@ def has_members(np: Any, vertices: Any) -> bool:
 
 def put_colors(records: bytearray, count: int, colors: Any, columns: Columns = COLOR, size: int = VERTEX_BYTES) -> None:
     """Writes a colour to all records of this size, or one to each. One of three channels is opaque."""
-    first = colors[0] if getattr(colors, "ndim", 1) == 1 and hasattr(colors, "__len__") and len(colors) in (3, 4) else ()
+    first = (
+        colors[0] if getattr(colors, "ndim", 1) == 1 and hasattr(colors, "__len__") and len(colors) in (3, 4) else ()
+    )
     if hasattr(first, "__len__"):
         records[columns[3].begin :: size] = bytes([OPAQUE]) * count
         table_of("colors", colors, columns[:3], columns).fill(records, size)

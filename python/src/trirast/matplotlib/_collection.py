@@ -56,7 +56,10 @@ class Collection(NamedTuple):
         return self._replace(
             paths=[self.paths[n] for n in items],
             styles=[self.styles[n] for n in items] if len(self.styles) else [],
-            **{name: taken(getattr(self, name), items) for name in ("transforms", "offsets", "faces", "edges", "widths", "antialiased")},
+            **{
+                name: taken(getattr(self, name), items)
+                for name in ("transforms", "offsets", "faces", "edges", "widths", "antialiased")
+            },
         )
 
 
@@ -72,7 +75,9 @@ class Part(NamedTuple):
     by_agg: Any
 
 
-def rounds_in_order(whole: Collection, polygons: Polygons, colors: Any, ours: Any, by_agg: Any, rounds: Any) -> List[Part]:
+def rounds_in_order(
+    whole: Collection, polygons: Polygons, colors: Any, ours: Any, by_agg: Any, rounds: Any
+) -> List[Part]:
     """The rounds of a collection, one after another. Faces that are drawn here are hidden from Agg."""
     spread = whole.spread()
     spread.faces[ours] = HIDDEN

@@ -1,4 +1,5 @@
-"""Polygons of three or four corners as triangles, which a canvas draws faster than polygons, and with the same bytes."""
+"""Polygons of three or four corners as triangles, which a canvas draws faster than polygons, and with
+the same bytes."""
 
 from __future__ import annotations
 
@@ -18,19 +19,25 @@ TAIL = np.dtype([("depth", "u2"), ("color", "u4"), ("unused", "u2")])
 
 
 def triangles_of(polygons: Polygons) -> Optional[Any]:
-    """Rows of the three corners of triangles, which cover each sample that the polygons cover, and once; None if a polygon is
-    not one ring of as many corners as the others, three or four, or is a ring of four that crosses itself.
+    """Rows of the three corners of triangles, which cover each sample that the polygons cover, and once; None if a
+    polygon is not one ring of as many corners as the others, three or four, or is a ring of four that crosses itself.
 
-    Two triangles on both sides of a diagonal have no sample in common, and in the rule of polygons the diagonal cancels.
+    Two triangles on both sides of a diagonal have no sample in common, and in the rule of polygons the
+    diagonal cancels.
     """
     count = len(polygons.polygon_ends)
     length = int(polygons.ring_ends[0]) if count and len(polygons.ring_ends) == count else 0
-    if length not in (3, 4) or polygons.ring_ends[-1] != length * count or (np.diff(polygons.ring_ends) != length).any():
+    if (
+        length not in (3, 4) or polygons.ring_ends[-1] != length * count
+        or (np.diff(polygons.ring_ends) != length).any()
+    ):
         return None
     if length == 3:
         return np.arange(3 * count, dtype=np.uint32).reshape(-1, 3)
     quads = polygons.corners.reshape(-1, 4, 2)
-    by_first, by_second = (np.concatenate(each) for each in zip(*(diagonals_of(quads[n : n + CHUNK]) for n in range(0, count, CHUNK))))
+    by_first, by_second = (
+        np.concatenate(each) for each in zip(*(diagonals_of(quads[n : n + CHUNK]) for n in range(0, count, CHUNK)))
+    )
     if not (by_first | by_second).all():
         return None
     corners = FIRST if by_first.all() else np.where(by_first[:, None], FIRST, SECOND)
@@ -44,8 +51,8 @@ def diagonals_of(quads: Any) -> Tuple[Any, Any]:
 
 
 def turns_of(quads: Any) -> Any:
-    """Of quads abcd the doubled areas of abc, bcd, cda and dab, positive if they run clockwise on the screen, of the shape (4, n).
-    Corners lie within 2 ** 23, so doubles are exact."""
+    """Of quads abcd the doubled areas of abc, bcd, cda and dab, positive if they run clockwise on the screen, of the
+    shape (4, n). Corners lie within 2 ** 23, so doubles are exact."""
     (x, y), count = (np.ascontiguousarray(quads[..., axis].T, np.float64) for axis in (0, 1)), len(quads)
     across, down = np.empty((5, count)), np.empty((5, count))
     for sides, places in ((across, x), (down, y)):

@@ -1,4 +1,5 @@
-"""Draws triangles into the pixels of a figure: red, green, blue and alpha in bytes, not multiplied by alpha, as Agg keeps them."""
+"""Draws triangles into the pixels of a figure: red, green, blue and alpha in bytes, not multiplied by alpha,
+as Agg keeps them."""
 
 from __future__ import annotations
 
@@ -23,8 +24,8 @@ Shares = NDArray[np.float32]
 def draw_triangles(
     figure: Pixels, triangles: Gouraud, clip: Box, mask: Optional[Pixels] = None, threads: int = 1, samples: int = 4
 ) -> None:
-    """Draws triangles over a figure of the shape (height, width, 4), inside of a box of its pixels. `mask` has for each pixel of the
-    figure the share that is drawn, 255 for all of it."""
+    """Draws triangles over a figure of the shape (height, width, 4), inside of a box of its pixels. `mask` has for each
+    pixel of the figure the share that is drawn, 255 for all of it."""
     for window in windows(bounds_of(triangles.points, clip), MAX_SIDE if samples <= 4 else MAX_SIDE // 2):
         draw_window(figure, triangles, window, mask, threads, samples)
 
@@ -73,8 +74,9 @@ def over_opaque(below: Pixels, above: Pixels, shares: Optional[Shares]) -> Pixel
 
 
 def over_clear(below: Pixels, above: Pixels, shares: Optional[Shares]) -> Pixels:
-    """A picture of which some is transparent, with triangles over it. They were drawn on nothing, so that their colours are
-    multiplied by their alpha, and are laid over the picture as one layer. Where it has nothing, the picture's bytes stay."""
+    """A picture of which some is transparent, with triangles over it. They were drawn on nothing, so that their
+    colours are multiplied by their alpha, and are laid over the picture as one layer. Where it has nothing, the
+    picture's bytes stay."""
     layer = above.astype(np.float32)
     alpha = layer[..., 3] / OPAQUE
     if shares is not None:

@@ -1,5 +1,5 @@
-"""What this backend relies on of matplotlib's inside, and nothing else does in this package. Tried with matplotlib 3.6.3
-and 3.10.1.
+"""What this backend relies on of matplotlib's inside, and nothing else does in this package. Tried with
+matplotlib 3.6.3 and 3.10.1.
 
 Names that matplotlib does not document:
 
@@ -8,8 +8,8 @@ Names that matplotlib does not document:
 - `GraphicsContextBase._forced_alpha`: whether the context's alpha takes the place of a face's own.
 - `Path._vertices` and `Path._codes`, the members behind the properties, which cost more than what is done with them.
 - `Path.cleaned` and its parameters: a path as Agg fills it, with y downwards if the transform has it so.
-- `QuadMesh._convert_mesh_to_triangles`, by which a Gouraud mesh makes its triangles, and the name `renderer` of what is given to the
-  function that calls it.
+- `QuadMesh._convert_mesh_to_triangles`, by which a Gouraud mesh makes its triangles, and the name `renderer` of what is
+  given to the function that calls it.
 - `FigureCanvasBase._switch_canvas_and_return_print_method`, within which a file of another backend is written, and the
   name `RendererAgg` in `matplotlib.backends.backend_mixed`, by which PDF and SVG rasterize.
 
@@ -77,8 +77,8 @@ def stacked_codes(codes: Sequence[Any]) -> Any:
 
 
 def joined_bytes(arrays: Sequence[Any], kind: Any) -> Optional[bytes]:
-    """The bytes of arrays behind each other; None if one is of another type, or has gaps. There are often many short ones: joined so
-    they take less than half of the time that numpy takes."""
+    """The bytes of arrays behind each other; None if one is of another type, or has gaps. There are often many short
+    ones: joined so they take less than half of the time that numpy takes."""
     try:
         if list(map(attrgetter("dtype"), arrays)).count(kind) == len(arrays):
             return b"".join(arrays)
@@ -104,7 +104,8 @@ def faces_have_their_alpha(gc: Any) -> Iterator[None]:
 
 
 def take_grids(renderer_class: Any, mesh_of: Callable[[Any, Any], Any]) -> None:
-    """Has Gouraud meshes that such a renderer draws give what is made of their grid and its colours in place of triangles."""
+    """Has Gouraud meshes that such a renderer draws give what is made of their grid and its colours in
+    place of triangles."""
     triangles_of: Any = getattr(QuadMesh, "_convert_mesh_to_triangles", None)
 
     def converted(mesh: Any, coordinates: Any) -> Any:
@@ -120,9 +121,11 @@ def take_grids(renderer_class: Any, mesh_of: Callable[[Any, Any], Any]) -> None:
 
 
 def cleaned(path: Any, matrix: Any, snap: Optional[bool], stroke: float, sketch: Any = None) -> Tuple[Any, Any]:
-    """The vertices and codes of a path as Agg fills it: without numbers that are none, snapped, flattened and sketched."""
+    """The vertices and codes of a path as Agg fills it: without numbers that are none, snapped,
+    flattened and sketched."""
     found = path.cleaned(
-        transform=matrix, remove_nans=True, clip=None, simplify=False, curves=False, stroke_width=stroke, snap=snap, sketch=sketch
+        transform=matrix, remove_nans=True, clip=None, simplify=False, curves=False, stroke_width=stroke, snap=snap,
+        sketch=sketch,
     )
     # The last code is STOP.
     return found.vertices[:-1], found.codes[:-1]

@@ -1,4 +1,5 @@
-"""The items of a collection as polygons: transformed, snapped where Agg snaps them, and flattened as Agg flattens them."""
+"""The items of a collection as polygons: transformed, snapped where Agg snaps them, and flattened as
+Agg flattens them."""
 
 from __future__ import annotations
 
@@ -10,8 +11,8 @@ from matplotlib.path import Path
 from ._inside import MAX_SNAPPED, STRAIGHT, all_codes, all_vertices, are_one, cleaned, stacked, stacked_codes
 from ._paths import range_any, rectilinear
 from ._polygons import (
-    CLOSEPOLY, LINETO, MOVETO, NOTHING, REACH, Polygons, Rings, as_corners, as_numbers, equal_rings, in_units, joined, polygons, ranges_of,
-    rings, rings_of_one_length,
+    CLOSEPOLY, LINETO, MOVETO, NOTHING, REACH, Polygons, Rings, as_corners, as_numbers, equal_rings, in_units, joined,
+    polygons, ranges_of, rings, rings_of_one_length,
 )
 from ._transforms import applied, matrix_of
 
@@ -58,7 +59,8 @@ def faces_of(items: Items, snap: Optional[bool], together: bool, size: Tuple[int
 
 
 class Alike(NamedTuple):
-    """The vertices of paths of one ring each, as many in each, and how many of them are corners: all, or all but the last."""
+    """The vertices of paths of one ring each, as many in each, and how many of them are corners: all, or
+    all but the last."""
 
     arrays: Sequence[Any]
     length: int
@@ -72,7 +74,8 @@ class Alike(NamedTuple):
         return applied(transforms[some, None], vertices.reshape(-1, self.length, 2))
 
     def are_near(self, points: Any) -> bool:
-        """Whether all corners are numbers in the guard band. The last vertices mostly are too, and it takes less to look at all."""
+        """Whether all corners are numbers in the guard band. The last vertices mostly are too, and it takes
+        less to look at all."""
         return is_near(points) or is_near(points[:, : self.corners])
 
 
@@ -82,7 +85,10 @@ def alike_items(items: Items) -> Optional[Alike]:
     codes, length = of_paths[0], len(arrays[0])
     if not length or not are_one(of_paths) or len(set(map(len, arrays))) > 1:
         return None
-    if codes is not None and not (codes[0] == MOVETO and (codes[1:-1] == LINETO).all() and codes[-1] in (LINETO, CLOSEPOLY)):
+    if (
+        codes is not None
+        and not (codes[0] == MOVETO and (codes[1:-1] == LINETO).all() and codes[-1] in (LINETO, CLOSEPOLY))
+    ):
         return None
     if len(arrays) != len(items.path_of):
         arrays = [arrays[n] for n in items.path_of.tolist()]
@@ -107,14 +113,16 @@ def equal_faces(items: Items, alike: Alike, snap: Optional[bool], together: bool
 
 
 def may_be_snapped(items: Items, alike: Alike, together: bool) -> bool:
-    """Whether Agg may snap such items: not if they are long, or if all are snapped or none and the first one is slanted."""
+    """Whether Agg may snap such items: not if they are long, or if all are snapped or none and the
+    first one is slanted."""
     if alike.corners > MAX_SNAPPED or not together:
         return alike.corners <= MAX_SNAPPED
     return bool(straight(alike.points(items.transforms, slice(0, 1))[:, : alike.corners], True).any())
 
 
 def unsnapped_faces(items: Items, alike: Alike) -> Optional[Faces]:
-    """The faces of such items of which none is snapped, some at a time, so that they stay in the cache of a processor."""
+    """The faces of such items of which none is snapped, some at a time, so that they stay in the cache
+    of a processor."""
     count = len(alike.arrays)
     corners = np.empty((count, alike.corners, 2), np.int32)
     for start in range(0, count, CHUNK):
@@ -175,15 +183,16 @@ def any_faces(items: Items, snap: Optional[bool], together: bool, size: Tuple[in
 
 
 def is_drawn_as_it_is(points: Any, codes: Any, counts: Any, snap: Optional[bool], together: bool) -> bool:
-    """Whether nothing is to be snapped, flattened or opened, as of most contours: so it is looked at first, and in few steps."""
+    """Whether nothing is to be snapped, flattened or opened, as of most contours: so it is looked at first,
+    and in few steps."""
     if snap or not (snap is False or together) or are_curves(codes).any() or are_behind(codes).any():
         return False
     return snap is False or is_slanted(points[: counts[0]], codes)
 
 
 def is_slanted(points: Any, codes: Any) -> bool:
-    """Whether one of a path's first lines is neither level nor upright, which says that none is snapped where all are or none.
-    Mostly the first one is, so numbers without arrays take less time."""
+    """Whether one of a path's first lines is neither level nor upright, which says that none is snapped where all are
+    or none. Mostly the first one is, so numbers without arrays take less time."""
     first = points[:FIRST_VERTICES].tolist()
     lines = zip(first, first[1:], codes[1:FIRST_VERTICES].tolist())
     return any(code == LINETO and abs(x - u) >= STRAIGHT and abs(y - v) >= STRAIGHT for (x, y), (u, v), code in lines)
@@ -207,7 +216,10 @@ def is_near(points: Any) -> bool:
 def is_seen_whole(points: Any, size: Tuple[int, int]) -> bool:
     """Whether all positions lie in a picture of this size."""
     with np.errstate(invalid="ignore"):
-        return bool(len(points)) and bool(points.min() >= 0 and points[:, 0].max() <= size[0] and points[:, 1].max() <= size[1])
+        return (
+            bool(len(points))
+            and bool(points.min() >= 0 and points[:, 0].max() <= size[0] and points[:, 1].max() <= size[1])
+        )
 
 
 def snapped_items(counts: Any, upright: Any, curved: Any, lost: Any, together: bool) -> Any:

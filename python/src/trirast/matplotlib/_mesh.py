@@ -10,9 +10,9 @@ from ._triangles import Batch, Colors, Points, Triangles, is_near, vertices_of
 
 
 class Mesh(NamedTuple):
-    """A grid of points, and of each four neighbours their middle, around which lie four triangles. `points` are of the shape
-    (rows + 1, 2 * columns + 1, 2): a row of the grid, and then the middles below it, of which the last row's are not used.
-    `colors` are of the shape (rows + 1, 2 * columns + 1, 4). Else they are as those of triangles."""
+    """A grid of points, and of each four neighbours their middle, around which lie four triangles. `points` are of the
+    shape (rows + 1, 2 * columns + 1, 2): a row of the grid, and then the middles below it, of which the last row's are
+    not used. `colors` are of the shape (rows + 1, 2 * columns + 1, 4). Else they are as those of triangles."""
 
     points: Points
     colors: Colors

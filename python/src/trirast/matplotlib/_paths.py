@@ -18,7 +18,9 @@ FLIPPED = np.array(((1.0, 1.0, 1.0), (-1.0, -1.0, -1.0), (1.0, 1.0, 1.0)))
 RECTANGLE = 5
 
 
-def path_polygon(path: Any, matrix: Any, height: int, snap: Optional[bool], stroke: float, sketch: Any = None) -> Polygons:
+def path_polygon(
+    path: Any, matrix: Any, height: int, snap: Optional[bool], stroke: float, sketch: Any = None
+) -> Polygons:
     """A path as one polygon. `stroke` is the width of its edge in pixels."""
     placed = matrix * FLIPPED
     placed[1, 2] += height

@@ -1,4 +1,5 @@
-"""Polygons as a canvas draws them, made of paths without curves: rings of corners in 1/256 pixel, cut to the guard band."""
+"""Polygons as a canvas draws them, made of paths without curves: rings of corners in 1/256 pixel, cut
+to the guard band."""
 
 from __future__ import annotations
 
@@ -19,8 +20,8 @@ Rings = Tuple[Any, Any]
 
 
 class Polygons(NamedTuple):
-    """Polygons in their order. Polygon n is of the rings polygon_ends[n - 1] to before polygon_ends[n], and ring m of the
-    corners ring_ends[m - 1] to before ring_ends[m]. A corner is a row of x and y, y downwards."""
+    """Polygons in their order. Polygon n is of the rings polygon_ends[n - 1] to before polygon_ends[n], and ring m of
+    the corners ring_ends[m - 1] to before ring_ends[m]. A corner is a row of x and y, y downwards."""
 
     corners: Any  # int32, (c, 2)
     ring_ends: Any  # int64, (r,)
@@ -36,11 +37,14 @@ class Polygons(NamedTuple):
         """The polygons `first` to before `end`."""
         ring, ring_end = (int(self.polygon_ends[n - 1]) if n else 0 for n in (first, end))
         corner, corner_end = (int(self.ring_ends[n - 1]) if n else 0 for n in (ring, ring_end))
-        return Polygons(self.corners[corner:corner_end], self.ring_ends[ring:ring_end] - corner, self.polygon_ends[first:end] - ring)
+        return Polygons(
+            self.corners[corner:corner_end], self.ring_ends[ring:ring_end] - corner, self.polygon_ends[first:end] - ring
+        )
 
     @property
     def are_simple(self) -> bool:
-        """Whether each polygon is one ring that is known to wind around no point twice, so that the even-odd rule is the nonzero rule."""
+        """Whether each polygon is one ring that is known to wind around no point twice, so that the even-odd rule is
+        the nonzero rule."""
         if len(self.ring_ends) != len(self.polygon_ends) or not len(self.ring_ends):
             return False
         few = np.diff(self.ring_ends, prepend=0) <= MOST_SIMPLE
@@ -48,8 +52,8 @@ class Polygons(NamedTuple):
 
 
 def turn_once(corners: Any, ring_ends: Any) -> Any:
-    """Which rings run down once and up once, or to the right once and to the left once. A line across that direction crosses such a ring
-    at most twice, there and back: so it winds around no point twice."""
+    """Which rings run down once and up once, or to the right once and to the left once. A line across that direction
+    crosses such a ring at most twice, there and back: so it winds around no point twice."""
     found = np.ones(len(ring_ends), bool)
     some = (np.diff(ring_ends, prepend=0) > 0).nonzero()[0]
     ends = ring_ends[some]
@@ -63,8 +67,8 @@ def turn_once(corners: Any, ring_ends: Any) -> Any:
 
 
 def turns_of(steps: Any, ends: Any) -> Any:
-    """How often each ring turns back in one direction, of its steps in this direction; the turn from its last step to its first is not
-    counted, and is one more if the number is odd."""
+    """How often each ring turns back in one direction, of its steps in this direction; the turn from its last step to
+    its first is not counted, and is one more if the number is odd."""
     moving = steps.nonzero()[0]
     forth = steps[moving] > 0
     before = (forth[1:] != forth[:-1]).nonzero()[0]
@@ -89,7 +93,8 @@ def in_units(positions: Any) -> Any:
 def polygons(corners: Any, ring_ends: Any, polygon_ends: Any) -> Polygons:
     """Polygons from positions in pixels."""
     return Polygons(
-        in_units(corners).reshape(-1, 2).astype(np.int32), np.asarray(ring_ends, np.int64), np.asarray(polygon_ends, np.int64)
+        in_units(corners).reshape(-1, 2).astype(np.int32), np.asarray(ring_ends, np.int64),
+        np.asarray(polygon_ends, np.int64),
     )
 
 

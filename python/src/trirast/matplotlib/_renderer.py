@@ -30,11 +30,12 @@ ma: Any = np.ma
 
 
 class RendererTrirast(RendererAgg):
-    """Agg's renderer, which draws faces and Gouraud triangles by samples. Settings are attributes of the class, which hold for all
-    figures, from their next draw on:
+    """Agg's renderer, which draws faces and Gouraud triangles by samples. Settings are attributes of the class, which
+    hold for all figures, from their next draw on:
 
-    samples -- of a pixel: 16, the default, or another of trirast.Canvas.SAMPLE_COUNTS. Fewer take less time and memory, and edges have fewer steps.
-    smooth -- True, the default: faces of collections and meshes are drawn so too if their antialiasing is off, as it is in
+    samples -- of a pixel: 16, the default, or another of trirast.Canvas.SAMPLE_COUNTS. Fewer take less time and memory,
+    and edges have fewer steps. smooth -- True, the default: faces of collections and meshes are drawn so too if their
+    antialiasing is off, as it is in
         `contourf`, `pcolormesh`, `pcolor` and `tripcolor` by default. False: these are Agg's, byte for byte.
     threads -- 1, the default, or more: they share the drawing, and change no pixel.
 
@@ -116,14 +117,17 @@ class RendererTrirast(RendererAgg):
         has_edge = edge_alpha(gc) != 0
         stroke = self.points_to_pixels(gc.get_linewidth()) if has_edge else 0.0
         matrix, snap = transform.get_matrix(), gc.get_snap()
-        self._draw(gc, path_polygon(path, matrix, int(self.height), snap, stroke, gc.get_sketch_params()), [face_bytes(gc, rgbFace)])
+        self._draw(
+            gc, path_polygon(path, matrix, int(self.height), snap, stroke, gc.get_sketch_params()),
+            [face_bytes(gc, rgbFace)],
+        )
         if (has_edge and stroke) or gc.get_hatch() is not None:
             with faces_have_their_alpha(gc):
                 super().draw_path(gc, path, transform, HIDDEN)
 
     def _is_whole(self, gc: Any, path: Any, transform: Any, alpha: int) -> bool:
-        """Whether a path with a face of this alpha is a rectangle of which Agg makes what is made here: of whole pixels, or with an opaque edge that
-        hides those it shares."""
+        """Whether a path with a face of this alpha is a rectangle of which Agg makes what is made here: of whole
+        pixels, or with an opaque edge that hides those it shares."""
         if not is_snapped_rectangle(path, transform.get_matrix(), gc.get_snap(), gc.get_sketch_params()):
             return False
         of_edge = edge_alpha(gc)
@@ -132,10 +136,15 @@ class RendererTrirast(RendererAgg):
             return False
         return self._leaves_samples(gc, alpha == OPAQUE)
 
-    def draw_markers(self, gc: Any, marker_path: Any, marker_trans: Any, path: Any, trans: Any, rgbFace: Any = None) -> None:
+    def draw_markers(
+        self, gc: Any, marker_path: Any, marker_trans: Any, path: Any, trans: Any, rgbFace: Any = None
+    ) -> None:
         """Draws the face of a marker at the figure's origin: a collection of one item without an offset comes so. Other
         markers stay Agg's: it puts them on whole pixels, so they have no side in common."""
-        smooth = rgbFace is not None and len(marker_path.vertices) > 2 and is_origin(path, trans) and self._is_smooth(gc.get_antialiased())
+        smooth = (
+            rgbFace is not None and len(marker_path.vertices) > 2 and is_origin(path, trans)
+            and self._is_smooth(gc.get_antialiased())
+        )
         color = face_bytes(gc, rgbFace) if smooth else (0, 0, 0, 0)
         if color[3] and self._all_samples().can_draw:
             matrix = np.array(marker_trans.get_matrix())
@@ -153,12 +162,13 @@ class RendererTrirast(RendererAgg):
     # ---- Collections
 
     def draw_path_collection(
-        self, gc: Any, master_transform: Any, paths: Any, all_transforms: Any, offsets: Any, offset_trans: Any, facecolors: Any,
-        edgecolors: Any, linewidths: Any, linestyles: Any, antialiaseds: Any, urls: Any, offset_position: Any, **more: Any,
+        self, gc: Any, master_transform: Any, paths: Any, all_transforms: Any, offsets: Any, offset_trans: Any,
+        facecolors: Any, edgecolors: Any, linewidths: Any, linestyles: Any, antialiaseds: Any, urls: Any,
+        offset_position: Any, **more: Any,
     ) -> None:
         whole = Collection(
-            master_transform, paths, all_transforms, offsets, offset_trans, facecolors, edgecolors, linewidths, linestyles, antialiaseds,
-            urls, offset_position, more,
+            master_transform, paths, all_transforms, offsets, offset_trans, facecolors, edgecolors, linewidths,
+            linestyles, antialiaseds, urls, offset_position, more,
         )
         if not self._draw_collection(gc, whole):
             whole.by_agg(self._renderer, gc)
@@ -187,7 +197,9 @@ class RendererTrirast(RendererAgg):
 
     def _faces(self, gc: Any, whole: Collection, widths: Any, alone: bool, has_edges: bool) -> Faces:
         count, height = whole.item_count, int(self.height)
-        transforms = placed(whole.master_transform, whole.transforms, whole.offsets, whole.offset_transform, count, height)
+        transforms = placed(
+            whole.master_transform, whole.transforms, whole.offsets, whole.offset_transform, count, height
+        )
         paths = np.arange(count)
         items = Items(whole.paths, paths if count == len(whole.paths) else paths % len(whole.paths), transforms, widths)
         # What lies outside of the picture may have an edge that is seen.
@@ -197,8 +209,9 @@ class RendererTrirast(RendererAgg):
     def _draw_with_edges(
         self, gc: Any, whole: Collection, polygons: Polygons, colors: Any, ours: Any, by_agg: Any, widths: Any
     ) -> bool:
-        """Draws faces and what Agg draws over them, in rounds. With too many of them opaque faces are drawn below Agg's,
-        where they show between these. Hatched faces may have their neighbours in other collections, as contour levels do."""
+        """Draws faces and what Agg draws over them, in rounds. With too many of them opaque faces are drawn below
+        Agg's, where they show between these. Hatched faces may have their neighbours in other collections, as
+        contour levels do."""
         if gc.get_hatch() is None and not have_common_sides(polygons):
             return False
         rounds = rounds_of(polygons, ours, by_agg, widths, int(self.width), int(self.height))
@@ -215,10 +228,13 @@ class RendererTrirast(RendererAgg):
         return True
 
     def draw_quad_mesh(
-        self, gc: Any, master_transform: Any, meshWidth: int, meshHeight: int, coordinates: Any, offsets: Any, offsetTrans: Any,
-        facecolors: Any, antialiased: Any, edgecolors: Any,
+        self, gc: Any, master_transform: Any, meshWidth: int, meshHeight: int, coordinates: Any, offsets: Any,
+        offsetTrans: Any, facecolors: Any, antialiased: Any, edgecolors: Any,
     ) -> None:
-        given = [gc, master_transform, meshWidth, meshHeight, coordinates, offsets, offsetTrans, facecolors, antialiased, edgecolors]
+        given = [
+            gc, master_transform, meshWidth, meshHeight, coordinates, offsets, offsetTrans, facecolors, antialiased,
+            edgecolors,
+        ]
         smooth = self._is_smooth(bool(antialiased)) and len(facecolors) and len(offsets) <= 1 and gc.get_hatch() is None
         if smooth and self._all_samples().can_draw:
             transform = placed(master_transform, (), offsets, offsetTrans, 1, int(self.height))[0]
@@ -230,7 +246,8 @@ class RendererTrirast(RendererAgg):
                 if not faces.whole.all() or not self._leaves_samples(gc, opaque):
                     self._draw(gc, faces.polygons, colors)
                     return
-                # To hide seams Agg draws edges of an antialiased mesh in the colours of its faces. Whole pixels need none.
+                # To hide seams Agg draws edges of an antialiased mesh in the colours of its faces.
+                # Whole pixels need none.
                 given[8] = False
             elif faces is not None and opaque:
                 # Below Agg's mesh, where they show between its faces.
@@ -244,7 +261,8 @@ class RendererTrirast(RendererAgg):
         self.draw_gouraud_triangles(gc, np.reshape(points, (1, 3, 2)), np.reshape(colors, (1, 3, 4)), transform)
 
     def draw_gouraud_triangles(self, gc: Any, triangles_array: Any, colors_array: Any, transform: Any) -> None:
-        """Draws triangles in their order, over what the figure shows. One with a position or a colour that is no number is left out."""
+        """Draws triangles in their order, over what the figure shows. One with a position or a colour that is no
+        number is left out."""
         box = self._clip_box(gc)
         if box.is_empty or not len(triangles_array):
             return
@@ -302,7 +320,8 @@ class RendererTrirast(RendererAgg):
 
 
 def sample_count(value: Any) -> int:
-    """The number of samples that a setting asks for. Raises TypeError at what is no integer, and ValueError at any that a canvas has not."""
+    """The number of samples that a setting asks for. Raises TypeError at what is no integer, and ValueError at any that
+    a canvas has not."""
     given = integer("RendererTrirast.samples", value)
     if given not in PATTERNS:
         raise ValueError(f"RendererTrirast.samples: {COUNTS}, and not {given}")

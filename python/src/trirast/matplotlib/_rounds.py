@@ -77,7 +77,8 @@ def cells_of(bounds: Any, reach: Any, which: Any, cells: Any) -> list[Any]:
 
 
 def have_common_sides(polygons: Polygons) -> bool:
-    """Whether two sides of polygons are the same, in one direction or the other, so that a seam could be between them."""
+    """Whether two sides of polygons are the same, in one direction or the other, so that a seam could
+    be between them."""
     # Of many polygons the first ones mostly say it.
     if len(polygons.polygon_ends) > FIRST_ITEMS and have_common_sides(polygons.between(0, FIRST_ITEMS)):
         return True

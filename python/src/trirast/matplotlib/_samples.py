@@ -67,7 +67,8 @@ class Samples:
         return bool(max(self._width, self._height) <= MAX_ORIGIN)
 
     def is_opaque(self, box_of: Callable[[], Box]) -> bool:
-        """Whether the pixels of a box are opaque, so that samples need no alpha. The box is asked for if some other pixel is not."""
+        """Whether the pixels of a box are opaque, so that samples need no alpha. The box is asked for if some
+        other pixel is not."""
         if self._is_opaque:
             return True
         self._is_opaque = is_all_opaque(self._picture)
@@ -80,7 +81,9 @@ class Samples:
         """Whether samples may differ from the picture near a box."""
         if self._waiting:
             return True
-        return any(window.has_samples(common(window.box, box)) for window in self._windows.values() if meet(window.box, box))
+        return any(
+            window.has_samples(common(window.box, box)) for window in self._windows.values() if meet(window.box, box)
+        )
 
     def add(self, polygons: Polygons, colors: Any, box: Box, clip: Optional[Clip] = None) -> None:
         """Draws polygons in their order inside of a box, each in its colour of four bytes."""
@@ -90,7 +93,8 @@ class Samples:
         self._waiting.append(Waiting(polygons, colors, box, clip, has_alpha))
 
     def _needs_alpha(self, box: Box) -> bool:
-        """Whether some pixel of a box is not opaque. It is not looked for again while polygons wait for the same box."""
+        """Whether some pixel of a box is not opaque. It is not looked for again while polygons wait for
+        the same box."""
         last = self._waiting[-1] if self._waiting else None
         return last is not None and last.has_alpha and last.box == box or not self.is_opaque(lambda: box)
 
@@ -154,7 +158,9 @@ def merged(waiting: List[Waiting]) -> List[Waiting]:
             groups.append([each])
     return [
         group[0] if len(group) == 1
-        else group[0]._replace(polygons=together([each.polygons for each in group]), colors=np.concatenate([each.colors for each in group]))
+        else group[0]._replace(
+            polygons=together([each.polygons for each in group]), colors=np.concatenate([each.colors for each in group])
+        )
         for group in groups
     ]
 

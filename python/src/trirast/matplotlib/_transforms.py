@@ -23,7 +23,10 @@ def after(first: Any, then: Any) -> Any:
     """The transform that is one and then another."""
     xx, yx, xy, yy, x0, y0 = np.moveaxis(first, -1, 0)
     a, b, c, d, e, f = np.moveaxis(then, -1, 0)
-    return np.stack((xx * a + yx * c, xx * b + yx * d, xy * a + yy * c, xy * b + yy * d, x0 * a + y0 * c + e, x0 * b + y0 * d + f), -1)
+    return np.stack(
+        (xx * a + yx * c, xx * b + yx * d, xy * a + yy * c, xy * b + yy * d, x0 * a + y0 * c + e, x0 * b + y0 * d + f),
+        -1,
+    )
 
 
 def applied(transform: Any, points: Any) -> Any:
@@ -91,7 +94,10 @@ def placed_once(master_transform: Any, offsets: Any, offset_transform: Any, heig
 
 def unmasked(values: Any) -> Any:
     """Numbers, of which masked ones are none."""
-    return ma.filled(ma.asarray(values, np.float64), np.nan) if ma.isMaskedArray(values) else np.asarray(values, np.float64)
+    return (
+        ma.filled(ma.asarray(values, np.float64), np.nan)
+        if ma.isMaskedArray(values) else np.asarray(values, np.float64)
+    )
 
 
 def cycled(values: Any, count: int) -> Any:

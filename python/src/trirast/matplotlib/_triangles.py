@@ -1,4 +1,5 @@
-"""Triangles with a colour at each corner, as matplotlib gives them: where they lie, cut to the guard band, and as vertices of a canvas."""
+"""Triangles with a colour at each corner, as matplotlib gives them: where they lie, cut to the guard band, and as
+vertices of a canvas."""
 
 from __future__ import annotations
 
@@ -15,7 +16,8 @@ UNIT = 256
 OPAQUE = 255
 # The farthest position from a window's corner that is drawn without a cut, in pixels. The guard band ends at 32,768.
 REACH = 32767.0
-# The triangles of a batch, and the vertices that are made at once, which stay in a processor's caches. They change no pixel.
+# The triangles of a batch, and the vertices that are made at once, which stay in a processor's caches.
+# They change no pixel.
 BATCH, CHUNK = 65536, 6144
 # A vertex as it is written: both coordinates as one number, and the colour as another.
 WRITTEN = np.dtype({"names": ["place", "color"], "formats": ["i8", "u4"], "offsets": [0, 10], "itemsize": 16})
@@ -58,8 +60,8 @@ class Batch(NamedTuple):
 
 
 class Triangles(NamedTuple):
-    """Triangles in their order. `points` are of the shape (n, 3, 2): x to the right and y downwards, in pixels. `colors` are of the
-    shape (n, 3, 4): red, green, blue and alpha, 0 to 1, not multiplied by alpha."""
+    """Triangles in their order. `points` are of the shape (n, 3, 2): x to the right and y downwards, in pixels.
+    `colors` are of the shape (n, 3, 4): red, green, blue and alpha, 0 to 1, not multiplied by alpha."""
 
     points: Points
     colors: Colors
@@ -72,8 +74,8 @@ class Triangles(NamedTuple):
         return Triangles(self.points + (x, y), self.colors)
 
     def batches(self, x: int, y: int) -> Iterator[Batch]:
-        """Some triangles at a time, cut to the guard band of the figure and of a canvas whose upper left corner lies at x and y. One
-        with a position or a colour that is no number is left out."""
+        """Some triangles at a time, cut to the guard band of the figure and of a canvas whose upper left corner lies at
+        x and y. One with a position or a colour that is no number is left out."""
         for first in range(0, len(self.points), BATCH):
             some = numbered(self.of(slice(first, first + BATCH)))
             if len(some.points) and not is_near(some.points, x, y):
@@ -128,8 +130,8 @@ def within_reach(triangles: Triangles) -> Triangles:
 
 
 def cut(corners: Points, axis: int, sign: int) -> Points:
-    """The parts of triangles in which the coordinate times the sign is at most REACH: of each none, one or two triangles, which stand
-    where the triangle stood. A corner is a row of its position and its colour."""
+    """The parts of triangles in which the coordinate times the sign is at most REACH: of each none, one or two
+    triangles, which stand where the triangle stood. A corner is a row of its position and its colour."""
     outside = sign * corners[:, :, axis] > REACH
     count = outside.sum(1)
     inside, one, two = (np.flatnonzero(count == number) for number in (0, 1, 2))
@@ -150,8 +152,8 @@ def corner_first(corners: Points, first: NDArray[np.intp]) -> tuple[Points, Poin
 
 
 def crossing(inside: Points, outside: Points, axis: int, sign: int) -> Points:
-    """Where edges cross the border, with the colour there. An edge gives the same numbers to both triangles on its sides, since it is
-    followed from its end inside."""
+    """Where edges cross the border, with the colour there. An edge gives the same numbers to both triangles on its
+    sides, since it is followed from its end inside."""
     part = (sign * REACH - inside[:, axis]) / (outside[:, axis] - inside[:, axis])
     found: Points = inside + part[:, None] * (outside - inside)
     found[:, axis] = sign * REACH
@@ -162,7 +164,8 @@ def crossing(inside: Points, outside: Points, axis: int, sign: int) -> Points:
 
 
 def vertices_of(points: Points, colors: Colors) -> Vertices:
-    """Vertices at depth 0, of rows of x and y in pixels and of rows of red, green, blue and alpha, all of them numbers."""
+    """Vertices at depth 0, of rows of x and y in pixels and of rows of red, green, blue and alpha, all
+    of them numbers."""
     found = np.zeros(len(points), VERTEX)
     written = found.view(WRITTEN)
     for first in range(0, len(points), CHUNK):

@@ -31,8 +31,8 @@ class Window:
     """Samples of a box of a picture. `shown` is what they resolve to. A pixel of which the picture has other bytes was
     drawn by someone else: then its samples are dropped, and are all what the picture shows.
 
-    With alpha samples are multiplied by it, and the picture is not: so a pixel may resolve to other bytes than it was loaded
-    from. Those bytes stay until something drawn changes what it resolves to.
+    With alpha samples are multiplied by it, and the picture is not: so a pixel may resolve to other bytes than it was
+    loaded from. Those bytes stay until something drawn changes what it resolves to.
 
     A clip path is a depth: its samples get a number as their depth, and what is clipped is drawn where depths are
     equal to it.
@@ -42,7 +42,9 @@ class Window:
         self.box, self._threads = box, threads
         self._pixels = picture[box.top : box.bottom, box.left : box.right]
         memory = np.empty(Canvas.size(box.width, box.height, samples), np.uint8)
-        self._canvas = Canvas(box.width, box.height, samples, alpha=has_alpha, origin=(box.left, box.top), memory=memory)
+        self._canvas = Canvas(
+            box.width, box.height, samples, alpha=has_alpha, origin=(box.left, box.top), memory=memory
+        )
         self._shown = np.empty((box.height, box.width), np.uint32)
         self._resolved = np.empty_like(self._shown) if has_alpha else None
         # The bits that each pixel has here.
@@ -82,7 +84,9 @@ class Window:
 
     def draw(self, polygons: Polygons, colors: Any, scissor: Box, clip: Optional[Clip]) -> None:
         """Draws polygons over the samples, each in its colour of four bytes."""
-        self._draw(polygons, colors, "none" if (colors[:, 3] == OPAQUE).all() else "over", scissor, **self._inside(clip))
+        self._draw(
+            polygons, colors, "none" if (colors[:, 3] == OPAQUE).all() else "over", scissor, **self._inside(clip)
+        )
 
     def draw_batches(self, batches: Iterable[Batch], scissor: Box, clip: Optional[Clip]) -> None:
         """Draws triangles over the samples."""
@@ -92,7 +96,9 @@ class Window:
             if depth:
                 batch.vertices["depth"] = depth
             blend: Any = "none" if batch.is_opaque else "over"
-            self._canvas.draw(batch.vertices, batch.indices, blend=blend, scissor=scissor, threads=self._threads, **inside)
+            self._canvas.draw(
+                batch.vertices, batch.indices, blend=blend, scissor=scissor, threads=self._threads, **inside
+            )
 
     def end(self, box: Box) -> None:
         """Resolves a box into the picture."""
@@ -111,7 +117,9 @@ class Window:
         tile_rows = self._tile_rows(box)
         TileRows(self._canvas, tile_rows.start, tile_rows.stop, self._threads).resolve(out)
 
-    def _draw(self, polygons: Polygons, colors: Any, blend: Any, scissor: Optional[Box], depth: int = 0, **more: Any) -> None:
+    def _draw(
+        self, polygons: Polygons, colors: Any, blend: Any, scissor: Optional[Box], depth: int = 0, **more: Any
+    ) -> None:
         state: dict[str, Any] = {"blend": blend, "scissor": scissor, "threads": self._threads, **more}
         triangles = triangles_of(polygons) if self._reaches(polygons.corners) else None
         if triangles is not None:

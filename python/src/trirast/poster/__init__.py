@@ -4,10 +4,13 @@
     python3 -m trirast.poster map.geojson -o map.png --style style.json
 
     from trirast import poster
-    scene = poster.scene_of_arrays(vertices, triangles, {"width": 30000, "height": 20000, "draws": [{"triangles": len(triangles)}]})
+    scene = poster.scene_of_arrays(
+        vertices, triangles, {"width": 30000, "height": 20000, "draws": [{"triangles": len(triangles)}]}
+    )
     poster.draw_poster(scene, "wall.png")
 
-docs/posters.md is the reference, and docs/maps.md that of maps. It needs numpy, for clusters Dask, and for a bar of progress tqdm.
+docs/posters.md is the reference, and docs/maps.md that of maps. It needs numpy, for clusters Dask, and for a
+bar of progress tqdm.
 """
 
 import importlib

@@ -7,7 +7,8 @@ from typing import Any
 
 
 def stop_at_once(*_: Any) -> None:
-    """Ends the run while modules are imported, which may make other errors of a KeyboardInterrupt. Nothing is begun yet."""
+    """Ends the run while modules are imported, which may make other errors of a KeyboardInterrupt.
+    Nothing is begun yet."""
     if sys.stderr is not None:
         print("poster: stopped", file=sys.stderr, flush=True)
     # The status of a program that Ctrl-C ended, as shells give it.

@@ -1,9 +1,9 @@
 """Scenes in files of numpy, .npz: arrays without the limits of a draw list.
 
 A file has `vertices`, records of trirast.VERTEX or (n, 7) integers; `triangles`, (m, 3) integers; and `draws`, a text:
-a draw list as JSON, in whose draws `triangles` is a number, and `vertices` is absent. It may have polygons in addition to
-these or in their place: `corners`, (n, 2) integers, `ring_ends`, `polygon_ends` and `colors`, and draws of them in which
-`polygons` is a number. Records and integers that are
+a draw list as JSON, in whose draws `triangles` is a number, and `vertices` is absent. It may have polygons in addition
+to these or in their place: `corners`, (n, 2) integers, `ring_ends`, `polygon_ends` and `colors`, and draws of them in
+which `polygons` is a number. Records and integers that are
 stored and not deflated, as numpy.savez leaves them, are copied to files without a name, which are mapped, so that
 scenes larger than memory can be drawn. The file itself is not mapped: to read what somebody cuts off from it would end
 the process.
@@ -53,11 +53,12 @@ OF_TRIANGLES, OF_POLYGONS = ("vertices", "triangles"), ("corners", "ring_ends", 
 def scene_of_arrays(
     vertices: NDArray[Any], triangles: NDArray[Any], value: Any, *, polygons: Polygons = NONE, copy: bool = True
 ) -> Scene:
-    """A scene of arrays. `value` is a draw list in whose draws `triangles` or `polygons` is a number, and `vertices` is absent.
+    """A scene of arrays. `value` is a draw list in whose draws `triangles` or `polygons` is a number, and
+    `vertices` is absent.
 
-    The scene has copies of the arrays, unless `copy` is false: then each window that is drawn has copies of what it reads, and who changes
-    the arrays meanwhile may find another picture or an error. Raises ArraysError if an array does not fit, and trirast.Error if `value` is
-    wrong.
+    The scene has copies of the arrays, unless `copy` is false: then each window that is drawn has copies of what it
+    reads, and who changes the arrays meanwhile may find another picture or an error. Raises ArraysError if an array
+    does not fit, and trirast.Error if `value` is wrong.
     """
     return of_members(vertices, triangles, polygons, value, None, copy)
 
@@ -66,7 +67,8 @@ def scene_of_polygons(polygons: Polygons, value: Any) -> Scene:
     """A scene of polygons alone. `value` is a draw list in whose draws `polygons` is a number, or
     which has no draws: then all polygons are one, without blending.
 
-    Raises ArraysError if an array does not fit, and trirast.Error if `value` is wrong; its text names the key, the value and what is allowed.
+    Raises ArraysError if an array does not fit, and trirast.Error if `value` is wrong; its text names the key, the
+    value and what is allowed.
     """
     own = own_polygons(polygons)
     vertices, triangles = NO_TRIANGLES
@@ -89,7 +91,9 @@ def of_members(
 def draw_of(draw: Mapping[str, Any]) -> PosterDraw:
     counts = {key: draw[key] for key in ("triangles", "polygons") if key in draw}
     if [type(count) for count in counts.values()] != [int] or not set(draw).isdisjoint(("vertices", "strip", "quads")):
-        raise ArraysError("a draw of arrays has the number of its triangles or of its polygons, and no vertices, strip or quads")
+        raise ArraysError(
+            "a draw of arrays has the number of its triangles or of its polygons, and no vertices, strip or quads"
+        )
     return PosterDraw(**counts, state={key: value for key, value in draw.items() if key not in counts})
 
 
@@ -104,8 +108,8 @@ def scene_of_file(path: str) -> Scene:
 
 
 def read_file(path: str, file: IO[bytes]) -> tuple[dict[str, NDArray[Any]], Any]:
-    """The arrays of a .npz file and its list. Raises ArraysError if it has not these members, in any of the ways in which zipfile and
-    numpy say so."""
+    """The arrays of a .npz file and its list. Raises ArraysError if it has not these members, in any of the ways in
+    which zipfile and numpy say so."""
     try:
         with zipfile.ZipFile(file) as archive:
             names = archive.namelist()
@@ -144,7 +148,8 @@ def is_mapped(dtype: np.dtype[Any]) -> bool:
 
 
 def copy_part(file: IO[bytes], name: str, start: int, size: int, copy: IO[bytes]) -> None:
-    """Copies a part of a file to a file without a name, which nobody else can change. Raises ValueError if the file ends before."""
+    """Copies a part of a file to a file without a name, which nobody else can change. Raises ValueError if the
+    file ends before."""
     file.seek(start)
     while size:
         block = file.read(min(size, BLOCK))
@@ -164,7 +169,8 @@ def header_of(file: IO[bytes]) -> tuple[tuple[int, ...], bool, np.dtype[Any]]:
 
 
 def data_offset(file: IO[bytes], info: zipfile.ZipInfo) -> int:
-    """Where the bytes of a stored member begin in the file (APPNOTE.TXT of PKWARE, 4.3.7: lengths of name and extra field)."""
+    """Where the bytes of a stored member begin in the file (APPNOTE.TXT of PKWARE, 4.3.7: lengths of name
+    and extra field)."""
     file.seek(info.header_offset)
     name, extra = struct.unpack("<HH", file.read(LOCAL_HEADER)[26:30])
     return int(info.header_offset + LOCAL_HEADER + name + extra)
@@ -175,7 +181,9 @@ def save_arrays(
 ) -> None:
     """Writes a .npz file for `scene_of`: members stored, and aligned, vertices as records. It gets its name when it is
     whole, so the arrays may be those of a file of that name."""
-    arrays = {"vertices": own_vertices(vertices, copy=False), "triangles": triangles, "draws": np.array(json.dumps(value))}
+    arrays = {
+        "vertices": own_vertices(vertices, copy=False), "triangles": triangles, "draws": np.array(json.dumps(value))
+    }
     if polygons.count:
         arrays.update(zip(OF_POLYGONS, own_polygons(polygons, copy=False).arrays))
     save_members(path, arrays)
@@ -212,8 +220,8 @@ def write_members(file: IO[bytes], arrays: Mapping[str, NDArray[Any]]) -> None:
 
 
 def scene_of(path: Path, style: Optional[Path] = None) -> Scene:
-    """The scene of a file, by the end of its name in small or capital letters: arrays (.npz), polygons of GeoJSON in a style, which is a
-    file too (.geojson), else a draw list."""
+    """The scene of a file, by the end of its name in small or capital letters: arrays (.npz), polygons of GeoJSON in a
+    style, which is a file too (.geojson), else a draw list."""
     name = os.fsdecode(path)
     if name.lower().endswith(GEOJSON):
         return scene_of_geojson(name, None if style is None else os.fsdecode(style))
@@ -228,5 +236,7 @@ def scene_of(path: Path, style: Optional[Path] = None) -> Scene:
         return scene_of_list(data, name)
     except (DrawListError, LimitError) as error:
         if GEOJSON_TYPE.search(data):
-            raise MapError(f"{name}: it looks like GeoJSON, whose name has to end in {GEOJSON}, and is no draw list") from error
+            raise MapError(
+                f"{name}: it looks like GeoJSON, whose name has to end in {GEOJSON}, and is no draw list"
+            ) from error
         raise

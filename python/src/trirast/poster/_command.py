@@ -23,7 +23,9 @@ def side(text: str) -> int:
     try:
         return int(text)
     except ValueError:
-        raise argparse.ArgumentTypeError(f"pixels of a window's side, as 512, and not {text!r}; a map's window is a key of its style") from None
+        raise argparse.ArgumentTypeError(
+            f"pixels of a window's side, as 512, and not {text!r}; a map's window is a key of its style"
+        ) from None
 
 
 def arguments(words: Optional[List[str]] = None) -> argparse.Namespace:
@@ -32,14 +34,29 @@ def arguments(words: Optional[List[str]] = None) -> argparse.Namespace:
         description="Draws a draw list or a map of up to 32,768 pixels a side, by windows.",
     )
     parser.add_argument("list", metavar="LIST", help="a draw list, arrays of numpy (.npz), or polygons (.geojson)")
-    parser.add_argument("-o", dest="out", metavar="OUT", help="the picture: PNG if the name ends in .png, TIFF if in .tif or .tiff, PPM (of depths PGM) if in .ppm, .pgm or nothing")
-    parser.add_argument("--style", metavar="STYLE.json", help="how a map of GeoJSON is drawn: window, projection, colours")
-    parser.add_argument("--tiles", metavar="FOLDER", help="a new folder of PNG tiles z/x/y.png with a page that shows them")
-    parser.add_argument("--samples", type=int, choices=sorted(SAMPLES), help="samples of a pixel, in place of the list's")
+    parser.add_argument(
+        "-o", dest="out", metavar="OUT",
+        help="the picture: PNG if the name ends in .png, TIFF if in .tif or .tiff, PPM (of depths "
+        "PGM) if in .ppm, .pgm or nothing",
+    )
+    parser.add_argument(
+        "--style", metavar="STYLE.json", help="how a map of GeoJSON is drawn: window, projection, colours"
+    )
+    parser.add_argument(
+        "--tiles", metavar="FOLDER", help="a new folder of PNG tiles z/x/y.png with a page that shows them"
+    )
+    parser.add_argument(
+        "--samples", type=int, choices=sorted(SAMPLES), help="samples of a pixel, in place of the list's"
+    )
     parser.add_argument("--dpi", type=float, help="pixels per inch, which a PNG or a TIFF file has")
-    parser.add_argument("--window", type=side, default=SIDE, metavar="SIDE", help=f"pixels of a window's side (default {SIDE}); a map's window is a key of its style")
+    parser.add_argument(
+        "--window", type=side, default=SIDE, metavar="SIDE",
+        help=f"pixels of a window's side (default {SIDE}); a map's window is a key of its style",
+    )
     parser.add_argument("--workers", type=int, metavar="N", help="how many draw at once (default one a core)")
-    parser.add_argument("--scheduler", metavar="local|ADDRESS", help="draw by Dask: its processes here, or a cluster's scheduler")
+    parser.add_argument(
+        "--scheduler", metavar="local|ADDRESS", help="draw by Dask: its processes here, or a cluster's scheduler"
+    )
     parser.add_argument("--resume", action="store_true", help="go on with what a stopped run left")
     options = parser.parse_args(words)
     if options.out is None and options.tiles is None:
@@ -50,8 +67,8 @@ def arguments(words: Optional[List[str]] = None) -> argparse.Namespace:
 
 
 def main(words: Optional[List[str]] = None) -> int:
-    """Draws a poster, and says so in one line on standard error. Returns 1 after an error, which such a line names, and 130 after Ctrl-C.
-    Exits with 2 if the arguments are wrong."""
+    """Draws a poster, and says so in one line on standard error. Returns 1 after an error, which such a line names, and
+    130 after Ctrl-C. Exits with 2 if the arguments are wrong."""
     options = arguments(words)
     try:
         scene = scene_of(options.list, options.style)

@@ -1,7 +1,7 @@
 """The engine for clusters: Dask's scheduler and workers, on this machine or elsewhere.
 
-Each window's part of the arrays goes with its task, so a worker needs no memory of the whole scene, and none of it is lost with
-a worker. The package and the library have to be installed where workers run.
+Each window's part of the arrays goes with its task, so a worker needs no memory of the whole scene, and none of it is
+lost with a worker. The package and the library have to be installed where workers run.
 """
 
 from __future__ import annotations
@@ -28,27 +28,35 @@ from ._windows import Span, Window
 LOCAL = "local"
 # How many windows a worker has before it or done and not yet taken.
 AHEAD = 4
-# How often a window is sent before its loss is an error. Dask itself tries a task that dies with its worker several times.
+# How often a window is sent before its loss is an error. Dask itself tries a task that dies with its
+# worker several times.
 SENT = 10
-# Seconds after the last window that came back: as many without a worker of a cluster are an error, and so are as many in all.
+# Seconds after the last window that came back: as many without a worker of a cluster are an error, and
+# so are as many in all.
 WITHOUT_WORKERS = 60
 WITHOUT_WINDOW = 600
-# Seconds from one look at the workers to the next. What takes longer than STOOD_STILL counts as this: then the machine stood still.
+# Seconds from one look at the workers to the next. What takes longer than STOOD_STILL counts as this: then the
+# machine stood still.
 LOOK, STOOD_STILL = 1, 15
 # Seconds for a window to come back that is drawn, before the workers are looked after, and for the scheduler to answer.
 COME_BACK = 10
 ANSWER = 60
 CONNECT = "10s"
 # Loggers that write traces where a scheduler goes away. The error that is raised says it.
-LOGGERS = ("distributed", "distributed.client", "distributed.utils", "distributed.core", "tornado.application", "asyncio")
+LOGGERS = (
+    "distributed", "distributed.client", "distributed.utils", "distributed.core", "tornado.application", "asyncio"
+)
 
 
-def draw_by_dask(windows: Iterable[Window], part: Callable[[Span], Part], workers: int, scheduler: str) -> Iterator[Drawn]:
+def draw_by_dask(
+    windows: Iterable[Window], part: Callable[[Span], Part], workers: int, scheduler: str
+) -> Iterator[Drawn]:
     """Draws windows by Dask, and gives them back in their order.
 
-    `scheduler` is an address, as tcp://host:8786, or "local": then `workers` processes are started, and others in place of those that end.
-    Raises EngineMissingError without Dask; SchedulerLostError if the scheduler is not reached, does not answer or goes away;
-    WorkerLostError if a window is lost with its worker again and again, or if workers are not there for long.
+    `scheduler` is an address, as tcp://host:8786, or "local": then `workers` processes are started, and others in
+    place of those that end. Raises EngineMissingError without Dask; SchedulerLostError if the scheduler is not
+    reached, does not answer or goes away; WorkerLostError if a window is lost with its worker again and again, or if
+    workers are not there for long.
     """
     distributed = dask()
     local = LocalWorkers(workers) if scheduler == LOCAL else None
@@ -79,7 +87,9 @@ def connected(distributed: Any, scheduler: str) -> Iterator[Any]:
         try:
             if scheduler == LOCAL:
                 # Any free port: without a number Dask asks for 8787, and warns if another run has it.
-                cluster = distributed.LocalCluster(n_workers=0, host="127.0.0.1", silence_logs=50, dashboard_address=":0")
+                cluster = distributed.LocalCluster(
+                    n_workers=0, host="127.0.0.1", silence_logs=50, dashboard_address=":0"
+                )
                 client = stack.enter_context(distributed.Client(stack.enter_context(cluster)))
             else:
                 client = stack.enter_context(distributed.Client(scheduler))
@@ -91,8 +101,8 @@ def connected(distributed: Any, scheduler: str) -> Iterator[Any]:
 
 
 def quiet_for_good() -> None:
-    """Keeps Dask's loggers quiet to the end of the process: what Dask leaves behind may write a trace as late as that. Raises
-    EngineMissingError without Dask."""
+    """Keeps Dask's loggers quiet to the end of the process: what Dask leaves behind may write a trace as late as that.
+    Raises EngineMissingError without Dask."""
     # Its import gives the loggers levels of their own.
     dask()
     for logger in map(logging.getLogger, LOGGERS):
@@ -141,7 +151,9 @@ class Sent(NamedTuple):
 class Sending:
     """Windows on their way to a cluster and back."""
 
-    def __init__(self, distributed: Any, client: Any, part: Callable[[Span], Part], local: Optional[LocalWorkers]) -> None:
+    def __init__(
+        self, distributed: Any, client: Any, part: Callable[[Span], Part], local: Optional[LocalWorkers]
+    ) -> None:
         self._distributed = distributed
         self._client = client
         self._part = part
@@ -182,7 +194,9 @@ class Sending:
                 return Drawn(window, self._wait(future))
             except (self._distributed.scheduler.KilledWorker, MemoryError, OutOfMemoryError) as error:
                 if times == SENT:
-                    raise WorkerLostError(f"window {window.column}, {window.row} was lost {times} times: {error}") from error
+                    raise WorkerLostError(
+                        f"window {window.column}, {window.row} was lost {times} times: {error}"
+                    ) from error
                 self._under_way.appendleft(self._send(window, times + 1))
             except (CancelledError, OSError) as error:
                 if future.status == "error":
@@ -206,7 +220,8 @@ class Sending:
             self._look_after_workers()
 
     def _look_after_workers(self) -> None:
-        """Looks which workers are there, if the last look was some time ago, and starts those of this run's own that have ended.
+        """Looks which workers are there, if the last look was some time ago, and starts those of this run's
+        own that have ended.
 
         Raises WorkerLostError if no window came back for long, or before too many of this run's own ended.
         """

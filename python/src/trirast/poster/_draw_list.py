@@ -27,7 +27,8 @@ PRIMITIVES = ("triangles", "strip", "quads")
 # Keys that draws of polygons have and lists do not.
 OF_POLYGONS = ("polygons", "rule")
 SHEET_KEYS = ("width", "height", "samples", "clear_depth", "output")
-# Of a text: a side's key and its digits, a scissor's key and its numbers, and the digits of a number that has nothing else.
+# Of a text: a side's key and its digits, a scissor's key and its numbers, and the digits of a number
+# that has nothing else.
 SIDES = re.compile(rb'("(?:width|height)"[ \t\r\n]*:[ \t\r\n]*)([1-9][0-9]*)(?![0-9.eE])')
 SCISSOR = re.compile(rb'("scissor"[ \t\r\n]*:[ \t\r\n]*\[)([-+0-9.eE, \t\r\n]*)')
 NUMBER = re.compile(rb"(?<![-+0-9.eE])[1-9][0-9]*(?![0-9.eE])")
@@ -51,7 +52,8 @@ def scene_of_list(data: bytes, source: Optional[str] = None) -> Scene:
 
 
 def checked(data: bytes) -> Any:
-    """The value of a list. The library makes all checks, of the same text with smaller numbers where a poster may have greater ones."""
+    """The value of a list. The library makes all checks, of the same text with smaller numbers where a poster may
+    have greater ones."""
     image_info(cut(data))
     return json.loads(data)
 
@@ -59,7 +61,8 @@ def checked(data: bytes) -> Any:
 def cut(data: bytes) -> bytes:
     """A text as long as a list's, in which each side and each edge of a scissor from 4097 to 32,768 is 4096.
 
-    It looks for keys as they are written. Where such a key is part of a text, the list is refused with this change and without it.
+    It looks for keys as they are written. Where such a key is part of a text, the list is refused with this
+    change and without it.
     """
     within = SIDES.sub(lambda found: found[1] + cut_number(found[2]), data)
     return SCISSOR.sub(lambda found: found[1] + NUMBER.sub(lambda number: cut_number(number[0]), found[2]), within)
@@ -67,7 +70,10 @@ def cut(data: bytes) -> bytes:
 
 def cut_number(digits: bytes) -> bytes:
     """A number in its digits. It is lowered if it is more than a list has and not more than a poster has."""
-    return b"%d" % LIST_SIDE + b" " * (len(digits) - 4) if len(digits) < 6 and LIST_SIDE < int(digits) <= MAX_SIDE else digits
+    return (
+        b"%d" % LIST_SIDE + b" " * (len(digits) - 4)
+        if len(digits) < 6 and LIST_SIDE < int(digits) <= MAX_SIDE else digits
+    )
 
 
 def sheet_of(value: Any) -> Sheet:
@@ -89,15 +95,18 @@ def triangles_of(draw: Any) -> NDArray[np.int32]:
         halves: NDArray[np.int32] = quads[:, [0, 1, 2, 2, 3, 0]].reshape(-1, 3)
         return halves
     strip = np.array(draw["strip"], np.int32)
-    triangles: NDArray[np.int32] = np.stack((strip[:-2], strip[1:-1], strip[2:]), 1) if len(strip) > 2 else np.zeros((0, 3), np.int32)
+    triangles: NDArray[np.int32] = (
+        np.stack((strip[:-2], strip[1:-1], strip[2:]), 1) if len(strip) > 2 else np.zeros((0, 3), np.int32)
+    )
     # Each second triangle has its last two corners exchanged, so that a strip keeps its orientation.
     triangles[1::2] = triangles[1::2, [0, 2, 1]]
     return triangles
 
 
 def check_states(value: Any) -> None:
-    """Raises trirast.Error if a list without vertices and triangles is none: what arrays say once, and the states of draws. Its pixels
-    may have as many samples as those of a canvas, and its sample masks 16 bits. The text names the key, its value, and what it may be."""
+    """Raises trirast.Error if a list without vertices and triangles is none: what arrays say once, and the states of
+    draws. Its pixels may have as many samples as those of a canvas, and its sample masks 16 bits. The text names the
+    key, its value, and what it may be."""
     draws = value.get("draws") if isinstance(value, dict) else None
     with adding(DrawListError, lambda _error: fault_of(value)):
         if not isinstance(draws, list):

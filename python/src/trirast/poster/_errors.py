@@ -12,20 +12,23 @@ class ArraysError(PosterError, ValueError):
 
 
 class MapError(PosterError, ValueError):
-    """What was given is no GeoJSON of polygons, in degrees or as a plane, or no style of a map, or of the map nothing would be seen, or
-    nothing in the style's colours. The text says where."""
+    """What was given is no GeoJSON of polygons, in degrees or as a plane, or no style of a map, or of the map nothing
+    would be seen, or nothing in the style's colours. The text says where."""
 
 
 class GuardBandError(PosterError, ValueError):
     """A vertex of a triangle lies too far from a window that the triangle meets, or a corner of a polygon.
 
-    The library draws a window whose picture begins at most 32,768 pixels right of and below each vertex, and is at most 4096
-    pixels wide and high. On a poster of more than 28,672 pixels no corner of a polygon that is seen past that may lie as
-    many pixels left of the poster or above it. `triangle` is the index of the triangle, or of the polygon, in the scene.
+    The library draws a window whose picture begins at most 32,768 pixels right of and below each vertex, and is at
+    most 4096 pixels wide and high. On a poster of more than 28,672 pixels no corner of a polygon that is seen past
+    that may lie as many pixels left of the poster or above it. `triangle` is the index of the triangle, or of the
+    polygon, in the scene.
     """
 
     def __init__(self, triangle: int, axis: str, kind: str = "triangle") -> None:
-        super().__init__(f"{kind} {triangle} cannot be moved into a window that it meets: its {axis} leaves the guard band")
+        super().__init__(
+            f"{kind} {triangle} cannot be moved into a window that it meets: its {axis} leaves the guard band"
+        )
         self.triangle = triangle
 
 
@@ -46,8 +49,8 @@ class ResumeError(PosterError, ValueError):
 
 
 class OutputError(PosterError, FileExistsError):
-    """What is under a name that the run needs would be lost: no regular file, the list itself, or what no poster left. Or the end of
-    the name is of no format that a poster has."""
+    """What is under a name that the run needs would be lost: no regular file, the list itself, or what no poster left.
+    Or the end of the name is of no format that a poster has."""
 
 
 class BusyError(PosterError, BlockingIOError):

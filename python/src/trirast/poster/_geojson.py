@@ -1,7 +1,8 @@
 """Polygons of GeoJSON (RFC 7946) as a scene, in the style of a map.
 
-A feature is one polygon of all its rings by the even-odd rule, so holes and the parts of multipolygons need nothing else. Neighbours that
-share corners in the file share them on the sheet: each position is projected and rounded by itself.
+A feature is one polygon of all its rings by the even-odd rule, so holes and the parts of multipolygons need
+nothing else. Neighbours that share corners in the file share them on the sheet: each position is projected
+and rounded by itself.
 """
 
 from __future__ import annotations
@@ -29,7 +30,9 @@ FEWEST = 3
 
 
 # What a ring is in coordinates, and with how many levels of brackets.
-LEVELS = {"Polygon": "a Polygon has rings of positions", "MultiPolygon": "a MultiPolygon has polygons of rings of positions"}
+LEVELS = {
+    "Polygon": "a Polygon has rings of positions", "MultiPolygon": "a MultiPolygon has polygons of rings of positions"
+}
 OF_RING = 2
 
 
@@ -42,9 +45,10 @@ class Feature(NamedTuple):
 
 
 def scene_of_geojson(path: str, style: Optional[str] = None) -> Scene:
-    """The scene of a GeoJSON file, in the style of a JSON file, or without one in that of a style without keys. Feature k of the file, also
-    one without a geometry, is polygon k of the scene's `polygons`. Raises MapError if one of the files is none, or if nothing of the map
-    would be seen, or nothing in the colours of a property: such files are a slip."""
+    """The scene of a GeoJSON file, in the style of a JSON file, or without one in that of a style without keys.
+    Feature k of the file, also one without a geometry, is polygon k of the scene's `polygons`. Raises MapError if
+    one of the files is none, or if nothing of the map would be seen, or nothing in the colours of a property: such
+    files are a slip."""
     given = {} if style is None else read_json(style)
     drawn = style_of(given)
     features = list(features_of(read_json(path), path))
@@ -60,7 +64,10 @@ def scene_of_geojson(path: str, style: Optional[str] = None) -> Scene:
     places = projected(degrees, drawn)
     is_seen = seen(places, ring_ends, polygon_ends, drawn.sheet)
     if not is_seen.any():
-        raise MapError(f"{path}: no feature meets the style's window, {list(drawn.window)}; {reach_of(degrees, drawn)}: {hint(degrees, drawn)}")
+        raise MapError(
+            f"{path}: no feature meets the style's window, {list(drawn.window)}; "
+            f"{reach_of(degrees, drawn)}: {hint(degrees, drawn)}"
+        )
     found = [drawn.color_of(feature.properties) for feature in features]
     colors = np.array([drawn.color if color is None else color for color in found], np.uint8).reshape(-1, 4)
     corners, ring_ends = within_band(places, ring_ends, drawn.sheet)
@@ -78,7 +85,10 @@ def read_json(path: str) -> Any:
         try:
             return json.load(file)
         except (ValueError, RecursionError) as error:
-            several = "; of several texts, as one feature a line, make one FeatureCollection" * str(error).startswith("Extra data")
+            several = (
+                "; of several texts, as one feature a line, make one FeatureCollection"
+                * str(error).startswith("Extra data")
+            )
             raise MapError(f"{path}: no JSON text: {error}{several}") from error
 
 
@@ -93,7 +103,9 @@ def features_of(value: Any, path: str) -> Iterator[Feature]:
         if not isinstance(feature, dict):
             raise MapError(f"{where}: an object, and not {shown(feature)}")
         properties = feature.get("properties")
-        yield Feature(list(rings_of(feature.get("geometry"), where)), properties if isinstance(properties, dict) else {}, key)
+        yield Feature(
+            list(rings_of(feature.get("geometry"), where)), properties if isinstance(properties, dict) else {}, key
+        )
 
 
 def name_of_feature(path: str, number: int, key: str) -> str:
@@ -107,8 +119,12 @@ def listed_features(value: Any, path: str) -> Sequence[Any]:
     if kind == "Topology":
         raise MapError(f"{path}: it is TopoJSON: convert it to GeoJSON first")
     if not isinstance(kind, str):
-        raise MapError(f"{path}: a FeatureCollection, a Feature or a geometry, which has a type, and not {shown(value)}")
-    features = value.get("features") if kind == "FeatureCollection" else [value if kind == "Feature" else {"geometry": value}]
+        raise MapError(
+            f"{path}: a FeatureCollection, a Feature or a geometry, which has a type, and not {shown(value)}"
+        )
+    features = (
+        value.get("features") if kind == "FeatureCollection" else [value if kind == "Feature" else {"geometry": value}]
+    )
     if not isinstance(features, list):
         raise MapError(f"{path}: features: an array, and not {shown(features)}")
     return features
@@ -138,8 +154,8 @@ def array_of(value: Any, where: str) -> Sequence[Any]:
 
 
 def ring_of(ring: Any, where: str, levels: str) -> Places:
-    """The positions of a ring, without their heights, which some may have and others not. The last one may be the first one again.
-    `levels` says what the geometry has, for who has lost a bracket."""
+    """The positions of a ring, without their heights, which some may have and others not. The last one may be the first
+    one again. `levels` says what the geometry has, for who has lost a bracket."""
     try:
         found = np.array([place[:2] for place in ring])
     except (TypeError, ValueError):
@@ -148,7 +164,10 @@ def ring_of(ring: Any, where: str, levels: str) -> Places:
     if ring != [] and (found.shape != (count, 2) or found.dtype.kind not in "iuf"):
         depth = depth_of(ring)
         level = "one level of brackets is missing" if depth < OF_RING else "there is one level of brackets too many"
-        raise MapError(f"{where}: positions of a longitude and a latitude, and not {shown(ring)}" + f"; {levels}: {level}" * (depth != OF_RING))
+        raise MapError(
+            f"{where}: positions of a longitude and a latitude, and not {shown(ring)}"
+            + f"; {levels}: {level}" * (depth != OF_RING)
+        )
     if not has_different(ring, FEWEST):
         raise MapError(f"{where}: {FEWEST} different positions or more, and not {shown(ring)}")
     return found.astype(np.float64)
@@ -176,8 +195,8 @@ def has_different(ring: Sequence[Any], count: int) -> bool:
 
 
 def check_places(places: Places, ends: NDArray[Any], features: Sequence[Feature], style: Style, path: str) -> None:
-    """Raises MapError at NaN and infinities, and at a position that is no longitude and latitude, or too far away in a plane. `ends` has of
-    each feature the index behind its last position."""
+    """Raises MapError at NaN and infinities, and at a position that is no longitude and latitude, or too far away in a
+    plane. `ends` has of each feature the index behind its last position."""
     is_plane = style.projection == PLANE
     odd, wrong = ~np.isfinite(places).all(1), ~(np.abs(places) <= (FAR if is_plane else FARTHEST)).all(1)
     if not wrong.any():
@@ -230,7 +249,8 @@ def seen(places: Places, ring_ends: NDArray[Any], polygon_ends: NDArray[Any], sh
 
 
 def within_band(places: Places, ends: NDArray[Any], sheet: Sheet) -> tuple[NDArray[Any], NDArray[Any]]:
-    """Corners in 1/256 pixel and the ends of their rings. If one lies outside of the guard band, all rings are cut around the sheet."""
+    """Corners in 1/256 pixel and the ends of their rings. If one lies outside of the guard band, all rings are cut
+    around the sheet."""
     if len(places) and not (LOW <= UNIT * places.min() and UNIT * places.max() <= HIGH):
         for axis, side in enumerate((sheet.width, sheet.height)):
             for limit, sign in ((-MARGIN, 1), (side + MARGIN, -1)):
@@ -240,7 +260,8 @@ def within_band(places: Places, ends: NDArray[Any], sheet: Sheet) -> tuple[NDArr
 
 
 def cut(places: Places, ends: NDArray[Any], axis: int, limit: float, sign: int) -> tuple[Places, NDArray[Any]]:
-    """Of rings what lies on one side of a line. Where the line cuts an edge, the cut is the same for both polygons that have the edge."""
+    """Of rings what lies on one side of a line. Where the line cuts an edge, the cut is the same for both polygons
+    that have the edge."""
     following = np.arange(1, len(places) + 1)
     begins = with_zero(ends)[:-1]
     some = begins < ends

@@ -1,7 +1,9 @@
-"""Which triangles and polygons are drawn in which tile rows of which windows, by their bounds, in the order in which they are drawn.
+"""Which triangles and polygons are drawn in which tile rows of which windows, by their bounds, in the order in
+which they are drawn.
 
-What has no sample within its bounds is in no tile row: of a fine mesh these may be half. The places of a sheet are the tile rows of
-its windows, window after window. Triangles and polygons are counted together, in the order in which they are drawn.
+What has no sample within its bounds is in no tile row: of a fine mesh these may be half. The places of a sheet are
+the tile rows of its windows, window after window. Triangles and polygons are counted together, in the order in
+which they are drawn.
 """
 
 from __future__ import annotations
@@ -17,8 +19,8 @@ from ._pool import Pool
 from ._scene import AXES, LOW, SAMPLES, UNIT, Boxes, Indices, Run, Scene, Triangles, Vertices
 from ._windows import FARTHEST, SHIFT, TILE, Area, Span, Windows
 
-# Triangles or polygons of a group. Of fewer Python's lock would be handed from thread to thread too often. There are at least as many for each place,
-# since a group has a table of them.
+# Triangles or polygons of a group. Of fewer Python's lock would be handed from thread to thread too often. There are at
+# least as many for each place, since a group has a table of them.
 CHUNK = 1 << 18
 FOR_A_PLACE = 4
 
@@ -31,11 +33,12 @@ class Bounds(NamedTuple):
 
 
 class Group(NamedTuple):
-    """Some triangles or polygons by places: `members` has them place after place, and ascending in each; `places` the place of each.
+    """Some triangles or polygons by places: `members` has them place after place, and ascending in each;
+    `places` the place of each.
 
-    `begins` has of each place where its members begin, and then where the last ones end. `boxes` has the pixels within their bounds:
-    the left column, the upper row, and of the right column and the lower row the complements. No triangle, also of those that are left
-    out, lies left of `low` or above it.
+    `begins` has of each place where its members begin, and then where the last ones end. `boxes` has the pixels within
+    their bounds: the left column, the upper row, and of the right column and the lower row the complements. No
+    triangle, also of those that are left out, lies left of `low` or above it.
     """
 
     members: Indices
@@ -72,17 +75,20 @@ class Index:
 
     @classmethod
     def of(cls, scene: Scene, windows: Windows, threads: int = 1) -> Index:
-        """The index of a scene. Raises GuardBandError if a triangle or a polygon cannot be moved into a window that it meets."""
+        """The index of a scene. Raises GuardBandError if a triangle or a polygon cannot be moved into a
+        window that it meets."""
         chunk = max(CHUNK, FOR_A_PLACE * len(windows.places))
         with Pool(threads) as pool:
             return cls(pool.map(lambda run: group_of(scene, run, windows), pieces_of(scene.runs, chunk)), windows, pool)
 
     def of_span(self, span: Span) -> tuple[Indices, Indices, Indices]:
-        """What is drawn in some windows, tile row after tile row and ascending in each; where that of each tile row ends; and of each
-        tile row the pixels that are within its bounds, as an Area has them."""
+        """What is drawn in some windows, tile row after tile row and ascending in each; where that of each tile row
+        ends; and of each tile row the pixels that are within its bounds, as an Area has them."""
         first, end = (self._place(span.row, column) for column in (span.first, span.end))
         begin = self._begins[first]
-        return self._members[begin : self._begins[end]], self._begins[first + 1 : end + 1] - begin, self._areas[first:end]
+        return (
+            self._members[begin : self._begins[end]], self._begins[first + 1 : end + 1] - begin, self._areas[first:end]
+        )
 
     def members_before(self, row: int) -> list[int]:
         """How many triangles and polygons there are before each window of a row and behind the last one."""
@@ -177,10 +183,15 @@ def hold_samples(across: Bounds, down: Bounds, samples: int) -> NDArray[np.bool_
 
 
 def meetings(across: Bounds, down: Bounds, windows: Windows) -> tuple[NDArray[np.intp], Indices]:
-    """The numbers of triangles, ascending, each once for each place that it meets; and these places, counted along the tile rows of the
-    sheet."""
-    left, right = np.maximum(windows.columns_at(across.low), 0), np.minimum(windows.columns_at(across.high), windows.columns - 1)
-    top, bottom = np.maximum(windows.tile_rows_at(down.low), 0), np.minimum(windows.tile_rows_at(down.high), windows.last_tile_row)
+    """The numbers of triangles, ascending, each once for each place that it meets; and these places, counted along the
+    tile rows of the sheet."""
+    left, right = (
+        np.maximum(windows.columns_at(across.low), 0), np.minimum(windows.columns_at(across.high), windows.columns - 1)
+    )
+    top, bottom = (
+        np.maximum(windows.tile_rows_at(down.low), 0),
+        np.minimum(windows.tile_rows_at(down.high), windows.last_tile_row),
+    )
     wide, tall = right - left, bottom - top
     places = top * np.int32(windows.columns) + left
     # Nearly all triangles meet one place. Of the others, which may meet none, the places are counted row by row.
@@ -201,14 +212,16 @@ def meetings(across: Bounds, down: Bounds, windows: Windows) -> tuple[NDArray[np
 
 
 def check_band(bounds: Bounds, first: int, axis: int, windows: Windows) -> None:
-    """Raises GuardBandError if one of some polygons cannot be moved by SHIFT pixels with a window that it meets and that needs it."""
+    """Raises GuardBandError if one of some polygons cannot be moved by SHIFT pixels with a window that it meets
+    and that needs it."""
     far = np.flatnonzero((bounds.low < LOW + UNIT * SHIFT) & (bounds.high >= UNIT * (FARTHEST - LIST_SIDE)))
     if len(far) and (windows.width, windows.height)[axis] > FARTHEST:
         raise GuardBandError(first + int(far[0]), AXES[axis], "polygon")
 
 
 def check_guard_band(bounds: Bounds, first: int, axis: int, windows: Windows) -> None:
-    """Raises GuardBandError if one of some triangles cannot be moved into a window that it meets. The first has the index `first`."""
+    """Raises GuardBandError if one of some triangles cannot be moved into a window that it meets. The first has
+    the index `first`."""
     most, step = (windows.columns, windows.rows)[axis], windows.side * UNIT
     # A window can take every vertex that lies no further left or above than this.
     if int(bounds.low.min(initial=0)) >= (most - 1) * step + LOW:

@@ -1,7 +1,8 @@
 """The journal of a run: what `--resume` compares before it goes on.
 
-It is a text beside the file that grows: a mark, a line for the run, with the checksum of the list and the size of a window, and then
-a line for each row of windows that is written, with its checksum. It is removed with the end of the run.
+It is a text beside the file that grows: a mark, a line for the run, with the checksum of the list and the
+size of a window, and then a line for each row of windows that is written, with its checksum. It is removed
+with the end of the run.
 """
 
 from __future__ import annotations
@@ -19,7 +20,8 @@ WHOLE = {"whole": True}
 
 
 class Journal:
-    """A journal that was made, or that a stopped run left. It is locked, so a second run to the same place ends with a BusyError."""
+    """A journal that was made, or that a stopped run left. It is locked, so a second run to the same place ends
+    with a BusyError."""
 
     def __init__(self, path: str) -> None:
         """Opens a journal. Raises OutputError if there is a file that is none."""

@@ -1,4 +1,5 @@
-"""What the keys of a list without arrays may be, for messages: the library's own say the kind of a fault and its draw alone."""
+"""What the keys of a list without arrays may be, for messages: the library's own say the kind of a fault
+and its draw alone."""
 
 from __future__ import annotations
 
@@ -26,7 +27,9 @@ def numbers(least: int, most: int, unit: str = "") -> Key:
 
 def rows(count: str, length: int, of: Key) -> Key:
     """As many values in a list."""
-    is_list: Callable[[Any], bool] = lambda value: isinstance(value, (list, tuple)) and len(value) == length and all(map(of.is_one, value))
+    is_list: Callable[[Any], bool] = (
+        lambda value: isinstance(value, (list, tuple)) and len(value) == length and all(map(of.is_one, value))
+    )
     return Key(f"{count}, each {of.allowed}", is_list)
 
 
@@ -62,7 +65,8 @@ OF_DRAW: Mapping[str, Key] = {
 
 
 def fault_of(value: Any) -> str:
-    """What is wrong with a list without arrays, as `blend: one of 'none', 'over', and not 'alpha'`; nothing if it is found to be right."""
+    """What is wrong with a list without arrays, as `blend: one of 'none', 'over', and not 'alpha'`; nothing if it is
+    found to be right."""
     if not isinstance(value, dict):
         return f"a dict with the keys {', '.join(OF_LIST)}, and not {shown(value)}"
     missing = [f"{key}: {OF_LIST[key].allowed}, and it is missing" for key in NEEDED if key not in value]
@@ -78,4 +82,6 @@ def faults(keys: Mapping[str, Key], value: Any) -> list[str]:
         return [f"a dict with some of the keys {', '.join(keys)}, and not {shown(value)}"]
     unknown = [f"some of the keys {', '.join(keys)}, and not {shown(key)}" for key in value if key not in keys]
     known = [(key, keys[key], each) for key, each in value.items() if key in keys]
-    return unknown + [f"{name}: {key.allowed}, and not {shown(each)}" for name, key, each in known if not key.is_one(each)]
+    return unknown + [
+        f"{name}: {key.allowed}, and not {shown(each)}" for name, key, each in known if not key.is_one(each)
+    ]

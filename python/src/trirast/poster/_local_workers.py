@@ -1,8 +1,9 @@
 """Worker processes of Dask on this machine, which are this run's own.
 
-Dask's LocalCluster starts workers too, but waits without an end until each has sent a message. If one dies as it starts, who waited for
-it may take the message of the one that is started in its place, and drop it (distributed 2022.12, `_wait_until_connected` of nanny.py).
-Then neither the start of the cluster nor its end comes back. Here nobody waits for a worker: the scheduler says which are there.
+Dask's LocalCluster starts workers too, but waits without an end until each has sent a message. If one dies as it
+starts, who waited for it may take the message of the one that is started in its place, and drop it (distributed
+2022.12, `_wait_until_connected` of nanny.py). Then neither the start of the cluster nor its end comes back. Here nobody
+waits for a worker: the scheduler says which are there.
 """
 
 from __future__ import annotations
@@ -15,10 +16,11 @@ from typing import List
 
 # Seconds for which a worker looks for its scheduler, and seconds that workers have to end by themselves.
 LOOKS, ENDS = 60, 5
-# How many processes may end for each worker before a window comes back. On a busy machine a worker may take a minute to start, so no time
-# says that none will.
+# How many processes may end for each worker before a window comes back. On a busy machine a worker may take a minute to
+# start, so no time says that none will.
 ENDED = 25
-# As many arguments as a worker needs: one thread, and no process that looks after it. Dask stops no worker for its memory.
+# As many arguments as a worker needs: one thread, and no process that looks after it. Dask stops no
+# worker for its memory.
 WORDS = ("-m", "distributed.cli.dask_worker", "--no-nanny", "--nthreads", "1", "--no-dashboard", "--memory-limit", "0")
 PLACE = ("--host", "127.0.0.1", "--death-timeout", str(LOOKS))
 
@@ -33,7 +35,8 @@ class LocalWorkers:
         self._ended, self._why = 0, ""
 
     def renew(self, scheduler: str) -> None:
-        """Has as many processes as are wanted, for the scheduler at this address. One that cannot be started is left for the next time."""
+        """Has as many processes as are wanted, for the scheduler at this address. One that cannot be started is left
+        for the next time."""
         ended = [each.returncode for each in self._running if each.poll() is not None]
         self._running = [each for each in self._running if each.returncode is None]
         if ended:

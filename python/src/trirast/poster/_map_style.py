@@ -16,13 +16,18 @@ from ._scene import MAX_SIDE, Sheet
 STEEPEST = math.degrees(math.atan(math.sinh(math.pi)))
 # How far a plane reaches to each side, in units of its file: no number of pixels overflows.
 PLANE, FAR = "plane", 1e15
-WORLD = {"plate carree": (-180.0, -90.0, 180.0, 90.0), "web mercator": (-180.0, -STEEPEST, 180.0, STEEPEST), PLANE: (-FAR, -FAR, FAR, FAR)}
+WORLD = {
+    "plate carree": (-180.0, -90.0, 180.0, 90.0), "web mercator": (-180.0, -STEEPEST, 180.0, STEEPEST),
+    PLANE: (-FAR, -FAR, FAR, FAR),
+}
 # The window that is as wide and high as what is drawn.
 DATA = "data"
 KEYS = ("projection", "window", "width", "samples", "background", "color", "property", "colors", "steps", "opacity")
 
 # What JSON calls its values.
-TYPES = {str: "string", int: "number", float: "number", bool: "boolean", type(None): "null", list: "array", dict: "object"}
+TYPES = {
+    str: "string", int: "number", float: "number", bool: "boolean", type(None): "null", list: "array", dict: "object"
+}
 # How many of a property's values an error lists.
 FEW = 4
 
@@ -61,7 +66,8 @@ class Style(NamedTuple):
         return f"{len(plain)} in the style's color{why}"
 
     def check_values(self, features: Sequence[Mapping[str, Any]], path: str) -> None:
-        """Raises MapError if no feature of a file, of these properties, has the style's property, or none has a value for its colours."""
+        """Raises MapError if no feature of a file, of these properties, has the style's property, or none has a
+        value for its colours."""
         if self.property is None or not features:
             return
         names = {name for properties in features for name in properties}
@@ -69,13 +75,20 @@ class Style(NamedTuple):
             raise MapError(f"style: property: one of {shown(sorted(names))} of {path}, and not {shown(self.property)}")
         values = [properties[self.property] for properties in features if self.property in properties]
         if self.steps is not None and not any(map(is_number, values)):
-            raise MapError(f"style: steps: no feature of {path} has a number as {shown(self.property)}, but {some_of(values)}")
+            raise MapError(
+                f"style: steps: no feature of {path} has a number as {shown(self.property)}, but {some_of(values)}"
+            )
         if self.steps is not None and not any(is_number(value) and value >= self.steps[0][0] for value in values):
             wanted = f"a number from the first step, {shown(self.steps[0][0])}, on"
-            raise MapError(f"style: steps: no feature of {path} has {wanted} as {shown(self.property)}, but {some_of(values)}")
+            raise MapError(
+                f"style: steps: no feature of {path} has {wanted} as {shown(self.property)}, but {some_of(values)}"
+            )
         if self.steps is None and not any(name_of(value) in self.colors for value in values):
             wanted = shown(list(self.colors))
-            raise MapError(f"style: colors: no feature of {path} has one of {wanted} as {shown(self.property)}, but {some_of(values)}")
+            raise MapError(
+                f"style: colors: no feature of {path} has one of {wanted} as "
+                f"{shown(self.property)}, but {some_of(values)}"
+            )
 
 
 def style_of(value: Any) -> Style:
@@ -87,7 +100,8 @@ def style_of(value: Any) -> Style:
     projection = value.get("projection", "plate carree")
     if projection not in WORLD:
         raise MapError(
-            f"style: projection: {', '.join(WORLD)}, and not {shown(projection)}; a file that is projected already, as in metres, is a {PLANE}"
+            f"style: projection: {', '.join(WORLD)}, and not {shown(projection)}; a file that is projected "
+            f"already, as in metres, is a {PLANE}"
         )
     window = window_of(given_window(value, projection), WORLD[projection])
     opacity = value.get("opacity", 1)
@@ -142,7 +156,8 @@ def window_of(given: Any, world: Sequence[float]) -> tuple[float, float, float, 
     west, south, east, north = map(float, given)
     if not (west < east and world[1] <= south < north <= world[3] and east - west <= max(360, world[2] - world[0])):
         raise MapError(
-            f"style: window: west below east, and south below north within {world[1]:.10g} to {world[3]:.10g}, and not {shown(given)}"
+            f"style: window: west below east, and south below north within {world[1]:.10g} to "
+            f"{world[3]:.10g}, and not {shown(given)}"
         )
     return west, south, east, north
 
@@ -156,7 +171,9 @@ def sheet_of(value: Mapping[str, Any], projection: str, window: tuple[float, flo
     red, green, blue, *_ = color_of("background", value.get("background", "#ffffff"))
     height = width * rise / (east - west)
     if not height < MAX_SIDE + 0.5:
-        raise MapError(f"style: width: {width} by this window makes the height {height:.0f}, which is at most {MAX_SIDE}")
+        raise MapError(
+            f"style: width: {width} by this window makes the height {height:.0f}, which is at most {MAX_SIDE}"
+        )
     return Sheet(width, max(1, round(height)), value.get("samples", 4), (red, green, blue))
 
 
@@ -170,7 +187,9 @@ def color_of(name: str, given: Any) -> Color:
     is_list = isinstance(given, list) and len(given) in (3, 4)
     if is_list and all(type(each) is int and 0 <= each <= 255 for each in given):
         return tuple(given)
-    raise MapError(f"style: {name}: a colour as #rrggbb, #rrggbbaa or three or four numbers up to 255, and not {shown(given)}")
+    raise MapError(
+        f"style: {name}: a colour as #rrggbb, #rrggbbaa or three or four numbers up to 255, and not {shown(given)}"
+    )
 
 
 def pairs_of(steps: Any) -> Iterator[tuple[float, Any]]:

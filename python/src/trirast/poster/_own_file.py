@@ -14,7 +14,8 @@ from ._errors import BusyError, OutputError
 
 
 class OwnFile:
-    """A file that was made, or that a stopped run left. Raises OutputError if it is no run's, and BusyError if another run has it."""
+    """A file that was made, or that a stopped run left. Raises OutputError if it is no run's, and BusyError if
+    another run has it."""
 
     def __init__(self, path: str, marks: Sequence[bytes]) -> None:
         """A file that is not empty has to begin with one of the marks."""

@@ -13,8 +13,8 @@ from ._polygons import Polygons
 from ._scene import AXES, HIGH, LOW, UNIT, Indices, Scene, Sheet, Triangles, Vertices, check_range
 from ._windows import FARTHEST, SHIFT, TILE, Area, Span
 
-# Vertices are looked up in blocks of 256: neighbours in a list are neighbours on the sheet, so a window names few blocks. If a table of
-# these blocks had more entries for an index than SPREAD, the indices are sorted.
+# Vertices are looked up in blocks of 256: neighbours in a list are neighbours on the sheet, so a window names few
+# blocks. If a table of these blocks had more entries for an index than SPREAD, the indices are sorted.
 BLOCK_BITS = 8
 BLOCK_MASK = (1 << BLOCK_BITS) - 1
 SPREAD = 16
@@ -42,8 +42,9 @@ class Piece(NamedTuple):
 class Part(NamedTuple):
     """What is drawn in windows by pieces, of each piece in its order, with positions on the whole sheet.
 
-    `area` has the pixels of the windows. Nothing meets one of them that is in no piece; `is_whole` says that each one is in a piece.
-    No vertex that the triangles name lies left of `low` or above it, in 1/256 pixel. Polygons are moved left and up by `shift` pixels.
+    `area` has the pixels of the windows. Nothing meets one of them that is in no piece; `is_whole` says that each one
+    is in a piece. No vertex that the triangles name lies left of `low` or above it, in 1/256 pixel. Polygons are moved
+    left and up by `shift` pixels.
     """
 
     sheet: Sheet
@@ -58,10 +59,11 @@ class Part(NamedTuple):
 
 
 def part_of(scene: Scene, index: Index, span: Span) -> Part:
-    """The part of some windows, over all vertices of the scene and copies of their polygons. These are several only if the index says that their pixels are near.
+    """The part of some windows, over all vertices of the scene and copies of their polygons. These are several only if
+    the index says that their pixels are near.
 
-    If somebody else may change the scene's arrays, it is over copies of those that it names. Raises ArraysError if an index was changed
-    to one of no vertex.
+    If somebody else may change the scene's arrays, it is over copies of those that it names. Raises ArraysError if an
+    index was changed to one of no vertex.
     """
     chosen, ends, areas = index.of_span(span)
     members = members_of(scene, chosen)
@@ -80,8 +82,8 @@ def part_of(scene: Scene, index: Index, span: Span) -> Part:
 
 
 class Members(NamedTuple):
-    """The triangles and the polygons among what is drawn, by their indices in the scene, and how many polygons there are before each
-    of both and behind the last one."""
+    """The triangles and the polygons among what is drawn, by their indices in the scene, and how many polygons there
+    are before each of both and behind the last one."""
 
     triangles: NDArray[Any]
     polygons: NDArray[Any]
@@ -109,9 +111,11 @@ def pixels_of(areas: Indices) -> int:
     return int(np.maximum(areas[:, 2:] - areas[:, :2], 0).prod(1).sum())
 
 
-def pieces_of(scene: Scene, chosen: Indices, polygons_before: NDArray[np.int64], ends: Indices, areas: Indices) -> list[Piece]:
-    """The pieces of some windows. What is chosen for their tile rows ends at `ends`, and `areas` has of each the pixels within its
-    bounds."""
+def pieces_of(
+    scene: Scene, chosen: Indices, polygons_before: NDArray[np.int64], ends: Indices, areas: Indices
+) -> list[Piece]:
+    """The pieces of some windows. What is chosen for their tile rows ends at `ends`, and `areas` has of each the pixels
+    within its bounds."""
     begins = np.concatenate((np.zeros(1, ends.dtype), ends[:-1]))
     # It may lie behind the last pixel of a window that reaches past the sheet.
     met = np.flatnonzero((begins < ends) & (areas[:, 0] < areas[:, 2]) & (areas[:, 1] < areas[:, 3]))
@@ -126,13 +130,16 @@ def pieces_of(scene: Scene, chosen: Indices, polygons_before: NDArray[np.int64],
 
 
 def go_on(first: Indices, last: Indices, counts: Indices, areas: Indices) -> NDArray[np.bool_]:
-    """Of each tile row whether it goes on with what the one before it has: the same triangles and polygons in the same columns of one tile.
+    """Of each tile row whether it goes on with what the one before it has: the same triangles and polygons in the same
+    columns of one tile.
 
-    These are known by the first, the last and their number alone, so they have to be one after another in the list. A line down a window is
-    drawn once by this, and not in each tile row.
+    These are known by the first, the last and their number alone, so they have to be one after another in the list. A
+    line down a window is drawn once by this, and not in each tile row.
     """
     same = np.zeros(len(first), np.bool_)
-    same[1:] = (areas[1:, 1] == areas[:-1, 3]) & (areas[1:, 2] - areas[1:, 0] <= TILE) & (counts[1:] == last[1:] - first[1:] + 1)
+    same[1:] = (areas[1:, 1] == areas[:-1, 3]) & (areas[1:, 2] - areas[1:, 0] <= TILE) & (
+        counts[1:] == last[1:] - first[1:] + 1
+    )
     for each in (first, last, counts, areas[:, 0], areas[:, 2]):
         same[1:] &= each[1:] == each[:-1]
     return same

@@ -9,7 +9,8 @@ from .._png import SIGNATURE
 from ._own_file import OwnFile
 from ._places import PART, check_file
 
-# No longer than the shortest header of a PPM file. It stands in place of a picture's first bytes until the picture is whole.
+# No longer than the shortest header of a PPM file. It stands in place of a picture's first bytes until
+# the picture is whole.
 MARK = b"trirastpart"
 # How pictures begin that are whole.
 WHOLE = (b"P5\n", b"P6\n", SIGNATURE, b"II+\0")
@@ -36,7 +37,8 @@ class PartFile:
         self._write_start(MARK + self._header[len(MARK) :])
 
     def finish(self, size: int, header: Optional[bytes] = None) -> None:
-        """Gives the picture, which has this number of bytes, its header and its name. A header may be known only now."""
+        """Gives the picture, which has this number of bytes, its header and its name. A header may be
+        known only now."""
         self.file.truncate(size)
         self._write_start(self._header if header is None else header)
         check_file(self._path)

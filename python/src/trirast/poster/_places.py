@@ -30,7 +30,8 @@ ENDS = (".png", ".tif", ".tiff", ".ppm", ".pgm", "")
 
 
 def places_of(out: Optional[Path], tiles: Optional[Path], source: Optional[str]) -> Places:
-    """The places of a run that reads the file `source`. Raises OutputError if what is there would be lost or is in the way."""
+    """The places of a run that reads the file `source`. Raises OutputError if what is there would be lost
+    or is in the way."""
     places = Places(*(None if path is None else without_slash(os.fsdecode(path)) for path in (out, tiles)))
     if places.file is None and places.folder is None:
         raise ValueError("a poster goes to a file, to a folder of tiles, or to both")
@@ -46,7 +47,9 @@ def places_of(out: Optional[Path], tiles: Optional[Path], source: Optional[str])
     for path in (places.journal, *([places.file + PART] if places.file else ())):
         check_file(path)
     if places.file is not None and os.path.splitext(places.file)[1].lower() not in ENDS:
-        raise OutputError(f"{places.file}: a name that ends in .png, .tif, .tiff, .ppm or of depths in .pgm, or without an end")
+        raise OutputError(
+            f"{places.file}: a name that ends in .png, .tif, .tiff, .ppm or of depths in .pgm, or without an end"
+        )
     return places
 
 

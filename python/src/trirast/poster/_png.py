@@ -1,4 +1,5 @@
-"""PNG (W3C, Portable Network Graphics, second edition): 8-bit RGB, and 16-bit grey for depths. The filter of each row is Sub.
+"""PNG (W3C, Portable Network Graphics, second edition): 8-bit RGB, and 16-bit grey for depths. The
+filter of each row is Sub.
 
 What is read back here are files of this module alone, of a run that was stopped.
 """
@@ -29,7 +30,8 @@ def row_bytes(pixels: Pixels) -> NDArray[np.uint8]:
 
 
 def filtered(pixels: Pixels) -> NDArray[np.uint8]:
-    """Rows as they are deflated: the filter's type, then the difference of each byte to that of the pixel on the left."""
+    """Rows as they are deflated: the filter's type, then the difference of each byte to that of the
+    pixel on the left."""
     step = pixel_bytes(pixels)
     given = row_bytes(pixels)
     rows = np.empty((len(given), 1 + given.shape[1]), np.uint8)
@@ -78,7 +80,8 @@ def adler_of_both(first: int, second: int, length: int) -> int:
 
 
 def deflated(pixels: Pixels) -> tuple[bytes, int, int]:
-    """Rows deflated by themselves, to stand in one stream with others: the bytes, the Adler-32 of the rows and their length.
+    """Rows deflated by themselves, to stand in one stream with others: the bytes, the Adler-32 of the
+    rows and their length.
 
     The piece has no header and ends in a full flush (RFC 1951, a stored block of no bytes), so the next begins anew.
     """

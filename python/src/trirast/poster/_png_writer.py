@@ -71,7 +71,9 @@ class PngWriter:
 
     def write(self, rows: Pixels) -> None:
         self._file.seek(self._end)
-        for data, adler, length in self._pool.map(deflated, (rows[first : first + PIECE] for first in range(0, len(rows), PIECE))):
+        for data, adler, length in self._pool.map(
+            deflated, (rows[first : first + PIECE] for first in range(0, len(rows), PIECE))
+        ):
             self._file.write(chunk(b"IDAT", data))
             self._end += AROUND + len(data)
             self._adler = adler_of_both(self._adler, adler, length)

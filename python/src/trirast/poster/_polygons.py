@@ -1,9 +1,9 @@
 """Polygons of a poster: rings of corners as flat arrays, and what is left of them in a strip of the sheet.
 
 A corner may be left out where it changes no sample of a strip. An edge is crossed by the ray from a sample to the left
-(docs/polygons.md), so no edge is crossed that lies above the strip's samples, below them or right of them. Of edges one after another
-that all lie left of them, what is crossed adds up to what is crossed of one edge from the first corner to the last. In each case that
-one edge stands for all of them, exactly.
+(docs/polygons.md), so no edge is crossed that lies above the strip's samples, below them or right of them. Of edges one
+after another that all lie left of them, what is crossed adds up to what is crossed of one edge from the first corner to
+the last. In each case that one edge stands for all of them, exactly.
 """
 
 from __future__ import annotations
@@ -32,9 +32,10 @@ Numbers = NDArray[Any]
 class Polygons:
     """Polygons in one colour each. A polygon is any number of rings, and a ring any number of corners.
 
-    `corners` are rows of x and y in 1/256 pixel, of all rings one after another; `ring_ends` has of each ring the index behind its last
-    corner, and `polygon_ends` of each polygon the index behind its last ring; `colors` are rows of red, green, blue and alpha, or of three
-    channels, or one colour of all. Each is an array or a list. A scene has arrays of its own, with a row of four channels for each polygon.
+    `corners` are rows of x and y in 1/256 pixel, of all rings one after another; `ring_ends` has of each ring the index
+    behind its last corner, and `polygon_ends` of each polygon the index behind its last ring; `colors` are rows of red,
+    green, blue and alpha, or of three channels, or one colour of all. Each is an array or a list. A scene has arrays of
+    its own, with a row of four channels for each polygon.
     """
 
     corners: Any
@@ -86,7 +87,8 @@ class Polygons:
 
     @cached_property
     def boxes(self) -> Numbers:
-        """Of each polygon the least x and y at which it is drawn and the greatest, in 1/256 pixel: of a corner, if it is drawn whole."""
+        """Of each polygon the least x and y at which it is drawn and the greatest, in 1/256 pixel: of a corner, if
+        it is drawn whole."""
         if self.drawn is not None:
             return self.drawn
         found = np.full((self.count, 4), NOWHERE, np.int32)
@@ -115,12 +117,13 @@ class Polygons:
         return checked(other) if self.is_own else other
 
     def within(self, axis: int, low: int, end: int) -> Polygons:
-        """The same polygons for samples whose x or y is from `low` to before `end`, in 1/256 pixel: without corners that change none."""
+        """The same polygons for samples whose x or y is from `low` to before `end`, in 1/256 pixel: without corners
+        that change none."""
         return self.without_runs(axis, lambda at: at <= low).without_runs(axis, lambda at: at >= end)
 
     def without_runs(self, axis: int, lies_beyond: Callable[[Numbers], Numbers]) -> Polygons:
-        """Polygons of whose corners one after another that all lie beyond a line the first and the last are left, and of rings that lie
-        wholly beyond it nothing."""
+        """Polygons of whose corners one after another that all lie beyond a line the first and the last are left, and
+        of rings that lie wholly beyond it nothing."""
         beyond = lies_beyond(self.corners[:, axis])
         ends = self.ring_ends
         begins = with_zero(ends)[:-1]
@@ -156,13 +159,16 @@ def ranges(first: Numbers, end: Numbers) -> Numbers:
 
 
 def own_polygons(given: Any, copy: bool = True) -> Polygons:
-    """Polygons that cannot be written to, of arrays of any integers. They are the arrays themselves only if these have the types of
-    `NONE` and `copy` is false. Raises ArraysError if they do not fit one another, or a number is out of range."""
+    """Polygons that cannot be written to, of arrays of any integers. They are the arrays themselves only if
+    these have the types of `NONE` and `copy` is false. Raises ArraysError if they do not fit one another, or a
+    number is out of range."""
     if not isinstance(given, Polygons):
         raise ArraysError(f"polygons: of the class Polygons, and not {type(given).__name__}")
     if given.is_own:
         return given
-    corners, ring_ends, polygon_ends = (array_of(name, getattr(given, name), like) for name, like in zip(ENDS, NONE.arrays))
+    corners, ring_ends, polygon_ends = (
+        array_of(name, getattr(given, name), like) for name, like in zip(ENDS, NONE.arrays)
+    )
     colors = color_rows(array_of("colors", given.colors, NONE.colors), len(polygon_ends))
     found = Polygons(
         own_numbers("corners", corners, (LOW, HIGH), NONE.corners, copy),
@@ -208,7 +214,10 @@ def color_rows(colors: Any, count: int) -> Any:
 def own_numbers(name: str, array: Any, limits: tuple[int, int], like: Numbers, copy: bool) -> Numbers:
     """An array of the type and the columns of another one."""
     wide = "" if like.ndim == 1 else f" in rows of {like.shape[1]}"
-    if not isinstance(array, np.ndarray) or isinstance(array, np.ma.MaskedArray) or array.dtype.kind not in "iu" and array.size:
+    if (
+        not isinstance(array, np.ndarray) or isinstance(array, np.ma.MaskedArray)
+        or array.dtype.kind not in "iu" and array.size
+    ):
         kind = f"{type(array).__name__} {getattr(array, 'dtype', '')}".strip()
         how = f"; {SNAP}" * (like is NONE.corners and kind.startswith("ndarray float"))
         raise ArraysError(f"{name}: an array or a list of integers{wide}, without a mask, and not {kind}{how}")

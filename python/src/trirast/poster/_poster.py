@@ -49,16 +49,17 @@ def draw_poster(
 ) -> None:
     """Draws a scene, up to 32,768 pixels wide and high, to a file or to a folder of tiles or to both.
 
-    `out` is a PNG file if its name ends in .png, in small or capital letters, a TIFF file if in .tif or .tiff, which tifffile writes, and
-    a PPM file (of depths a PGM file) if it ends in .ppm or .pgm or has no end; `tiles` is a new folder. `samples` is the number of
-    samples of a pixel in place of the scene's, one of trirast.Canvas.SAMPLE_COUNTS. `dpi` is the number of pixels per inch, which PNG
-    and TIFF files alone have. `window` is the side in pixels of the squares that are drawn by themselves, 64 to 4096; `workers` how
-    many draw at once (one a core). These two do not change a byte. Without `scheduler` threads of this process draw; with "local"
-    Dask's processes, and with an address the workers of that cluster. `resume` goes on with what a stopped run left. Under the final
-    names are whole files alone.
+    `out` is a PNG file if its name ends in .png, in small or capital letters, a TIFF file if in .tif or .tiff, which
+    tifffile writes, and a PPM file (of depths a PGM file) if it ends in .ppm or .pgm or has no end; `tiles` is a new
+    folder. `samples` is the number of samples of a pixel in place of the scene's, one of
+    trirast.Canvas.SAMPLE_COUNTS. `dpi` is the number of pixels per inch, which PNG and TIFF files alone have.
+    `window` is the side in pixels of the squares that are drawn by themselves, 64 to 4096; `workers` how many draw at
+    once (one a core). These two do not change a byte. Without `scheduler` threads of this process draw; with "local"
+    Dask's processes, and with an address the workers of that cluster. `resume` goes on with what a stopped run left.
+    Under the final names are whole files alone.
 
-    Raises PosterError and trirast.Error, ValueError at a number that is out of range and at `dpi` without such a file, and
-    OSError if a file cannot be written.
+    Raises PosterError and trirast.Error, ValueError at a number that is out of range and at `dpi` without such a file,
+    and OSError if a file cannot be written.
     """
     places = places_of(out, tiles, scene.source)
     dots = checked_dpi(dpi, places.file, (PNG, *TIFF))
@@ -76,7 +77,9 @@ def draw_poster(
         journal = Journal(places.journal)
         stack.callback(journal.close)
         writers = list(writers_of(scene.sheet, checksum, places, dots, journal.is_whole, resume, count, stack))
-        run = {"list": checksum, "window": windows.side, "out": places.file is not None, "tiles": places.folder is not None}
+        run = {
+            "list": checksum, "window": windows.side, "out": places.file is not None, "tiles": places.folder is not None
+        }
         journal.begin(run, resume)
         if not writers:
             journal.remove()
@@ -89,7 +92,10 @@ def draw_poster(
         if scheduler is None:
             rows = rows_by_threads(scene, index, windows, first, count, step)
         else:
-            rows = rows_of(draw_by_dask(windows.from_row(first), partial(part_of, scene, index), count, scheduler), windows, scene.sheet, step)
+            rows = rows_of(
+                draw_by_dask(windows.from_row(first), partial(part_of, scene, index), count, scheduler), windows,
+                scene.sheet, step,
+            )
         stack.callback(rows.close)  # type: ignore[attr-defined]
         write_rows(rows, journal, writers)
         finish(journal, writers)
@@ -103,7 +109,9 @@ def thread_errors() -> Iterator[None]:
     except RuntimeError as error:
         if "start new thread" not in str(error):
             raise
-        raise ThreadError(f"a thread cannot be started; --workers with a smaller number needs fewer: {error}") from error
+        raise ThreadError(
+            f"a thread cannot be started; --workers with a smaller number needs fewer: {error}"
+        ) from error
 
 
 def writers_of(
@@ -135,8 +143,8 @@ def finish(journal: Journal, writers: List[Writer]) -> None:
 
 
 def kept_rows(journal: Journal, windows: Windows, writers: List[Writer]) -> int:
-    """How many rows of windows a stopped run left: those that each writer has, with the checksums of the journal. A damaged journal may
-    have more than there are."""
+    """How many rows of windows a stopped run left: those that each writer has, with the checksums of the journal. A
+    damaged journal may have more than there are."""
     kept = journal.rows[: windows.rows]
     for row, checksum in enumerate(kept):
         read = [writer.read(windows.row_height(row)) for writer in writers]

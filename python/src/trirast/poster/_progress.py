@@ -1,4 +1,5 @@
-"""A bar on standard error with pixels done, their rate and time left. There is none if that is no terminal, or closed."""
+"""A bar on standard error with pixels done, their rate and time left. There is none if that is no
+terminal, or closed."""
 
 from __future__ import annotations
 

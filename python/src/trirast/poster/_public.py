@@ -21,7 +21,8 @@ from ._poster import draw_poster
 from ._scene import PosterDraw, Scene, Sheet
 
 __all__ = [
-    "ArraysError", "BusyError", "EngineMissingError", "GuardBandError", "MapError", "OutputError", "Polygons", "PosterDraw", "PosterError",
-    "ResumeError", "Scene", "SchedulerLostError", "Sheet", "ThreadError", "WorkerLostError", "draw_poster", "save_arrays", "save_polygons",
-    "scene_of", "scene_of_arrays", "scene_of_geojson", "scene_of_list", "scene_of_polygons",
+    "ArraysError", "BusyError", "EngineMissingError", "GuardBandError", "MapError", "OutputError", "Polygons",
+    "PosterDraw", "PosterError", "ResumeError", "Scene", "SchedulerLostError", "Sheet", "ThreadError",
+    "WorkerLostError", "draw_poster", "save_arrays", "save_polygons", "scene_of", "scene_of_arrays", "scene_of_geojson",
+    "scene_of_list", "scene_of_polygons",
 ]

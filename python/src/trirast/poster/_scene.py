@@ -92,7 +92,8 @@ class Sheet:
         return 2 if self.is_depth else 3
 
     def blank(self, height: int, width: int) -> Pixels:
-        """Memory for pixels: (height, width, 3) of 8 bits, or (height, width) of 16 bits, the high byte first, of depths."""
+        """Memory for pixels: (height, width, 3) of 8 bits, or (height, width) of 16 bits, the high byte
+        first, of depths."""
         if self.is_depth:
             return np.empty((height, width), ">u2")
         return np.empty((height, width, 3), np.uint8)
@@ -122,9 +123,17 @@ class PosterDraw:
         if self.triangles and self.polygons:
             raise ArraysError(f"a draw has triangles or polygons, and not {self.triangles} and {self.polygons}")
         if not isinstance(self.state, Mapping) or not set(self.state).isdisjoint(CONTENTS):
-            raise ArraysError(f"state: keys of a draw and their values, without {', '.join(CONTENTS)}, and not {self.state!r}")
-        if CULL in self.state and self.polygons or self.state.get(RULE, RULES[0]) not in RULES or RULE in self.state and self.triangles:
-            raise ArraysError(f"state: of polygons a rule, {' or '.join(RULES)}, and no cull; of triangles no rule; and not {self.state!r}")
+            raise ArraysError(
+                f"state: keys of a draw and their values, without {', '.join(CONTENTS)}, and not {self.state!r}"
+            )
+        if (
+            CULL in self.state and self.polygons or self.state.get(RULE, RULES[0]) not in RULES
+            or RULE in self.state and self.triangles
+        ):
+            raise ArraysError(
+                f"state: of polygons a rule, {' or '.join(RULES)}, and no cull; of triangles "
+                f"no rule; and not {self.state!r}"
+            )
         try:
             # A copy of its own, which nobody else changes.
             object.__setattr__(self, "state", json.loads(json.dumps(dict(self.state))))
@@ -144,9 +153,10 @@ class Scene:
     `vertices` are records of trirast.VERTEX, or rows of x, y, depth, red, green, blue and alpha, of which the scene
     makes records; `triangles` are rows of three indices of vertices. The first draw of triangles has the first ones,
     and so on, and so it is with draws of `polygons`. The scene keeps copies of all, which cannot be written to, unless
-    `copy` is false. Then it may keep vertices and triangles themselves. If somebody changes them as long as the scene is used, another picture is drawn, or an error is raised:
-    each window draws copies of what it reads. `source` is the file that it was read from, which no poster replaces.
-    Raises ArraysError if something does not fit, and trirast.Error if a state is wrong.
+    `copy` is false. Then it may keep vertices and triangles themselves. If somebody changes them as long as the scene
+    is used, another picture is drawn, or an error is raised: each window draws copies of what it reads. `source` is the
+    file that it was read from, which no poster replaces. Raises ArraysError if something does not fit, and
+    trirast.Error if a state is wrong.
     """
 
     sheet: Sheet
@@ -220,8 +230,8 @@ def owned(scene: Scene) -> Scene:
 
 
 def with_samples(scene: Scene, samples: int) -> Scene:
-    """A scene with another number of samples a pixel. A draw whose sample mask has every sample still has every one, and another mask
-    stays as it is. Raises ValueError if no pixel has as many samples."""
+    """A scene with another number of samples a pixel. A draw whose sample mask has every sample still has every one,
+    and another mask stays as it is. Raises ValueError if no pixel has as many samples."""
     if samples not in SAMPLES:
         raise ValueError(f"samples: {COUNTS}, and not {samples}")
     if samples == scene.sheet.samples:
@@ -280,7 +290,8 @@ def own_triangles(array: Any, copy: bool) -> Triangles:
 
 
 def check_arrays(vertices: Vertices, triangles: Triangles, draws: Sequence[PosterDraw]) -> None:
-    """Raises ArraysError unless the draws have all triangles, each number is in its range and each index names a vertex."""
+    """Raises ArraysError unless the draws have all triangles, each number is in its range and each
+    index names a vertex."""
     check_count("triangles", sum(draw.triangles for draw in draws), len(triangles))
     for first in range(0, len(vertices), CHUNK):
         for axis in AXES:

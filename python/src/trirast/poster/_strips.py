@@ -36,12 +36,15 @@ class Cut(NamedTuple):
 def joined_cuts(cuts: Sequence[Cut]) -> Cut:
     """Cuts one after another."""
     boxes = np.concatenate([cut.polygons.boxes for cut in cuts])
-    return Cut(replace(NONE.followed_by(*(cut.polygons for cut in cuts)), drawn=boxes), np.concatenate([cut.numbers for cut in cuts]))
+    return Cut(
+        replace(NONE.followed_by(*(cut.polygons for cut in cuts)), drawn=boxes),
+        np.concatenate([cut.numbers for cut in cuts]),
+    )
 
 
 def cut_to_windows(scene: Scene, windows: Windows, threads: int) -> Scene:
-    """The same scene, in which a polygon of many corners is several: one for each tile row of each window that it meets, which covers
-    there what the polygon does, and is drawn nowhere else."""
+    """The same scene, in which a polygon of many corners is several: one for each tile row of each window that it
+    meets, which covers there what the polygon does, and is drawn nowhere else."""
     polygons = scene.polygons
     is_large = places_met(polygons, windows) * np.diff(polygons.places) > LARGE
     if not is_large.any():

@@ -1,7 +1,8 @@
 """A canvas in a thread's own memory, on which one piece of a window after another is drawn.
 
-It makes the calls of trirast.Canvas with structs that stay, and takes arrays by their addresses: a piece of a window takes about 0.3 ms,
-and to look at its arguments as closely as Canvas does would take a sixth of that, while Python's lock is held.
+It makes the calls of trirast.Canvas with structs that stay, and takes arrays by their addresses: a piece of a
+window takes about 0.3 ms, and to look at its arguments as closely as Canvas does would take a sixth of that, while
+Python's lock is held.
 """
 
 from __future__ import annotations
@@ -21,8 +22,8 @@ from ._scene import Pixels, Sheet, Triangles, Vertices
 from ._windows import Area
 
 OWN = threading.local()
-# Calls of a few microseconds keep Python's lock: to get it back from another thread may take longer. These are those on samples of at most
-# FEW_BYTES, two tiles with four samples a pixel, and with at most FEW triangles.
+# Calls of a few microseconds keep Python's lock: to get it back from another thread may take longer. These are those on
+# samples of at most FEW_BYTES, two tiles with four samples a pixel, and with at most FEW triangles.
 QUICK = ctypes.PyDLL
 FEW_BYTES, FEW = 2 * 4096 * 4 * 5, 16
 # How many states of draws a canvas keeps.
@@ -69,14 +70,16 @@ class ThreadCanvas:
         self._states: Dict[int, Tuple[Mapping[str, Any], CDraw, int]] = {}
 
     def begin(self, sheet: Sheet, begin: tuple[int, int], arrays: Arrays) -> None:
-        """Makes it a canvas of this sheet, for triangles of these arrays. It will begin at the pixel `begin` or before it."""
+        """Makes it a canvas of this sheet, for triangles of these arrays. It will begin at the pixel
+        `begin` or before it."""
         self._clear, self._is_depth = CClear(*sheet.clear, 0, sheet.clear_depth), sheet.is_depth
         self._canvas.samples = sheet.samples
         self._size, self._begin, self._arrays = (0, 0), begin, arrays
         self._batch.vertices, self._batch.vertex_count = arrays.vertices, arrays.vertex_count
 
     def place(self, area: Area) -> None:
-        """Makes it a canvas whose last rows and columns are those of the area. What its samples begin with is not specified."""
+        """Makes it a canvas whose last rows and columns are those of the area. What its samples begin with
+        is not specified."""
         left, top, right, bottom = self._area = area
         x, y = self._begin
         left, top = min(left, x), min(top, y)
@@ -112,7 +115,8 @@ class ThreadCanvas:
         calls.trirast_canvas_draw(self._canvas, batch, self._error)
 
     def draw_polygons(self, polygons: Polygons, state: Mapping[str, Any], shift: Tuple[int, int]) -> None:
-        """Draws polygons that are moved left and up by a number of pixels. Raises BatchError, and then nothing was drawn."""
+        """Draws polygons that are moved left and up by a number of pixels. Raises BatchError, and then
+        nothing was drawn."""
         _, draw, _ = self._states.get(id(state)) or self._keep(state)
         rule = RULES.index(state.get("rule", RULES[0]))
         arrays = [np.ascontiguousarray(array) for array in polygons.arrays]
@@ -128,7 +132,8 @@ class ThreadCanvas:
         canvas.origin_x, canvas.origin_y = canvas.origin_x + x, canvas.origin_y + y
 
     def _keep(self, state: Mapping[str, Any]) -> Tuple[Mapping[str, Any], CDraw, int]:
-        """A draw's state, and as the library takes it, with its address. The state is kept, so that no other has its identity."""
+        """A draw's state, and as the library takes it, with its address. The state is kept, so that no other
+        has its identity."""
         if len(self._states) == STATES:
             self._states.clear()
         keywords = {key: value for key, value in state.items() if key not in ("write", "rule")}

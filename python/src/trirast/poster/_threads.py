@@ -1,6 +1,8 @@
-"""The engine that needs nothing else: threads of this process. The library and numpy release Python's lock as they work.
+"""The engine that needs nothing else: threads of this process. The library and numpy release Python's
+lock as they work.
 
-A thread takes some windows of a row together and draws them where the row lies in memory, so that it seldom waits for the lock.
+A thread takes some windows of a row together and draws them where the row lies in memory, so that it
+seldom waits for the lock.
 """
 
 from __future__ import annotations
@@ -20,21 +22,26 @@ from ._windows import Span, Windows
 
 # How many rows of windows are drawn at once, so that the last windows of one keep no thread waiting.
 AHEAD = 2
-# A thread takes as many windows together as weigh this, at least one: it draws for some milliseconds. A triangle or a polygon weighs 1,
-# and so do 256 pixels.
+# A thread takes as many windows together as weigh this, at least one: it draws for some milliseconds. A triangle or a
+# polygon weighs 1, and so do 256 pixels.
 WEIGHT = 1 << 14
 PIXELS = 256
 # Into how many spans for each thread a row is cut at least.
 SPANS = 2
 
 
-def rows_by_threads(scene: Scene, index: Index, windows: Windows, first: int, workers: int, step: Step) -> Iterator[Pixels]:
+def rows_by_threads(
+    scene: Scene, index: Index, windows: Windows, first: int, workers: int, step: Step
+) -> Iterator[Pixels]:
     """Draws the rows of windows from the row `first` on by threads, and gives their pixels back in their order.
 
     A row is the caller's until the second row after it is asked for. Then its memory is drawn into again.
     """
     pool = Pool(workers)
-    memory = [scene.sheet.blank(windows.row_height(first), windows.width) for _ in range(AHEAD + 1)] if first < windows.rows else []
+    memory = (
+        [scene.sheet.blank(windows.row_height(first), windows.width) for _ in range(AHEAD + 1)]
+        if first < windows.rows else []
+    )
     under_way: Deque[Tuple[Pixels, List[Future[None]]]] = deque()
     try:
         for row in range(first, windows.rows):

@@ -85,13 +85,16 @@ class TiffWriter:
 
     def _write_all(self) -> None:
         sheet = self._sheet
-        shape, kind = ((sheet.height, sheet.width), "minisblack") if sheet.is_depth else ((sheet.height, sheet.width, 3), "rgb")
+        shape, kind = (
+            ((sheet.height, sheet.width), "minisblack") if sheet.is_depth else ((sheet.height, sheet.width, 3), "rgb")
+        )
         dots = {} if self._dpi is None else {"resolution": (self._dpi, self._dpi), "resolutionunit": "INCH"}
         with self._module.TiffWriter(self._file, bigtiff=True, byteorder="<") as tiff:
             # Without imagecodecs tifffile takes differences of 8 bits alone.
             tiff.write(
-                self._tiles(), shape=shape, dtype="uint16" if sheet.is_depth else "uint8", tile=(SIDE, SIDE), photometric=kind,
-                compression="zlib", predictor=not sheet.is_depth, maxworkers=self._threads, metadata=None, software="trirast", **dots,
+                self._tiles(), shape=shape, dtype="uint16" if sheet.is_depth else "uint8", tile=(SIDE, SIDE),
+                photometric=kind, compression="zlib", predictor=not sheet.is_depth, maxworkers=self._threads,
+                metadata=None, software="trirast", **dots,
             )
 
     def _tiles(self) -> Iterator[Any]:

@@ -24,7 +24,8 @@ class TileFolder:
     """The folder FOLDER.part, which one run at a time has, and which becomes FOLDER."""
 
     def __init__(self, path: str) -> None:
-        """Opens or makes it. Raises OutputError if FOLDER is there, or a folder that no run left, and BusyError if another run has it."""
+        """Opens or makes it. Raises OutputError if FOLDER is there, or a folder that no run left, and BusyError if
+        another run has it."""
         check_new(path)
         self._path, self._part = path, path + PART
         self._is_kept = self._make()
@@ -85,7 +86,8 @@ def page_in(folder: str) -> bytes:
 
 
 def other_file(folder: str) -> Optional[str]:
-    """The name of a file in a folder that no run made there, or `None`. Tiles are a run's if the page beside them is."""
+    """The name of a file in a folder that no run made there, or `None`. Tiles are a run's if the page
+    beside them is."""
     names = {PAGE, NEW_PAGE} if page_in(folder).startswith(MARK) else {NEW_PAGE}
     for name in files_of(folder):
         if name not in names and not (PAGE in names and TILE_NAME.fullmatch(name)):

@@ -1,8 +1,8 @@
 """A folder of PNG tiles by zoom level, z/x/y.png of 256 pixels, with a page that shows them and needs no net.
 
-The finest level is the poster; each coarser one is half as wide and high, and at level 0 one tile has all. A pixel of a coarser
-level is the mean of four, rounded to the nearest integer, and up at a half; a last odd row or column stands for the one that is
-missing.
+The finest level is the poster; each coarser one is half as wide and high, and at level 0 one tile has all. A pixel of a
+coarser level is the mean of four, rounded to the nearest integer, and up at a half; a last odd row or column stands for
+the one that is missing.
 """
 
 from __future__ import annotations
@@ -54,7 +54,9 @@ def page_of(sheet: Sheet, checksum: str) -> bytes:
     """The page of a poster's tiles, which begins with the mark of such pages and has the checksum of the list."""
     with open(os.path.join(os.path.dirname(__file__), PAGE), encoding="utf-8") as file:
         page = file.read()
-    for word, value in (("CHECKSUM", checksum), ("WIDTH", sheet.width), ("HEIGHT", sheet.height), ("ZOOM", levels_of(sheet))):
+    for word, value in (
+        ("CHECKSUM", checksum), ("WIDTH", sheet.width), ("HEIGHT", sheet.height), ("ZOOM", levels_of(sheet))
+    ):
         page = page.replace(word, str(value))
     return page.encode()
 
@@ -98,8 +100,8 @@ class TilesWriter:
     """A folder of tiles."""
 
     def __init__(self, path: str, sheet: Sheet, checksum: str, resume: bool, threads: int) -> None:
-        """Opens what is there. `checksum` is that of the list. Raises OutputError if there is something that the run may not replace,
-        and BusyError if another run draws it."""
+        """Opens what is there. `checksum` is that of the list. Raises OutputError if there is something that the run
+        may not replace, and BusyError if another run draws it."""
         self._sheet = sheet
         self._is_resumed = resume
         self._finest = levels_of(sheet)

@@ -1,7 +1,7 @@
 """The pixels of windows: their triangles and polygons, drawn by a canvas that stands at one piece after another.
 
-A triangle that is moved by whole pixels meets the moved samples and makes the same of them (the law `canvas::moves_by_pixels`), so
-these are the pixels of the whole sheet.
+A triangle that is moved by whole pixels meets the moved samples and makes the same of them (the law
+`canvas::moves_by_pixels`), so these are the pixels of the whole sheet.
 """
 
 from __future__ import annotations

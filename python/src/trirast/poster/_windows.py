@@ -1,4 +1,5 @@
-"""The windows of a poster: squares of pixels, row by row from the top, cut at the right and lower border, and their tile rows."""
+"""The windows of a poster: squares of pixels, row by row from the top, cut at the right and lower border,
+and their tile rows."""
 
 from __future__ import annotations
 
@@ -9,16 +10,18 @@ import numpy as np
 from ._draw_list import LIST_SIDE
 from ._scene import UNIT, Indices, Sheet
 
-# The pixels of a tile's side (docs/canvas.md). A window's tile rows are drawn one after another, since the samples of one fit into a
-# processor's second cache, where they are cleared, drawn and resolved.
+# The pixels of a tile's side (docs/canvas.md). A window's tile rows are drawn one after another, since the samples of
+# one fit into a processor's second cache, where they are cleared, drawn and resolved.
 TILE = 64
-# The last pixel at which a canvas may begin on which polygons are drawn, and by how many pixels these are moved left or up, and the
-# canvas with them, where it begins behind that: what is inside moves with the corners by whole pixels (docs/polygons.md).
+# The last pixel at which a canvas may begin on which polygons are drawn, and by how many pixels these are moved
+# left or up, and the canvas with them, where it begins behind that: what is inside moves with the corners by whole
+# pixels (docs/polygons.md).
 FARTHEST, SHIFT = 28672, 4096
 
 
 class Area(NamedTuple):
-    """A rectangle of a sheet's pixels: from the column `left` to before `right`, and from the row `top` to before `bottom`."""
+    """A rectangle of a sheet's pixels: from the column `left` to before `right`, and from the row `top`
+    to before `bottom`."""
 
     left: int
     top: int
@@ -74,7 +77,8 @@ class Span(NamedTuple):
 class Windows:
     """The windows of a sheet, `side` pixels wide and high. Raises ValueError if the side is not 64 to 4096.
 
-    The index of triangles has numbers for each tile row of each window. Windows that are smaller than a tile would take gigabytes there.
+    The index of triangles has numbers for each tile row of each window. Windows that are smaller than a tile would
+    take gigabytes there.
     """
 
     def __init__(self, sheet: Sheet, side: int) -> None:
@@ -131,7 +135,8 @@ class Windows:
         return x // (UNIT * self.side)
 
     def tile_rows_at(self, y: Indices) -> Indices:
-        """The tile row of the sheet in which each y lies, in 1/256 pixel: that of a window, and all those of the windows above it."""
+        """The tile row of the sheet in which each y lies, in 1/256 pixel: that of a window, and all those of the
+        windows above it."""
         if self.side % TILE == 0:
             return y // (UNIT * TILE)
         row = y // (UNIT * self.side)
