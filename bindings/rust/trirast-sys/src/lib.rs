@@ -122,7 +122,8 @@ pub const TRIRAST_FACTOR_SOURCE_ALPHA_SATURATED: u32 = 11;
 pub const TRIRAST_FACTOR_CONSTANT: u32 = 14;
 pub const TRIRAST_FACTOR_INVERSE_CONSTANT: u32 = 15;
 
-// How a blend equation combines its terms, f = s by its factor and g = d by its factor: the numbers of D3D11_BLEND_OP, and 0 for ADD.
+// How a blend equation combines its terms, f = s by its factor and g = d by its factor: the numbers of
+// D3D11_BLEND_OP, and 0 for ADD.
 pub const TRIRAST_OPERATION_DEFAULT: u32 = 0;
 pub const TRIRAST_OPERATION_ADD: u32 = 1;
 pub const TRIRAST_OPERATION_SUBTRACT: u32 = 2;
@@ -466,7 +467,11 @@ extern "C" {
         size: usize,
         stride: usize,
     ) -> u32;
-    pub fn trirast_canvas_draw(canvas: *mut trirast_canvas, batch: *const trirast_batch, error: *mut trirast_error) -> u32;
+    pub fn trirast_canvas_draw(
+        canvas: *mut trirast_canvas,
+        batch: *const trirast_batch,
+        error: *mut trirast_error,
+    ) -> u32;
     pub fn trirast_canvas_draw_ids(
         canvas: *mut trirast_canvas,
         batch: *const trirast_batch,
@@ -503,7 +508,13 @@ extern "C" {
         count: usize,
         stride: usize,
     ) -> u32;
-    pub fn trirast_canvas_ids(canvas: *const trirast_canvas, sample: u32, ids: *mut u32, count: usize, stride: usize) -> u32;
+    pub fn trirast_canvas_ids(
+        canvas: *const trirast_canvas,
+        sample: u32,
+        ids: *mut u32,
+        count: usize,
+        stride: usize,
+    ) -> u32;
     pub fn trirast_canvas_colors(
         canvas: *const trirast_canvas,
         sample: u32,

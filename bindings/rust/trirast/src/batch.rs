@@ -48,8 +48,8 @@ impl Vertex {
     }
 }
 
-/// The vertices of a draw, from slices or arrays of [`Vertex`], or of structs of which it is a member. Those of a single draw are
-/// read where they lie.
+/// The vertices of a draw, from slices or arrays of [`Vertex`], or of structs of which it is a member. Those of a
+/// single draw are read where they lie.
 #[derive(Clone, Copy, Debug)]
 pub struct Vertices<'a> {
     first: *const Vertex,
@@ -65,8 +65,9 @@ unsafe impl Send for Vertices<'_> {}
 unsafe impl Sync for Vertices<'_> {}
 
 impl<'a> Vertices<'a> {
-    /// Returns the vertices that are a member of other structs, as `Vertices::of_members(&points, |point| &point.vertex)`. Returns
-    /// `None` if `member` does not return the same member of each, or each is longer than 2,048 bytes.
+    /// Returns the vertices that are a member of other structs, as
+    /// `Vertices::of_members(&points, |point| &point.vertex)`. Returns `None` if `member` does not return the same
+    /// member of each, or each is longer than 2,048 bytes.
     pub fn of_members<T>(all: &'a [T], member: impl Fn(&'a T) -> &'a Vertex) -> Option<Vertices<'a>> {
         let stride = size_of::<T>();
         let place = |one: &'a T| (member(one) as *const Vertex as usize).checked_sub(one as *const T as usize);
@@ -133,8 +134,8 @@ impl<'a> From<&'a Vec<Vertex>> for Vertices<'a> {
     }
 }
 
-/// The indices of a draw, from slices or arrays of `u16` or `u32`. 0 is the first vertex of the draw. Those of a single draw are not
-/// copied.
+/// The indices of a draw, from slices or arrays of `u16` or `u32`. 0 is the first vertex of the draw. Those of a single
+/// draw are not copied.
 #[derive(Clone, Copy, Debug, PartialEq, Eq, Hash)]
 #[non_exhaustive]
 pub enum Indices<'a> {
@@ -234,7 +235,8 @@ impl<'a> Batch<'a> {
             [draw] => JoinedVertices::Lent(draw.vertices),
             _ => JoinedVertices::Own(joined_vertices(draws)?),
         };
-        let raw = |draw: &Draw<'_>| draw.state.raw(draw.vertices.len(), if is_in_order { 0 } else { draw.index_count() });
+        let raw =
+            |draw: &Draw<'_>| draw.state.raw(draw.vertices.len(), if is_in_order { 0 } else { draw.index_count() });
         let mut found = Vec::new();
         found.try_reserve_exact(draws.len()).map_err(|_| Error::out_of_memory())?;
         found.extend(draws.iter().map(raw));

@@ -68,7 +68,8 @@ impl Equation {
     }
 }
 
-/// What a new colour makes of the stored one: an equation for colours and one for alpha. A canvas without alpha stores 255.
+/// What a new colour makes of the stored one: an equation for colours and one for alpha. A canvas
+/// without alpha stores 255.
 #[derive(Clone, Copy, Debug, PartialEq, Eq, Hash)]
 #[non_exhaustive]
 pub struct Blend {
@@ -91,7 +92,8 @@ impl Blend {
     /// The new colour, which was multiplied by its alpha, over the stored one.
     pub const PREMULTIPLIED: Blend = Blend::both(Equation::add(Factor::One, Factor::InverseSourceAlpha));
     /// The new colour times its alpha is added.
-    pub const ADD: Blend = Blend::new(Equation::add(Factor::SourceAlpha, Factor::One), Equation::add(Factor::One, Factor::One));
+    pub const ADD: Blend =
+        Blend::new(Equation::add(Factor::SourceAlpha, Factor::One), Equation::add(Factor::One, Factor::One));
     /// Both are multiplied.
     pub const MULTIPLY: Blend = Blend::both(Equation::add(Factor::StoredColor, Factor::Zero));
     /// The stored colour stays.

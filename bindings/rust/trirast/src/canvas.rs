@@ -25,8 +25,8 @@ pub enum Format {
     Rgba8 = sys::TRIRAST_FORMAT_RGBA8 as isize,
     /// Blue, green, red and alpha, as they are stored, otherwise as [`Rgba8`](Format::Rgba8).
     Bgra8 = sys::TRIRAST_FORMAT_BGRA8 as isize,
-    /// Red, green, blue and alpha as image files have them: colours are divided by alpha when they are written, and multiplied
-    /// by it when they are loaded.
+    /// Red, green, blue and alpha as image files have them: colours are divided by alpha when they are written, and
+    /// multiplied by it when they are loaded.
     Rgba8Straight = sys::TRIRAST_FORMAT_RGBA8_STRAIGHT as isize,
     /// Blue, green, red and alpha as image files have them: see [`Rgba8Straight`](Format::Rgba8Straight).
     Bgra8Straight = sys::TRIRAST_FORMAT_BGRA8_STRAIGHT as isize,
@@ -114,8 +114,8 @@ impl CanvasBuilder {
         CanvasBuilder { alpha, ..self }
     }
 
-    /// Makes the canvas a window on the screen: pixel (i, j) of it is pixel (i + x, j + y) of the screen. Positions and scissors
-    /// are those of the screen.
+    /// Makes the canvas a window on the screen: pixel (i, j) of it is pixel (i + x, j + y) of the screen. Positions and
+    /// scissors are those of the screen.
     pub fn origin(self, x: i32, y: i32) -> CanvasBuilder {
         CanvasBuilder { origin: Origin { x, y }, ..self }
     }
@@ -175,8 +175,8 @@ pub type Canvas = TileRows<'static>;
 
 /// The tile rows of a canvas, or some of them, with the memory of their samples. A tile row has 64 rows of pixels.
 ///
-/// Tile rows may go to another thread, and one thread at a time may use them. [`split`](TileRows::split) makes parts for
-/// several threads:
+/// Tile rows may go to another thread, and one thread at a time may use them. [`split`](TileRows::split) makes parts
+/// for several threads:
 ///
 /// ```
 /// # use trirast::{Canvas, State, Vertex};
@@ -205,9 +205,9 @@ pub struct TileRows<'m> {
 unsafe impl Send for TileRows<'_> {}
 
 impl TileRows<'static> {
-    /// Begins a canvas of a width and a height of 1 to 4096 pixels each, with one sample a pixel, without alpha, at the upper left
-    /// of the screen, whose calls run on one thread. It takes 6.2 bytes a sample, in whole tiles of 64 by 64
-    /// pixels.
+    /// Begins a canvas of a width and a height of 1 to 4096 pixels each, with one sample a pixel, without alpha,
+    /// at the upper left of the screen, whose calls run on one thread. It takes 6.2 bytes a sample, in whole
+    /// tiles of 64 by 64 pixels.
     pub fn builder(width: u32, height: u32) -> CanvasBuilder {
         CanvasBuilder { width, height, samples: 1, alpha: false, origin: Origin::default(), threads: 1 }
     }
@@ -254,8 +254,9 @@ impl TileRows<'_> {
         Origin { x: self.raw.origin_x, y: self.raw.origin_y }
     }
 
-    /// Says among how many threads each call shares these tile rows: at least one, and at most one a tile row. The calling
-    /// thread is one of them, and waits for the others. If one cannot be started, the calling thread does its part.
+    /// Says among how many threads each call shares these tile rows: at least one, and at most one a tile row.
+    /// The calling thread is one of them, and waits for the others. If one cannot be started, the calling
+    /// thread does its part.
     pub fn set_threads(&mut self, threads: u32) {
         self.threads = threads.max(1);
     }
@@ -278,8 +279,8 @@ impl TileRows<'_> {
     ///
     /// # Errors
     ///
-    /// None, unless the library is another than the one that this crate was built for. So it is for the other calls in addition
-    /// to the errors that they name.
+    /// None, unless the library is another than the one that this crate was built for. So it is for the other calls in
+    /// addition to the errors that they name.
     pub fn clear(&mut self, to: impl Into<Clear>) -> Result<(), Error> {
         let Clear { color: [red, green, blue, alpha], depth } = to.into();
         let raw = sys::trirast_clear { red, green, blue, alpha, depth, unused: 0 };
@@ -287,9 +288,9 @@ impl TileRows<'_> {
         by_threads(self.shared(), |mut part| done(unsafe { sys::trirast_canvas_clear(&mut part.raw, &raw) }))
     }
 
-    /// Makes a picture the colour of all samples of its pixels. Depths are unchanged. `pixels` begins with the first pixel of
-    /// these tile rows, and rows begin `stride` bytes behind each other, or one at the end of another if it is 0. The last row
-    /// needs no padding. Alpha is 255 if the format has none.
+    /// Makes a picture the colour of all samples of its pixels. Depths are unchanged. `pixels` begins with the first
+    /// pixel of these tile rows, and rows begin `stride` bytes behind each other, or one at the end of another if it is
+    /// 0. The last row needs no padding. Alpha is 255 if the format has none.
     ///
     /// # Errors
     ///
@@ -298,13 +299,15 @@ impl TileRows<'_> {
         let rows = Rows::of_pixels(self, 0, format, stride);
         by_threads(self.with_parts_of(pixels, rows), |(mut part, own)| {
             // SAFETY: the struct has the memory of its tile rows, the slice its length, and the library keeps neither.
-            done(unsafe { sys::trirast_canvas_load(&mut part.raw, format as u32, own.as_ptr().cast(), own.len(), stride) })
+            done(unsafe {
+                sys::trirast_canvas_load(&mut part.raw, format as u32, own.as_ptr().cast(), own.len(), stride)
+            })
         })
         .map_err(|error| rows.explain(error, self, pixels.len()))
     }
 
-    /// Makes a picture the colour of one sample of its pixels. Depths and other samples are unchanged. `pixels` and `stride` are as
-    /// for [`load`](TileRows::load).
+    /// Makes a picture the colour of one sample of its pixels. Depths and other samples are unchanged. `pixels` and
+    /// `stride` are as for [`load`](TileRows::load).
     ///
     /// # Errors
     ///
@@ -319,14 +322,15 @@ impl TileRows<'_> {
         .map_err(|error| rows.explain(error, self, pixels.len()))
     }
 
-    /// Draws over what is stored, by the indices of vertices: slices or arrays of `u16` or `u32`, or [`Indices::InOrder`]. A
-    /// picture does not depend on the calls among which its triangles are split. Vertices and indices are not copied.
+    /// Draws over what is stored, by the indices of vertices: slices or arrays of `u16` or `u32`, or
+    /// [`Indices::InOrder`]. A picture does not depend on the calls among which its triangles are split. Vertices and
+    /// indices are not copied.
     ///
     /// # Errors
     ///
-    /// `OutOfMemory`, or `BadBatch` with the first error of the first draw that has one: `NotWhole` if the indices make no whole
-    /// triangles or quads; `BadIndex` if an index is not less than the number of its draw's vertices; `BadPosition` if a vertex
-    /// that an index names is too far away, also as seen from the origin; or `NotConvex`.
+    /// `OutOfMemory`, or `BadBatch` with the first error of the first draw that has one: `NotWhole` if the indices make
+    /// no whole triangles or quads; `BadIndex` if an index is not less than the number of its draw's vertices;
+    /// `BadPosition` if a vertex that an index names is too far away, also as seen from the origin; or `NotConvex`.
     pub fn draw<'a>(
         &mut self,
         vertices: impl Into<Vertices<'a>>,
@@ -345,20 +349,21 @@ impl TileRows<'_> {
         let batch = Batch::of_draws(draws)?;
         by_threads(self.shared(), |mut part| {
             let batch = batch.raw();
-            // SAFETY: the struct has the memory of its tile rows, each array its count, and the library keeps none of them.
+            // SAFETY: the struct has the memory of its tile rows, each array its count, and the library
+            // keeps none of them.
             checked(|error| unsafe { sys::trirast_canvas_draw(&mut part.raw, &batch, error) })
         })
         .map_err(|error| batch.explain(error, self.origin()))
     }
 
-    /// Draws over what is stored, with the id of each triangle in place of a colour: `first_id` and its index, counted over
-    /// all draws. Channels that are kept and blending are not used. A sample that no triangle passed has the number of the
-    /// colour to which it was cleared: white is 16,777,215.
+    /// Draws over what is stored, with the id of each triangle in place of a colour: `first_id` and its index, counted
+    /// over all draws. Channels that are kept and blending are not used. A sample that no triangle passed has the
+    /// number of the colour to which it was cleared: white is 16,777,215.
     ///
     /// # Errors
     ///
-    /// Those of [`draw`](TileRows::draw), and `BadBatch` with `TooManyIds` if the id of a triangle would be greater than
-    /// 16,777,215.
+    /// Those of [`draw`](TileRows::draw), and `BadBatch` with `TooManyIds` if the id of a triangle would be
+    /// greater than 16,777,215.
     pub fn draw_ids(&mut self, draws: &[Draw<'_>], first_id: u32) -> Result<(), Error> {
         let batch = Batch::of_draws(draws)?;
         by_threads(self.shared(), |mut part| {

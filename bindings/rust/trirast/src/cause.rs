@@ -81,14 +81,16 @@ causes! {
     NotWhole = TRIRAST_BATCH_NOT_WHOLE,
     /// The id of a triangle or a polygon would be greater than 16,777,215.
     TooManyIds = TRIRAST_BATCH_TOO_MANY_IDS,
-    /// An index is not less than the number of the draw's vertices. The element is its place, and [`Error::value`] the index.
+    /// An index is not less than the number of the draw's vertices. The element is its place, and
+    /// [`Error::value`] the index.
     BadIndex = TRIRAST_BATCH_BAD_INDEX,
-    /// A vertex that an index names is too far away, also as seen from the origin of the canvas, or a corner is. The element is
-    /// the vertex or the corner.
+    /// A vertex that an index names is too far away, also as seen from the origin of the canvas, or a corner is. The
+    /// element is the vertex or the corner.
     BadPosition = TRIRAST_BATCH_BAD_POSITION,
     /// A quad is not strictly convex. The element is the quad.
     NotConvex = TRIRAST_BATCH_NOT_CONVEX,
-    /// A corner is in no ring, or a ring in no polygon. No function of this crate passes draws that leave something over.
+    /// A corner is in no ring, or a ring in no polygon. No function of this crate passes draws that
+    /// leave something over.
     LeftOver = TRIRAST_BATCH_LEFT_OVER,
     /// Polygons have 2^32 corners or more.
     TooManyCorners = TRIRAST_BATCH_TOO_MANY_CORNERS,

@@ -5,8 +5,8 @@ use std::fmt;
 use crate::cut_triangle::{within, Corner, Ears, Place, Plane};
 use crate::Vertex;
 
-/// A position in clip space: x, y, z and w. It is in front of the eye if w is positive. x / w goes to the right and y / w upwards,
-/// each from -1 to 1 over the viewport.
+/// A position in clip space: x, y, z and w. It is in front of the eye if w is positive. x / w goes to the right and y /
+/// w upwards, each from -1 to 1 over the viewport.
 pub type ClipPosition = [f32; 4];
 
 /// What z / w is at the near plane. At the far plane it is 1.
@@ -24,8 +24,8 @@ pub enum NearPlane {
 #[derive(Clone, Copy, Debug, Default, PartialEq, Eq, Hash)]
 #[non_exhaustive]
 pub enum Sides {
-    /// Those of the guard band, far outside of the viewport, so that few triangles are cut. What lies outside of the viewport may be
-    /// drawn or not; a scissor leaves it out.
+    /// Those of the guard band, far outside of the viewport, so that few triangles are cut. What lies outside of the
+    /// viewport may be drawn or not; a scissor leaves it out.
     #[default]
     GuardBand,
     /// Those of the viewport, but for the rounding to 1/256 pixel.
@@ -65,7 +65,8 @@ impl std::error::Error for ClipError {}
 /// use trirast::{Canvas, Clip, State};
 ///
 /// // A floor from 5 units behind the eye to 40 before it. The near plane is at w = 0.1, where z is 0.
-/// let positions = [[-20.0, -2.0, -5.1, -5.0], [20.0, -2.0, -5.1, -5.0], [20.0, -2.0, 39.9, 40.0], [-20.0, -2.0, 39.9, 40.0]];
+/// let positions =
+///     [[-20.0, -2.0, -5.1, -5.0], [20.0, -2.0, -5.1, -5.0], [20.0, -2.0, 39.9, 40.0], [-20.0, -2.0, 39.9, 40.0]];
 /// let mut seen = Clip::new(320, 180).triangles(&positions, &[0, 1, 2, 0, 2, 3])?;
 /// let green = seen.attributes(&[0.0, 80.0, 240.0, 160.0]).unwrap();
 /// for (vertex, green) in seen.vertices.iter_mut().zip(green) {
@@ -77,8 +78,8 @@ impl std::error::Error for ClipError {}
 /// # Ok::<(), Box<dyn std::error::Error>>(())
 /// ```
 ///
-/// Two triangles that share an edge, by two equal positions, get equal vertices on it, so the top-left rule leaves no crack. The
-/// vertices are those of `trirast_clip.h`, to the last bit.
+/// Two triangles that share an edge, by two equal positions, get equal vertices on it, so the top-left rule leaves no
+/// crack. The vertices are those of `trirast_clip.h`, to the last bit.
 #[derive(Clone, Copy, Debug, PartialEq, Eq, Hash)]
 #[non_exhaustive]
 pub struct Clip {
@@ -129,9 +130,9 @@ impl Clip {
         Clip { depths, ..self }
     }
 
-    /// Makes the triangles on the screen of triangles in clip space: three indices of positions each, of which one or two that are
-    /// over are not read. A triangle that no plane cuts keeps its indices. Triangles that cover no sample of the viewport may be left
-    /// out, and those with a coordinate that is infinite or not a number are.
+    /// Makes the triangles on the screen of triangles in clip space: three indices of positions each, of which one or
+    /// two that are over are not read. A triangle that no plane cuts keeps its indices. Triangles that cover no sample
+    /// of the viewport may be left out, and those with a coordinate that is infinite or not a number are.
     ///
     /// # Errors
     ///
@@ -176,12 +177,13 @@ pub struct Cut {
     pub triangle: u32,
     /// The indices of that triangle's corners.
     pub corners: [u32; 3],
-    /// Their weights, in clip space: 0 to 1, and 1 together but for rounding. An attribute is the weighted sum of the corners'.
+    /// Their weights, in clip space: 0 to 1, and 1 together but for rounding. An attribute is the weighted
+    /// sum of the corners'.
     pub weights: [f64; 3],
 }
 
-/// Triangles on the screen. The first vertices are the projected positions, at the indices that they have in the source; those that
-/// a plane does not keep are unspecified. Behind them lie those that cuts made. Colours are 0.
+/// Triangles on the screen. The first vertices are the projected positions, at the indices that they have in the
+/// source; those that a plane does not keep are unspecified. Behind them lie those that cuts made. Colours are 0.
 #[derive(Clone, Debug, Default, PartialEq)]
 #[non_exhaustive]
 pub struct Clipped {
@@ -197,13 +199,14 @@ pub struct Clipped {
     pub cuts: Vec<Cut>,
     /// The number of positions.
     pub first_cut: u32,
-    /// Polygons that the rounding to 1/256 pixel has folded. They are thinner than that, and a sample in one may be drawn twice.
+    /// Polygons that the rounding to 1/256 pixel has folded. They are thinner than that, and a sample in
+    /// one may be drawn twice.
     pub folded: usize,
 }
 
 impl Clipped {
-    /// Returns an attribute of each vertex: those of the positions, and weighted sums for those that cuts made. Returns `None` unless
-    /// there is a value for each position.
+    /// Returns an attribute of each vertex: those of the positions, and weighted sums for those that cuts made. Returns
+    /// `None` unless there is a value for each position.
     pub fn attributes(&self, values: &[f64]) -> Option<Vec<f64>> {
         let sum = |cut: &Cut| {
             let [a, b, c] = cut.corners.map(|corner| values.get(corner as usize).copied().unwrap_or_default());
@@ -238,8 +241,9 @@ impl Clipped {
         Ok(())
     }
 
-    /// Cuts a triangle by the planes of which `planes` has the bits, those that a corner is behind, and adds what is left. Others do
-    /// not cut it: rounding errors would cut parts off a triangle that lies in a plane, as a sky whose z is w.
+    /// Cuts a triangle by the planes of which `planes` has the bits, those that a corner is behind, and adds
+    /// what is left. Others do not cut it: rounding errors would cut parts off a triangle that lies in a plane,
+    /// as a sky whose z is w.
     fn add_cut(
         &mut self,
         view: &View,
@@ -248,7 +252,8 @@ impl Clipped {
         planes: u16,
         source: u32,
     ) -> Result<(), ClipError> {
-        let place_of = |vertex: u32| positions.get(vertex as usize).map_or([0.0; 4], |position| position.map(f64::from));
+        let place_of =
+            |vertex: u32| positions.get(vertex as usize).map_or([0.0; 4], |position| position.map(f64::from));
         let corner = |k: usize| {
             let weights = [0, 1, 2].map(|other| if other == k { 1.0 } else { 0.0 });
             Corner { place: place_of(corners[k]), weights, vertex: Some(corners[k]) }
@@ -307,8 +312,8 @@ fn reserve<T>(vector: &mut Vec<T>, count: usize) -> Result<(), ClipError> {
 // ---- What does not change from triangle to triangle
 
 const PLANES: usize = 7;
-/// Marks of a position: a bit for each plane that does not keep it, then one for each side of the viewport that it lies beyond, then
-/// one if a coordinate is infinite or not a number.
+/// Marks of a position: a bit for each plane that does not keep it, then one for each side of the viewport that it lies
+/// beyond, then one if a coordinate is infinite or not a number.
 const ALL_PLANES: u16 = (1 << PLANES) - 1;
 const NOT_FINITE: u16 = 1 << (PLANES + 4);
 /// A plane adds at most half as many corners as there are, so seven of them make 42 of 3.
@@ -378,7 +383,8 @@ impl View {
         }
     }
 
-    /// The vertex of a position that all planes keep. Each number is a rounded quotient times a factor, plus an integer.
+    /// The vertex of a position that all planes keep. Each number is a rounded quotient times a factor,
+    /// plus an integer.
     fn snapped(&self, place: &Place) -> Vertex {
         let [x, y, z, w] = *place;
         let (right, down) = (rounded(x / w * self.half[0]), rounded(-y / w * self.half[1]));
@@ -393,7 +399,8 @@ impl View {
     }
 }
 
-/// The largest power of two of half viewports from the middle that fit the positions of a canvas, with a pixel to spare.
+/// The largest power of two of half viewports from the middle that fit the positions of a canvas, with
+/// a pixel to spare.
 fn guard(half: f64, centre: f64) -> f64 {
     let mut found = 1.0;
     while 2.0 * found * half + centre.abs() <= 8_388_607.0 - 256.0 {
@@ -433,9 +440,14 @@ mod tests {
     fn the_near_plane_cuts_at_three_quarters() {
         let positions = [[0.0, 0.0, 3.0, 4.0], [8.0, 0.0, -1.0, 0.0], [0.0, 8.0, -1.0, 0.0]];
         let seen = Clip::new(256, 256).triangles(&positions, &[0, 1, 2]).unwrap();
-        assert_eq!((&seen.indices[..], &seen.sources[..], seen.first_cut, seen.folded), (&[0, 3, 4][..], &[0][..], 3, 0));
-        let places: Vec<_> =
-            [0, 3, 4].iter().map(|&k: &usize| (seen.vertices[k].x, seen.vertices[k].y, seen.vertices[k].depth)).collect();
+        assert_eq!(
+            (&seen.indices[..], &seen.sources[..], seen.first_cut, seen.folded),
+            (&[0, 3, 4][..], &[0][..], 3, 0)
+        );
+        let places: Vec<_> = [0, 3, 4]
+            .iter()
+            .map(|&k: &usize| (seen.vertices[k].x, seen.vertices[k].y, seen.vertices[k].depth))
+            .collect();
         assert_eq!(places, [(32_768, 32_768, 49_151), (229_376, 32_768, 0), (32_768, -163_840, 0)]);
         assert_eq!(seen.w[3..], [1.0, 1.0]);
         assert_eq!((seen.cuts[0].weights, seen.cuts[1].weights), ([0.25, 0.75, 0.0], [0.25, 0.0, 0.75]));
@@ -459,7 +471,9 @@ mod tests {
     fn refuses_viewports_and_indices_that_there_are_not() {
         let whole = Clip::new(16_384, 1).at(-16_384, 16_384).near_plane(NearPlane::AtMinusOne);
         assert_eq!(whole.triangles(&[], &[0, 0]).unwrap().indices, []);
-        for wrong in [Clip::new(0, 1), Clip::new(1, 16_385), Clip::new(1, 1).at(16_385, 0), Clip::new(1, 1).at(0, i32::MIN)] {
+        for wrong in
+            [Clip::new(0, 1), Clip::new(1, 16_385), Clip::new(1, 1).at(16_385, 0), Clip::new(1, 1).at(0, i32::MIN)]
+        {
             assert_eq!(wrong.triangles(&[], &[]), Err(ClipError::BadViewport));
         }
         let error = whole.triangles(&[[0.0; 4]; 2], &[0, 1, 1, 1, 2, 0]).unwrap_err();

@@ -1,13 +1,13 @@
-//! One triangle of clip space, cut by planes and into triangles on the screen, by the rules of `include/trirast_clip.h`, to the last
-//! bit. That header says why no crack comes about.
+//! One triangle of clip space, cut by planes and into triangles on the screen, by the rules of
+//! `include/trirast_clip.h`, to the last bit. That header says why no crack comes about.
 
 use crate::Vertex;
 
 /// x, y, z and w.
 pub(crate) type Place = [f64; 4];
 
-/// A plane keeps a position if factor * w + sign * (its coordinate on the axis) is at least `constant`. The factor is 0 or a power
-/// of two and the sign 1 or -1, so that products are exact.
+/// A plane keeps a position if factor * w + sign * (its coordinate on the axis) is at least `constant`. The factor is 0
+/// or a power of two and the sign 1 or -1, so that products are exact.
 #[derive(Clone, Copy)]
 pub(crate) struct Plane {
     pub(crate) factor: f64,
@@ -26,7 +26,8 @@ impl Plane {
         self.factor * place[3] + self.sign * place[self.axis] - self.constant
     }
 
-    /// The point in which the plane cuts the edge between two corners on either side of it, taken in the order of their coordinates.
+    /// The point in which the plane cuts the edge between two corners on either side of it, taken in the order
+    /// of their coordinates.
     fn cut(&self, one: &Corner, other: &Corner) -> Corner {
         let (from, to) = if is_before(&other.place, &one.place) { (other, one) } else { (one, other) };
         let behind = self.distance(&from.place);
@@ -92,8 +93,8 @@ pub(crate) fn within(value: f64, least: f64, greatest: f64) -> f64 {
     }
 }
 
-/// The corners on the screen that are left of a polygon. Rounding may bend a side inwards, so a fan from the first corner could have
-/// triangles that lie upon each other.
+/// The corners on the screen that are left of a polygon. Rounding may bend a side inwards, so a fan from the first
+/// corner could have triangles that lie upon each other.
 pub(crate) struct Ears<'a> {
     corners: &'a [Vertex],
     left: Vec<usize>,
@@ -119,8 +120,8 @@ impl<'a> Ears<'a> {
         self.sense * ((b[0] - a[0]) * (c[1] - a[1]) - (b[1] - a[1]) * (c[0] - a[0]))
     }
 
-    /// Whether the corner behind `a` can be cut off: it does not bend inwards, no other corner lies in what is cut off, and a triangle
-    /// that is left is not turned over.
+    /// Whether the corner behind `a` can be cut off: it does not bend inwards, no other corner lies in what is cut off,
+    /// and a triangle that is left is not turned over.
     fn is_ear(&self, a: usize) -> bool {
         let (b, c, count) = (a + 1, a + 2, self.left.len());
         let has = |k| self.area(a, b, k) > 0 && self.area(b, c, k) > 0 && self.area(c, a, k) > 0;

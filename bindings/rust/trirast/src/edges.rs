@@ -11,8 +11,8 @@ use crate::{Error, ErrorKind, Origin};
 /// A position: x to the right and y downwards, in 1/256 pixel, -8388608 to 8388607 each.
 pub type Position = [i32; 2];
 
-/// The edge functions of a triangle at a point, in 1/65536 square pixel. For a point inside they have the sign of the doubled
-/// area, and `a / doubled_area` is the weight of the corner a there.
+/// The edge functions of a triangle at a point, in 1/65536 square pixel. For a point inside they have the sign of the
+/// doubled area, and `a / doubled_area` is the weight of the corner a there.
 #[derive(Clone, Copy, Debug, PartialEq, Eq, Hash)]
 #[non_exhaustive]
 pub struct Edges {
@@ -65,7 +65,8 @@ fn write_edges(corners: [Position; 3], points: &[Position], found: &mut [sys::tr
     let [[ax, ay], [bx, by], [cx, cy]] = corners;
     let raw = sys::trirast_corners { ax, ay, bx, by, cx, cy };
     let (stride, count) = (size_of::<Position>(), points.len().min(found.len()));
-    // SAFETY: both arrays have as many elements, all pointers are valid for the call, and the library keeps none of them.
+    // SAFETY: both arrays have as many elements, all pointers are valid for the call, and the library
+    // keeps none of them.
     done(unsafe { sys::trirast_edges_at(&raw, points.as_ptr().cast(), stride, count, found.as_mut_ptr()) })
         .map_err(|error| explain(error, &corners, points))
 }
@@ -73,7 +74,8 @@ fn write_edges(corners: [Position; 3], points: &[Position], found: &mut [sys::tr
 /// An error with the first corner or point that is out of range.
 fn explain(error: Error, corners: &[Position], points: &[Position]) -> Error {
     let all = [("corner", corners), ("point", points)];
-    let far = all.into_iter().find_map(|(name, each)| each.iter().position(|&at| is_far(at)).map(|k| ((name, k), each[k])));
+    let far =
+        all.into_iter().find_map(|(name, each)| each.iter().position(|&at| is_far(at)).map(|k| ((name, k), each[k])));
     match (error.kind(), far) {
         (ErrorKind::BadPosition, Some((of, at))) => {
             error.with(Values::Position { of: Some(of), at, origin: Origin::default() })

@@ -8,8 +8,8 @@ use trirast_sys as sys;
 use crate::values::Values;
 use crate::{BatchCause, ListCause};
 
-/// Why a call failed, and where. Its text is one line, as "draw 3: the indices make no whole triangles or quads", and on a canvas it says
-/// what was passed and what may be, as "no such sample: 0 to 3, and not 4".
+/// Why a call failed, and where. Its text is one line, as "draw 3: the indices make no whole triangles or quads", and
+/// on a canvas it says what was passed and what may be, as "no such sample: 0 to 3, and not 4".
 #[derive(Clone, Copy, Debug, PartialEq, Eq)]
 pub struct Error {
     raw: sys::trirast_error,
@@ -112,8 +112,8 @@ impl Error {
         index(self.raw.draw)
     }
 
-    /// Returns which one of the draw's own vertices, indices or quads is wrong, from 0, or which ring, polygon or corner: each
-    /// [`BatchCause`] says what it names. Returns `None` if it is none of these.
+    /// Returns which one of the draw's own vertices, indices or quads is wrong, from 0, or which ring, polygon or
+    /// corner: each [`BatchCause`] says what it names. Returns `None` if it is none of these.
     pub fn element(&self) -> Option<usize> {
         index(self.raw.element)
     }

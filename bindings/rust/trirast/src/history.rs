@@ -130,7 +130,8 @@ pub enum Listed {
 ///
 /// ```
 /// # let list = r#"{"width": 3, "height": 3, "draws": [{
-/// #     "vertices": [[128, 128, 0, 255, 255, 255, 255], [640, 128, 0, 255, 255, 255, 255], [128, 640, 0, 255, 255, 255, 255]],
+/// #     "vertices": [[128, 128, 0, 255, 255, 255, 255], [640, 128, 0, 255, 255, 255, 255],
+/// #                  [128, 640, 0, 255, 255, 255, 255]],
 /// #     "triangles": [[0, 1, 2]]}]}"#;
 /// use trirast::{why, Listed, Reason};
 ///
@@ -141,8 +142,8 @@ pub enum Listed {
 ///
 /// # Errors
 ///
-/// `InputTooLong`, `BadList`, `BadPixel` if the picture has no such pixel, `BadSample` if the pixel has no such sample, or
-/// `OutOfMemory`.
+/// `InputTooLong`, `BadList`, `BadPixel` if the picture has no such pixel, `BadSample` if the pixel has no such
+/// sample, or `OutOfMemory`.
 pub fn why(list: impl AsRef<[u8]>, column: u32, row: u32, sample: u32, listed: Listed) -> Result<History, Error> {
     let list = list.as_ref();
     let all = u32::from(listed == Listed::All);
@@ -185,7 +186,9 @@ pub fn triangle_samples(list: impl AsRef<[u8]>, draw: usize, triangle: usize) ->
     let list = list.as_ref();
     let mut raw = sys::trirast_sample_counts::default();
     // SAFETY: the pointers are valid for the call, and the library keeps none of them.
-    checked(|error| unsafe { sys::trirast_list_triangle_samples(text(list), list.len(), draw, triangle, &mut raw, error) })?;
+    checked(|error| unsafe {
+        sys::trirast_list_triangle_samples(text(list), list.len(), draw, triangle, &mut raw, error)
+    })?;
     Ok(SampleCounts { covered: raw.covered, changed: raw.changed, shown: raw.shown })
 }
 

@@ -41,8 +41,8 @@ pub fn draw(list: impl AsRef<[u8]>, tile_size: TileSize) -> Result<Picture, Erro
     Ok(Picture::new(info, file))
 }
 
-/// Draws the file of a draw list's picture at the beginning of a buffer. Bytes behind the file are unchanged. After an error
-/// the whole buffer is unchanged.
+/// Draws the file of a draw list's picture at the beginning of a buffer. Bytes behind the file are unchanged. After an
+/// error the whole buffer is unchanged.
 ///
 /// # Errors
 ///
@@ -60,19 +60,34 @@ pub fn draw_into(list: impl AsRef<[u8]>, tile_size: TileSize, buffer: &mut [u8])
 ///
 /// # Errors
 ///
-/// `InputTooLong`, `BadList`, `BadTileRows` if the range is empty or ends behind the last tile row, `BufferTooSmall` if the
-/// rows of pixels have more bytes than the buffer, or `OutOfMemory`.
-pub fn draw_rows_into(list: impl AsRef<[u8]>, tile_size: TileSize, rows: Range<u32>, buffer: &mut [u8]) -> Result<(), Error> {
+/// `InputTooLong`, `BadList`, `BadTileRows` if the range is empty or ends behind the last tile row, `BufferTooSmall` if
+/// the rows of pixels have more bytes than the buffer, or `OutOfMemory`.
+pub fn draw_rows_into(
+    list: impl AsRef<[u8]>,
+    tile_size: TileSize,
+    rows: Range<u32>,
+    buffer: &mut [u8],
+) -> Result<(), Error> {
     let list = list.as_ref();
     let (bytes, size) = (buffer.as_mut_ptr(), buffer.len());
     // SAFETY: list and buffer are valid for their lengths, do not overlap, and the library keeps neither.
     checked(|error| unsafe {
-        sys::trirast_list_draw_rows(text(list), list.len(), tile_size.pixels(), rows.start, rows.end, bytes, size, error)
+        sys::trirast_list_draw_rows(
+            text(list),
+            list.len(),
+            tile_size.pixels(),
+            rows.start,
+            rows.end,
+            bytes,
+            size,
+            error,
+        )
     })
 }
 
-/// Draws the picture of a draw list on several threads, which share its tile rows: at least one, and at most one a tile row. The
-/// calling thread is one of them, and waits for the others. The picture is the same for every number of threads.
+/// Draws the picture of a draw list on several threads, which share its tile rows: at least one, and at most
+/// one a tile row. The calling thread is one of them, and waits for the others. The picture is the same for
+/// every number of threads.
 ///
 /// # Errors
 ///

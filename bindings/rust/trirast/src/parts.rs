@@ -19,8 +19,8 @@ pub(crate) fn pixel_row(canvas: &sys::trirast_canvas, tile_row: u32) -> u32 {
     canvas.height.min(tile_row.saturating_mul(ROW_PIXELS))
 }
 
-/// Rows in a buffer for the samples of an index: the bytes of an element, the elements that a row has, the stride that was passed, in
-/// bytes, and in elements, if these are whole.
+/// Rows in a buffer for the samples of an index: the bytes of an element, the elements that a row has, the stride that
+/// was passed, in bytes, and in elements, if these are whole.
 #[derive(Clone, Copy)]
 pub(crate) struct Rows {
     sample: u32,
@@ -95,7 +95,9 @@ impl TileRows<'_> {
         // SAFETY: both structs are valid, and this one has the memory of its tile rows.
         let split = done(unsafe { sys::trirast_canvas_split(&self.raw, first, end, &mut raw) });
         split.map_err(|error| match error.kind() {
-            ErrorKind::BadTileRows => error.with(Values::TileRows { given: [first, end], own: [self.raw.first, self.raw.end] }),
+            ErrorKind::BadTileRows => {
+                error.with(Values::TileRows { given: [first, end], own: [self.raw.first, self.raw.end] })
+            }
             _ => error,
         })?;
         Ok(TileRows { raw, threads: 1, _own: None, lent: PhantomData })
@@ -114,8 +116,8 @@ impl TileRows<'_> {
         self.pieces(self.threads.min(self.raw.end - self.raw.first).max(1))
     }
 
-    /// The parts among which a call shares these tile rows, each with its part of a buffer. If that is too small, there is one
-    /// part, so that none is done before the library reports it.
+    /// The parts among which a call shares these tile rows, each with its part of a buffer. If that is too small, there
+    /// is one part, so that none is done before the library reports it.
     pub(crate) fn with_parts_of<B: Cut>(&self, buffer: B, rows: Rows) -> Vec<(TileRows<'_>, B)> {
         let stride = rows.stride_in(buffer.length(), self.height());
         let parts = if stride.is_some() { self.shared() } else { self.pieces(1) };
@@ -142,8 +144,8 @@ impl TileRows<'_> {
     }
 }
 
-/// Makes a call on each part: of the last on the calling thread, and of each other on a thread of its own, or on the calling one if
-/// that does not begin before it. Returns an error if one call does.
+/// Makes a call on each part: of the last on the calling thread, and of each other on a thread of its own, or on the
+/// calling one if that does not begin before it. Returns an error if one call does.
 pub(crate) fn by_threads<P: Send>(parts: Vec<P>, call: impl Fn(P) -> Result<(), Error> + Sync) -> Result<(), Error> {
     let call = &call;
     // Whoever comes first takes a part.

@@ -81,8 +81,8 @@ impl Picture {
         &self.file
     }
 
-    /// Returns the pixels, row after row from the top: three bytes each of a picture of colours, two of one of depths, the high
-    /// one first.
+    /// Returns the pixels, row after row from the top: three bytes each of a picture of colours, two of one of
+    /// depths, the high one first.
     pub fn pixels(&self) -> &[u8] {
         &self.file[self.info.header_bytes..]
     }

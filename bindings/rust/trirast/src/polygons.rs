@@ -23,11 +23,12 @@ pub enum FillRule {
     Nonzero = sys::TRIRAST_FILL_NONZERO as isize,
 }
 
-/// Polygons in flat arrays: those of `shapely.to_ragged_array` and of GeoArrow, without the 0 with which their ends begin.
+/// Polygons in flat arrays: those of `shapely.to_ragged_array` and of GeoArrow, without the 0 with
+/// which their ends begin.
 ///
-/// A polygon is any number of rings, and a ring any number of corners. Rings may be holes, touch and cross each other and
-/// themselves. A ring is closed from its last corner to its first, and one of fewer than three corners covers nothing. Which
-/// samples a polygon covers is exact: `docs/polygons.md`.
+/// A polygon is any number of rings, and a ring any number of corners. Rings may be holes, touch and cross each other
+/// and themselves. A ring is closed from its last corner to its first, and one of fewer than three corners covers
+/// nothing. Which samples a polygon covers is exact: `docs/polygons.md`.
 ///
 /// ```
 /// use trirast::{Canvas, Format, Polygons, State};
@@ -129,45 +130,48 @@ impl<'a> Polygons<'a> {
 }
 
 impl TileRows<'_> {
-    /// Draws polygons over what is stored, one after another. Each makes of a sample that it covers what a triangle of one colour
-    /// and one depth does in this state, of which the topology and what is culled are not used. Scratch memory is allocated for
-    /// each thread: 32 bytes for each pixel of the width, and 1,056 by the nonzero rule.
+    /// Draws polygons over what is stored, one after another. Each makes of a sample that it covers what a triangle of
+    /// one colour and one depth does in this state, of which the topology and what is culled are not used. Scratch
+    /// memory is allocated for each thread: 32 bytes for each pixel of the width, and 1,056 by the nonzero rule.
     ///
     /// # Errors
     ///
-    /// `OutOfMemory`; `BadPosition` if the canvas's origin is not -32,768 to 28,672; or `BadBatch` with the first error of the
-    /// polygons: `TooManyCorners`, `BadRing`, `BadPolygon` or `BadPosition`, which name the ring, the polygon or the corner;
-    /// `LeftOver` if the last ring ends before the last corner, or the last polygon before the last ring; `TooFewColors` or
-    /// `TooFewDepths`.
+    /// `OutOfMemory`; `BadPosition` if the canvas's origin is not -32,768 to 28,672; or `BadBatch` with the first error
+    /// of the polygons: `TooManyCorners`, `BadRing`, `BadPolygon` or `BadPosition`, which name the ring, the polygon or
+    /// the corner; `LeftOver` if the last ring ends before the last corner, or the last polygon before the last ring;
+    /// `TooFewColors` or `TooFewDepths`.
     pub fn draw_polygons(&mut self, polygons: &Polygons<'_>, state: State) -> Result<(), Error> {
         by_threads(self.with_scratch(polygons.fill_rule)?, |(mut part, mut scratch)| {
             let (raw, size) = (polygons.raw(state), size_of_val(&scratch[..]));
             let start = scratch.as_mut_ptr().cast();
-            // SAFETY: the struct has the memory of its tile rows, each array its count, and the library keeps none of them.
+            // SAFETY: the struct has the memory of its tile rows, each array its count, and the library
+            // keeps none of them.
             checked(|error| unsafe { sys::trirast_canvas_draw_polygons(&mut part.raw, &raw, start, size, error) })
         })
         .map_err(|error| polygons.explain(error, self.origin()))
     }
 
-    /// Draws polygons over what is stored, with the id of each in place of a colour: `first_id` and its index. Channels that are
-    /// kept and blending are not used.
+    /// Draws polygons over what is stored, with the id of each in place of a colour: `first_id` and its index. Channels
+    /// that are kept and blending are not used.
     ///
     /// # Errors
     ///
-    /// Those of [`draw_polygons`](TileRows::draw_polygons) but `TooFewColors`, and `BadBatch` with `TooManyIds` if the id of a
-    /// polygon would be greater than 16,777,215.
+    /// Those of [`draw_polygons`](TileRows::draw_polygons) but `TooFewColors`, and `BadBatch` with `TooManyIds` if the
+    /// id of a polygon would be greater than 16,777,215.
     pub fn draw_polygon_ids(&mut self, polygons: &Polygons<'_>, first_id: u32, state: State) -> Result<(), Error> {
         by_threads(self.with_scratch(polygons.fill_rule)?, |(mut part, mut scratch)| {
             let (raw, size) = (polygons.raw(state), size_of_val(&scratch[..]));
             let start = scratch.as_mut_ptr().cast();
             // SAFETY: as for draw_polygons.
-            checked(|error| unsafe { sys::trirast_canvas_draw_polygon_ids(&mut part.raw, &raw, first_id, start, size, error) })
+            checked(|error| unsafe {
+                sys::trirast_canvas_draw_polygon_ids(&mut part.raw, &raw, first_id, start, size, error)
+            })
         })
         .map_err(|error| polygons.explain(error, self.origin()))
     }
 
-    /// The parts among which a call shares these tile rows, each with scratch memory of its own. All of it is there before one
-    /// part is drawn, so that nothing is changed if it is not.
+    /// The parts among which a call shares these tile rows, each with scratch memory of its own. All of it is there
+    /// before one part is drawn, so that nothing is changed if it is not.
     fn with_scratch(&self, fill_rule: FillRule) -> Result<Vec<(TileRows<'_>, Vec<u64>)>, Error> {
         // SAFETY: the struct is valid.
         let size = unsafe { sys::trirast_polygons_scratch(&self.raw, fill_rule as u32) };

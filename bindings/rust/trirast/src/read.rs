@@ -7,9 +7,9 @@ use crate::picture::zeros;
 use crate::{Error, Format, Sample, TileRows};
 
 impl TileRows<'_> {
-    /// Writes the colour of each pixel, the mean of its samples. `pixels` begins with the first pixel of these tile rows, and
-    /// rows begin `stride` bytes behind each other, or one at the end of another if it is 0. Bytes between the rows are
-    /// unchanged.
+    /// Writes the colour of each pixel, the mean of its samples. `pixels` begins with the first pixel of these tile
+    /// rows, and rows begin `stride` bytes behind each other, or one at the end of another if it is 0. Bytes between
+    /// the rows are unchanged.
     ///
     /// # Errors
     ///
@@ -56,8 +56,8 @@ impl TileRows<'_> {
         Ok(found)
     }
 
-    /// Writes the depth of one sample of each pixel. `stride` is in bytes, as everywhere. Entries between the rows of pixels are
-    /// unchanged.
+    /// Writes the depth of one sample of each pixel. `stride` is in bytes, as everywhere. Entries between the rows of
+    /// pixels are unchanged.
     ///
     /// # Errors
     ///
@@ -81,8 +81,8 @@ impl TileRows<'_> {
         Ok(found)
     }
 
-    /// Writes the id of one sample of each pixel: its red + 256 * green + 65536 * blue. `stride` is in bytes. Entries between the
-    /// rows of pixels are unchanged.
+    /// Writes the id of one sample of each pixel: its red + 256 * green + 65536 * blue. `stride` is in bytes. Entries
+    /// between the rows of pixels are unchanged.
     ///
     /// # Errors
     ///
@@ -105,8 +105,8 @@ impl TileRows<'_> {
         Ok(found)
     }
 
-    /// Returns one sample of the pixel in a column and a row of the canvas. It reads the whole tile row: to look at many
-    /// samples call `ids` and `depths`.
+    /// Returns one sample of the pixel in a column and a row of the canvas. It reads the whole tile row: to look at
+    /// many samples call `ids` and `depths`.
     ///
     /// # Errors
     ///

@@ -24,9 +24,9 @@ impl TileRows<'_> {
         (ROW_PIXELS * ROW_PIXELS * self.samples()) as usize
     }
 
-    /// Returns the entry of a sample of the pixel in a column and a row of a tile. Entries lie block after block of 8 by 8 pixels,
-    /// row by row; in a block sample index by sample index; and of each the pixels, row by row. Returns `None` if a tile has no
-    /// such pixel, or the pixel no such sample.
+    /// Returns the entry of a sample of the pixel in a column and a row of a tile. Entries lie block after block of 8
+    /// by 8 pixels, row by row; in a block sample index by sample index; and of each the pixels, row by row. Returns
+    /// `None` if a tile has no such pixel, or the pixel no such sample.
     pub fn tile_entry(&self, column: u32, row: u32, sample: u32) -> Option<usize> {
         let is_inside = column < ROW_PIXELS && row < ROW_PIXELS && sample < self.samples();
         let block = row / BLOCK_SIDE * BLOCK_SIDE + column / BLOCK_SIDE;
@@ -34,10 +34,10 @@ impl TileRows<'_> {
         is_inside.then(|| ((block * self.samples() + sample) * BLOCK_SIDE * BLOCK_SIDE + pixel) as usize)
     }
 
-    /// Reads the ids of all samples of one tile, red + 256 * green + 65536 * blue each, those of pixels beside the picture too.
-    /// `entries` has [`tile_entries`](TileRows::tile_entries). Returns those that were written: all, or of a tile that is
-    /// unchanged since it was cleared one, which is the id of all of its samples. `column` counts tiles, and `row` is one of
-    /// these tile rows.
+    /// Reads the ids of all samples of one tile, red + 256 * green + 65536 * blue each, those of pixels beside the
+    /// picture too. `entries` has [`tile_entries`](TileRows::tile_entries). Returns those that were written: all, or of
+    /// a tile that is unchanged since it was cleared one, which is the id of all of its samples. `column` counts tiles,
+    /// and `row` is one of these tile rows.
     ///
     /// A renderer draws ids, and puts colours of its own in their place, tile by tile:
     ///
@@ -71,14 +71,14 @@ impl TileRows<'_> {
         Ok(entries.get(..written).unwrap_or_default())
     }
 
-    /// Stores the colours of all samples of one tile, red + 256 * green + 65536 * blue each, of which the upper byte is not read.
-    /// Depths, alpha and other tiles are unchanged. One colour is that of all samples of the tile. Storing what
-    /// [`tile_ids`](TileRows::tile_ids) has returned changes nothing.
+    /// Stores the colours of all samples of one tile, red + 256 * green + 65536 * blue each, of which the upper byte is
+    /// not read. Depths, alpha and other tiles are unchanged. One colour is that of all samples of the tile. Storing
+    /// what [`tile_ids`](TileRows::tile_ids) has returned changes nothing.
     ///
     /// # Errors
     ///
-    /// `BadTile` if these tile rows have no such tile, or `BufferTooSmall` unless there are as many colours as a tile has entries,
-    /// or one.
+    /// `BadTile` if these tile rows have no such tile, or `BufferTooSmall` unless there are as many colours as a tile
+    /// has entries, or one.
     pub fn tile_store(&mut self, column: u32, row: u32, colors: &[u32]) -> Result<(), Error> {
         // SAFETY: as for tile_ids.
         done(unsafe { sys::trirast_canvas_tile_store(&mut self.raw, column, row, colors.as_ptr(), colors.len()) })

@@ -80,7 +80,13 @@ impl fmt::Display for Values {
 }
 
 /// Writes what a buffer of rows lacks. All is in bytes.
-fn write_buffer(formatter: &mut fmt::Formatter<'_>, given: usize, row: usize, rows: usize, stride: usize) -> fmt::Result {
+fn write_buffer(
+    formatter: &mut fmt::Formatter<'_>,
+    given: usize,
+    row: usize,
+    rows: usize,
+    stride: usize,
+) -> fmt::Result {
     let stride = if stride == 0 { row } else { stride };
     if stride < row {
         return write!(formatter, "a stride of at least {row} bytes, or 0, and not {stride}");

@@ -8,8 +8,8 @@ use std::thread;
 
 use scenes::{Pick, Scene};
 use trirast::{
-    edges, edges_at, BatchCause, Blend, Canvas, Channels, Clear, DepthTest, Draw, Equation, Error, ErrorKind, Factor, Format,
-    Indices, Operation, Origin, State, Topology, Vertex, Vertices,
+    edges, edges_at, BatchCause, Blend, Canvas, Channels, Clear, DepthTest, Draw, Equation, Error, ErrorKind, Factor,
+    Format, Indices, Operation, Origin, State, Topology, Vertex, Vertices,
 };
 
 const FORMATS: [Format; 3] = [Format::Rgb8, Format::Rgba8, Format::Bgra8];
@@ -39,8 +39,8 @@ fn pixels_of(scene: &Scene) -> Vec<u8> {
     shown(&canvas, scene.is_depth)
 }
 
-/// Draws a scene on canvases: in two batches by several threads, by the parts of a canvas, and as a window on a part of the
-/// screen.
+/// Draws a scene on canvases: in two batches by several threads, by the parts of a canvas, and as a window on
+/// a part of the screen.
 fn compare(scene: &Scene, wanted: &[u8], number: usize, name: &str) {
     let draws = scene.draws();
     let (before, behind) = draws.split_at(number % (draws.len() + 1));
@@ -150,7 +150,11 @@ fn takes_indices_of_each_size_and_none() {
     // Draws of both sizes are one batch.
     let other = triangle(9, 0, 10);
     canvas
-        .draw_batch(&[Draw::new(&vertices, &short), Draw::new(&other, Indices::InOrder), Draw::new(&vertices, &[0u32; 0])])
+        .draw_batch(&[
+            Draw::new(&vertices, &short),
+            Draw::new(&other, Indices::InOrder),
+            Draw::new(&vertices, &[0u32; 0]),
+        ])
         .unwrap();
     assert_eq!((canvas.ids(0).unwrap()[0], canvas.ids(0).unwrap()[20]), (9, 5));
 }
@@ -320,7 +324,8 @@ fn reads_depths_and_samples() {
     assert!(first.iter().all(|&depth| depth == 900));
     assert_eq!((last[0], last[139 * 150], last[140 * 150], last[150 * 190 - 1]), (7, 900, 900, 900));
     let (clear, drawn) = (([255; 3], 900), ([1, 2, 3], 7));
-    for (column, row, sample, wanted) in [(0, 0, 3, drawn), (0, 0, 2, clear), (2, 130, 3, drawn), (149, 189, 3, clear)] {
+    for (column, row, sample, wanted) in [(0, 0, 3, drawn), (0, 0, 2, clear), (2, 130, 3, drawn), (149, 189, 3, clear)]
+    {
         let found = canvas.sample(column, row, sample).unwrap();
         assert_eq!((found.color, found.depth), wanted);
     }
@@ -333,7 +338,10 @@ fn reads_depths_and_samples() {
     }
     let mut entries = [1; 150 * 62 + 61 * 3];
     part.depths_into(3, &mut entries, 2 * 153).unwrap();
-    assert_eq!((entries[..150].to_vec(), entries[150..153].to_vec()), (last[128 * 150..129 * 150].to_vec(), vec![1; 3]));
+    assert_eq!(
+        (entries[..150].to_vec(), entries[150..153].to_vec()),
+        (last[128 * 150..129 * 150].to_vec(), vec![1; 3])
+    );
 }
 
 #[test]
@@ -347,7 +355,8 @@ fn reads_and_stores_the_colours_of_one_sample() {
         canvas.store(0, Format::Rgb8, &drawn, 0).unwrap();
         assert!(canvas.colors(0, Format::Bgra8).unwrap() == [3, 2, 1, 255].repeat(70 * 130));
         assert!(
-            canvas.colors(3, Format::Rgb8).unwrap() == clear && canvas.depths(0).unwrap().iter().all(|&depth| depth == 900)
+            canvas.colors(3, Format::Rgb8).unwrap() == clear
+                && canvas.depths(0).unwrap().iter().all(|&depth| depth == 900)
         );
         assert_eq!(refused(canvas.store(4, Format::Rgb8, &drawn, 0)).0, ErrorKind::BadSample);
         assert_eq!(refused(canvas.store(0, Format::Rgb8, &drawn[1..], 0)).0, ErrorKind::BufferTooSmall);
@@ -360,13 +369,15 @@ fn stands_anywhere_on_the_screen() {
     for (x, y) in [(30_000, -20), (-20, 0), (-20, -20)] {
         let mut window = Canvas::builder(40, 130).samples(4).origin(x, y).build().unwrap();
         assert_eq!(window.origin(), Origin { x, y });
-        let vertices = triangle(5, 0, 10).map(|vertex| Vertex { x: vertex.x + 256 * x, y: vertex.y + 256 * y, ..vertex });
+        let vertices =
+            triangle(5, 0, 10).map(|vertex| Vertex { x: vertex.x + 256 * x, y: vertex.y + 256 * y, ..vertex });
         for threads in THREADS {
             window.set_threads(threads);
             window.clear([255; 3]).unwrap();
             window.draw_ids(&[Draw::new(&vertices, Indices::InOrder)], 5).unwrap();
-            let wanted =
-                |limit: u32| (0..40 * 130).map(move |at| if at % 40 + at / 40 < 10 && at % 40 < limit { 5 } else { WHITE });
+            let wanted = |limit: u32| {
+                (0..40 * 130).map(move |at| if at % 40 + at / 40 < 10 && at % 40 < limit { 5 } else { WHITE })
+            };
             assert!(window.ids(0).unwrap().into_iter().eq(wanted(40)), "{x}, {y}");
             // A scissor is of the screen too, also left of it and above.
             window.clear([255; 3]).unwrap();
@@ -473,8 +484,10 @@ fn says_what_was_passed_and_what_may_be() {
     let good = triangle(0, 0, 200);
     let far = good.map(|vertex| Vertex { x: 8_388_608, ..vertex });
     let [.., Vertex { y, .. }] = far;
-    let beyond =
-        format!("vertex 2 is out of range: x 8388608 and y {y} in 1/256 pixel (32768 and {} pixels)", f64::from(y) / 256.0);
+    let beyond = format!(
+        "vertex 2 is out of range: x 8388608 and y {y} in 1/256 pixel (32768 and {} pixels)",
+        f64::from(y) / 256.0
+    );
     let draws = [Draw::new(&good, Indices::InOrder), Draw::new(&far, &[2u32, 2, 2])];
     let mut window = Canvas::builder(1, 1).origin(-5, 0).build().unwrap();
     let message = |result: Result<(), Error>| result.unwrap_err().to_string();
@@ -564,7 +577,8 @@ fn tests_depths() {
 
 // ---- Edge functions
 
-/// A right triangle whose doubled area is 65,536, and a point that lies at a quarter of one side and an eighth of the other.
+/// A right triangle whose doubled area is 65,536, and a point that lies at a quarter of one side and an
+/// eighth of the other.
 #[test]
 fn gives_edge_functions() {
     let (a, b, c) = ([0, 0], [256, 0], [0, 256]);
@@ -581,9 +595,8 @@ fn gives_edge_functions() {
     assert_eq!(found[3], inside);
     assert_eq!(edges_at([a, b, c], &[]).unwrap(), []);
     let error = edges([a, b, [0, 8_388_608]], [0, 0]).unwrap_err();
-    let line =
-        "position out of range: corner 2: x 0 and y 8388608 in 1/256 pixel (0 and 32768 pixels); y: -8388608 to 8388607 \
-                (-32768 to 32767.99609375 pixels)";
+    let line = "position out of range: corner 2: x 0 and y 8388608 in 1/256 pixel (0 and 32768 pixels); \
+                y: -8388608 to 8388607 (-32768 to 32767.99609375 pixels)";
     assert_eq!((error.kind(), error.to_string().as_str()), (ErrorKind::BadPosition, line));
     assert_eq!(edges([a, b, c], [-8_388_609, 0]).unwrap_err().kind(), ErrorKind::BadPosition);
     let error = edges_at([a, b, c], &[[0, 0], [0, 8_388_608]]).unwrap_err();

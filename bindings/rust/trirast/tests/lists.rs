@@ -5,15 +5,17 @@ mod common;
 use std::fs;
 
 use trirast::{
-    draw, draw_by_threads, draw_into, draw_rows_into, image_info, triangle_samples, why, ErrorKind, ListCause, Listed, Outcome,
-    Reason, TileSize,
+    draw, draw_by_threads, draw_into, draw_rows_into, image_info, triangle_samples, why, ErrorKind, ListCause, Listed,
+    Outcome, Reason, TileSize,
 };
 
 const SIZES: [TileSize; 4] = [TileSize::Eight, TileSize::Sixteen, TileSize::ThirtyTwo, TileSize::SixtyFour];
-/// A white triangle over the upper left half of nine pixels. By the top-left rule it covers the first and second pixel of the
-/// first row, and the first of the second: the third of the diagonal lies on the edge that is neither top nor left.
+/// A white triangle over the upper left half of nine pixels. By the top-left rule it covers the first and second
+/// pixel of the first row, and the first of the second: the third of the diagonal lies on the edge that is
+/// neither top nor left.
 const TRIANGLE: &str = r#"{"width": 3, "height": 3, "draws": [{
-    "vertices": [[128, 128, 0, 255, 255, 255, 255], [640, 128, 0, 255, 255, 255, 255], [128, 640, 0, 255, 255, 255, 255]],
+    "vertices": [[128, 128, 0, 255, 255, 255, 255], [640, 128, 0, 255, 255, 255, 255],
+                 [128, 640, 0, 255, 255, 255, 255]],
     "triangles": [[0, 1, 2]]}]}"#;
 
 #[test]
@@ -81,7 +83,10 @@ fn says_why_a_sample_is_what_it_is() {
     assert_eq!((event.edges[1], event.doubled_area), (0, 262_144));
     assert!(why(TRIANGLE, 1, 1, 0, Listed::Covering).unwrap().events.is_empty());
     let drawn = why(TRIANGLE, 0, 0, 0, Listed::Covering).unwrap();
-    assert_eq!((drawn.events.len(), drawn.events[0].outcome, drawn.events[0].reasons().count()), (1, Outcome::Drawn, 0));
+    assert_eq!(
+        (drawn.events.len(), drawn.events[0].outcome, drawn.events[0].reasons().count()),
+        (1, Outcome::Drawn, 0)
+    );
     assert_eq!((drawn.events[0].fragment.unwrap().color, drawn.events[0].after), ([255; 4], drawn.end));
     assert_eq!(why(TRIANGLE, 3, 0, 0, Listed::All).unwrap_err().kind(), ErrorKind::BadPixel);
     assert_eq!(why(TRIANGLE, 0, 0, 1, Listed::All).unwrap_err().kind(), ErrorKind::BadSample);

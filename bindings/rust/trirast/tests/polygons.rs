@@ -1,4 +1,5 @@
-//! Polygons and tiles of a canvas: what the definition says of some, and what is refused. python.rs compares random ones.
+//! Polygons and tiles of a canvas: what the definition says of some, and what is refused. python.rs
+//! compares random ones.
 
 use trirast::{
     BatchCause, Blend, Canvas, Draw, ErrorKind, FillRule, Format, Indices, Polygons, State, Vertex, CANVAS_TILE_SIZE,
@@ -63,7 +64,8 @@ fn refuses_by_ring_polygon_and_corner() {
     let of_corners = format!("and there are {} corners", CORNERS.len());
     let (x, in_pixels) = (far[5][0], f64::from(far[5][0]) / 256.0);
     let place = format!(
-        "x {x} and y 8388608 in 1/256 pixel ({in_pixels} and 32768 pixels); y: -8388608 to 8388607 (-32768 to 32767.99609375 pixels)"
+        "x {x} and y 8388608 in 1/256 pixel ({in_pixels} and 32768 pixels); \
+         y: -8388608 to 8388607 (-32768 to 32767.99609375 pixels)"
     );
     let cases = [
         (
@@ -94,7 +96,12 @@ fn refuses_by_ring_polygon_and_corner() {
             None,
             "there are fewer colors than polygons: 2, and not 1".into(),
         ),
-        (whole.depths(&[1]), BatchCause::TooFewDepths, None, "there are fewer depths than polygons: 2, and not 1".into()),
+        (
+            whole.depths(&[1]),
+            BatchCause::TooFewDepths,
+            None,
+            "there are fewer depths than polygons: 2, and not 1".into(),
+        ),
     ];
     let mut canvas = cleared();
     for threads in THREADS {
@@ -139,7 +146,10 @@ fn reads_and_stores_tiles() {
         assert!((0..samples).zip(&before).all(|(sample, ids)| canvas.ids(sample).unwrap() == *ids));
         canvas.tile_store(0, 1, &[0xff03_0201]).unwrap();
         let ids = canvas.ids(samples - 1).unwrap();
-        assert_eq!((ids[64 * 130], ids[127 * 130 + 63], ids[64 * 130 + 64], ids[0]), (0x0003_0201, 0x0003_0201, WHITE, 9));
+        assert_eq!(
+            (ids[64 * 130], ids[127 * 130 + 63], ids[64 * 130 + 64], ids[0]),
+            (0x0003_0201, 0x0003_0201, WHITE, 9)
+        );
     }
 }
 
@@ -150,7 +160,10 @@ fn refuses_tiles_that_there_are_not() {
     for (column, row) in [(1, 0), (0, 4), (u32::MAX, u32::MAX)] {
         assert_eq!(canvas.tile_ids(column, row, &mut entries).unwrap_err().kind(), ErrorKind::BadTile);
         let error = canvas.tile_store(column, row, &entries).unwrap_err();
-        assert_eq!(error.to_string(), format!("no such tile: column 0 to 0 and row 0 to 3, and not {column} and {row}"));
+        assert_eq!(
+            error.to_string(),
+            format!("no such tile: column 0 to 0 and row 0 to 3, and not {column} and {row}")
+        );
     }
     let mut part = canvas.rows(1, 2).unwrap();
     assert_eq!(part.tile_ids(0, 0, &mut entries).unwrap_err().kind(), ErrorKind::BadTile);

@@ -1,11 +1,11 @@
-//! Scenes with what the Python package draws of them, and triangles in clip space with what the header in C makes of them:
-//! tools/checks/library/from_rust.py writes both. Without them there is nothing to compare with.
+//! Scenes with what the Python package draws of them, and triangles in clip space with what the header in C makes of
+//! them: tools/checks/library/from_rust.py writes both. Without them there is nothing to compare with.
 
 use std::{env, fs};
 
 use trirast::{
-    Blend, Canvas, Clear, Clip, DepthTest, Draw, Equation, Factor, FillRule, Format, Indices, NearPlane, Operation, Polygons,
-    Sides, State, Vertex,
+    Blend, Canvas, Clear, Clip, DepthTest, Draw, Equation, Factor, FillRule, Format, Indices, NearPlane, Operation,
+    Polygons, Sides, State, Vertex,
 };
 
 /// More threads than a canvas here has tile rows are among them.

@@ -10,8 +10,8 @@ pub struct Listed {
     pub written: Vec<u8>,
 }
 
-/// The manifest that TRIRAST_LISTS names has a line for each list: `drawn LIST FILE` or `refused LIST LINE`. Without it there
-/// is nothing to compare with.
+/// The manifest that TRIRAST_LISTS names has a line for each list: `drawn LIST FILE` or `refused LIST LINE`. Without it
+/// there is nothing to compare with.
 pub fn manifest() -> Vec<Listed> {
     let path = match env::var_os("TRIRAST_LISTS") {
         Some(path) => PathBuf::from(path),

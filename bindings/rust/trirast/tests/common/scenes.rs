@@ -84,7 +84,8 @@ impl Pick {
     }
 
     fn state(&mut self, width: u32, height: u32) -> State {
-        let scissor = [self.below(width), self.below(height), width, height - self.below(height)].map(|edge| edge as i32);
+        let scissor =
+            [self.below(width), self.below(height), width, height - self.below(height)].map(|edge| edge as i32);
         let mut state = State::new()
             .topology(self.one_of(&TOPOLOGIES[..2]))
             .cull(self.one_of(&CULLS))
@@ -141,8 +142,8 @@ fn vertex_of([x, y, depth, red, green, blue, alpha]: [u32; 7]) -> Vertex {
     Vertex::new(x as i32, y as i32, [red, green, blue, alpha].map(|channel| channel as u8)).at_depth(depth as u16)
 }
 
-/// The state of a draw: its two counts, topology, cull, depth test, whether depth is written, whether it is blended over what is
-/// stored, the channels that are kept, the samples that are skipped, and the scissor.
+/// The state of a draw: its two counts, topology, cull, depth test, whether depth is written, whether it is blended
+/// over what is stored, the channels that are kept, the samples that are skipped, and the scissor.
 fn state_of(draw: &[u32; 13]) -> State {
     let mut state = State::new()
         .topology(TOPOLOGIES[draw[2] as usize])
