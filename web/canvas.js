@@ -16,14 +16,19 @@ export const NO_ID = 0xffffff;
 export const BLEND_OVER = [5, 6, 1, 2, 6, 1, 0, 0, 0, 0];
 
 // The members of a draw's state, each of which is 0 if it is left out, with their least and greatest values.
-const STATE = { topology: UINT8, cull: UINT8, depth_test: UINT8, depth_write: UINT8, keep: UINT8, skip_samples: UINT16 };
+const STATE = {
+  topology: UINT8, cull: UINT8, depth_test: UINT8, depth_write: UINT8, keep: UINT8, skip_samples: UINT16,
+};
 // Those that are arrays.
 const ARRAYS = { scissor: [INT32, 4], blend: [UINT8, BLEND_OVER.length] };
 const CORNER = { x: INT32, y: INT32, depth: UINT16, red: UINT8, green: UINT8, blue: UINT8, alpha: UINT8 };
 
-/** Throws a TypeError or a RangeError if something is no state of a draw. Whether its numbers make sense is for the core to say. */
+/** Throws a TypeError or a RangeError if something is no state of a draw. Whether its numbers make sense is
+ * for the core to say. */
 function checkState(name, state) {
-  if (typeof state !== 'object' || state === null) throw new TypeError(`${name}: an object, and not ${state === null ? 'null' : typeof state}`);
+  if (typeof state !== 'object' || state === null) {
+    throw new TypeError(`${name}: an object, and not ${state === null ? 'null' : typeof state}`);
+  }
   for (const [key, value] of Object.entries(state)) {
     if (key in STATE) integer(`${name}.${key}`, value, STATE[key]);
     else if (key in ARRAYS) integers(`${name}.${key}`, value, ...ARRAYS[key]);
@@ -31,11 +36,14 @@ function checkState(name, state) {
   }
 }
 
-/** Throws a TypeError or a RangeError if something is no draw of a batch: a state, rows of the seven numbers of a vertex, and indices. */
+/** Throws a TypeError or a RangeError if something is no draw of a batch: a state, rows of the seven numbers of a
+ * vertex, and indices. */
 function checkDraw(draw, k) {
   const { state, vertices, indices } = Object(draw);
   checkState(`draws[${k}].state`, state);
-  if (!Array.isArray(vertices)) throw new TypeError(`draws[${k}].vertices: an array of rows, and not ${typeof vertices}`);
+  if (!Array.isArray(vertices)) {
+    throw new TypeError(`draws[${k}].vertices: an array of rows, and not ${typeof vertices}`);
+  }
   const ranges = Object.values(CORNER);
   for (const [n, row] of vertices.entries()) {
     integers(`draws[${k}].vertices[${n}]`, row, INT32, ranges.length);
@@ -47,13 +55,16 @@ function checkDraw(draw, k) {
 /** The members of a draw in C. */
 function membersOf({ state: { scissor, blend, ...numbers }, vertices, indices }) {
   const [scissor_left, scissor_top, scissor_right, scissor_bottom] = scissor ?? [0, 0, 0, 0];
-  const members = { ...numbers, scissor_enable: Number(Boolean(scissor)), scissor_left, scissor_top, scissor_right, scissor_bottom };
+  const members = {
+    ...numbers, scissor_enable: Number(Boolean(scissor)), scissor_left, scissor_top, scissor_right, scissor_bottom,
+  };
   return { ...members, vertex_count: vertices.length, index_count: indices.length, blend: blend ?? [] };
 }
 
 /** Draws with their vertices and indices, in the core's memory. */
 export class Batch {
-  /** Each draw has an object `state`, rows `vertices` and an array `indices`. Throws a TypeError or a RangeError if one has not. */
+  /** Each draw has an object `state`, rows `vertices` and an array `indices`. Throws a TypeError or a
+   * RangeError if one has not. */
   constructor(core, draws) {
     if (!Array.isArray(draws)) throw new TypeError(`draws: an array, and not ${typeof draws}`);
     // Not by forEach, which leaves out what an array lacks.
@@ -61,7 +72,8 @@ export class Batch {
     this.core = core;
     const indices = draws.flatMap((draw) => [...draw.indices]);
     const keys = Object.keys(CORNER);
-    const corners = draws.flatMap((draw) => draw.vertices).map((row) => Object.fromEntries(keys.map((key, place) => [key, row[place]])));
+    const corners = draws.flatMap((draw) => draw.vertices)
+      .map((row) => Object.fromEntries(keys.map((key, place) => [key, row[place]])));
     this.address = BATCH.put(core, {
       draws: DRAW.putAll(core, draws.map(membersOf)), draw_count: draws.length,
       vertices: VERTEX.putAll(core, corners), vertex_count: corners.length,
@@ -70,7 +82,8 @@ export class Batch {
   }
 }
 
-/** The samples of a picture, in the core's memory. Its calls throw a TypeError or a RangeError for what they do not take. */
+/** The samples of a picture, in the core's memory. Its calls throw a TypeError or a RangeError for what
+ * they do not take. */
 export class Canvas {
   constructor(core, width, height, samples) {
     integer('width', width, [1, MAX_SIDE]);
@@ -81,7 +94,9 @@ export class Canvas {
     const bytes = Number(core.calls.trirast_canvas_size(BigInt(this.address)));
     if (bytes === 0) throw new RangeError(`there is no canvas of ${width} by ${height} with ${samples} samples`);
     const memory = core.take(bytes);
-    CANVAS.set(core, this.address, { width, height, samples, end: Math.ceil(height / TILE_SIZE), memory, plane_count: bytes / PLANE_BYTES });
+    CANVAS.set(core, this.address, {
+      width, height, samples, end: Math.ceil(height / TILE_SIZE), memory, plane_count: bytes / PLANE_BYTES,
+    });
     this.error = ERROR.put(core, {});
   }
 
@@ -91,19 +106,25 @@ export class Canvas {
     integer('depth', depth, UINT16);
     const { core } = this;
     const [red, green, blue] = color;
-    this.#done('clear', core.within(() => core.calls.trirast_proved_canvas_clear(BigInt(this.address), BigInt(CLEAR.put(core, { red, green, blue, depth })))));
+    this.#done('clear', core.within(() => core.calls.trirast_proved_canvas_clear(
+      BigInt(this.address), BigInt(CLEAR.put(core, { red, green, blue, depth })),
+    )));
   }
 
   /** Draws a batch. Returns `null`, or the cause and the draw if the batch is refused. */
   draw(batch) {
     this.#own(batch);
-    return this.#error('draw', this.core.calls.trirast_proved_canvas_draw(BigInt(this.address), BigInt(batch.address), BigInt(this.error)));
+    return this.#error('draw', this.core.calls.trirast_proved_canvas_draw(
+      BigInt(this.address), BigInt(batch.address), BigInt(this.error),
+    ));
   }
 
   /** Stores the index of each triangle of a batch in place of its colour. */
   drawIds(batch) {
     this.#own(batch);
-    return this.#error('drawIds', this.core.calls.trirast_proved_canvas_draw_ids(BigInt(this.address), BigInt(batch.address), 0, BigInt(this.error)));
+    return this.#error('drawIds', this.core.calls.trirast_proved_canvas_draw_ids(
+      BigInt(this.address), BigInt(batch.address), 0, BigInt(this.error),
+    ));
   }
 
   /** Three bytes a pixel: the mean of its samples' colours. */
@@ -111,7 +132,9 @@ export class Canvas {
     const size = 3 * this.width * this.height;
     return this.core.within(() => {
       const pixels = this.core.take(size);
-      this.#done('colors', this.core.calls.trirast_canvas_resolve(BigInt(this.address), RGB8, BigInt(pixels), BigInt(size), 0n));
+      this.#done('colors', this.core.calls.trirast_canvas_resolve(
+        BigInt(this.address), RGB8, BigInt(pixels), BigInt(size), 0n,
+      ));
       return this.core.view(Uint8Array, pixels, size).slice();
     });
   }

@@ -38,7 +38,8 @@ function addSwitches(change) {
     find('switches').append(group);
     return (figure) => show(figure[name]);
   });
-  const [group, show] = choice('scissor', 'Scissor', { off: 'off', on: 'on' }, (value) => change({ scissor: value === 'on' ? FIRST_SCISSOR : null }));
+  const [group, show] = choice('scissor', 'Scissor', { off: 'off', on: 'on' },
+    (value) => change({ scissor: value === 'on' ? FIRST_SCISSOR : null }));
   find('switches').append(group);
   return [...shows, ({ scissor }) => show(scissor ? 'on' : 'off')];
 }
@@ -51,7 +52,8 @@ function addVertices(state) {
       points[index][axis] = snapped(value, pixels);
       state.change({ points });
     }));
-    find('vertices').append(make('tr', {}, make('th', { textContent: name }), ...fields.map(([input]) => make('td', {}, input))));
+    const cells = fields.map(([input]) => make('td', {}, input));
+    find('vertices').append(make('tr', {}, make('th', { textContent: name }), ...cells));
     return fields.map(([, show], axis) => ({ points }) => show(points[index][axis]));
   });
 }
@@ -70,7 +72,8 @@ function addScissor(state) {
   return [...shows, ({ scissor }) => { find('cut').hidden = !scissor; }];
 }
 
-/** The list of figures to begin with. It shows its title again once one is chosen, since any change leaves that figure. */
+/** The list of figures to begin with. It shows its title again once one is chosen, since any change
+ * leaves that figure. */
 function addShown(change) {
   const list = find('shown');
   list.append(...Object.keys(SHOWN).map((name) => make('option', { textContent: name })));
@@ -80,7 +83,8 @@ function addShown(change) {
   });
 }
 
-/** Adds all controls. `state` has the figure, and a function that changes it. Returns a function that shows a figure. */
+/** Adds all controls. `state` has the figure, and a function that changes it. Returns a function that
+ * shows a figure. */
 export function addControls(state) {
   const change = (changes) => state.change(changes);
   addShown(change);

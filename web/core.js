@@ -1,4 +1,5 @@
-// The calls of canvas.wasm.gz: the proved canvas, compiled for WebAssembly with 64-bit memory. include/trirast.h says what each does.
+// The calls of canvas.wasm.gz: the proved canvas, compiled for WebAssembly with 64-bit memory. include/trirast.h
+// says what each does.
 
 import { INT32, integer, integers } from './numbers.js';
 import { unpacked } from './packed.js';
@@ -14,9 +15,12 @@ export class LackingError extends Error {}
 
 /** The module and its memory. */
 export class Core {
-  /** Loads the module, gzipped or as it is. Throws a LackingError if the browser has no 64-bit memory, or there is no such file. */
+  /** Loads the module, gzipped or as it is. Throws a LackingError if the browser has no 64-bit memory, or
+   * there is no such file. */
   static async load(url) {
-    if (!globalThis.WebAssembly?.validate(MEMORY64)) throw new LackingError('This browser has no 64-bit memory for WebAssembly');
+    if (!globalThis.WebAssembly?.validate(MEMORY64)) {
+      throw new LackingError('This browser has no 64-bit memory for WebAssembly');
+    }
     const file = await fetch(url).catch(() => null);
     if (!file?.ok) throw new LackingError(`The file ${url} cannot be read`);
     const { instance } = await WebAssembly.instantiate(await (await unpacked(file)).arrayBuffer(), {});

@@ -42,7 +42,9 @@ function triangleOf(core, figure, number, isRefused) {
     const [x, y] = positionOf(figure, column, row, sample);
     return { ...edges.of(corners).at(x, y), drawn: ids[sample][row * COLUMNS + column] !== NO_ID };
   };
-  const kinds = corners.map((_, k) => (area === 0 ? '' : edgeKind(corners[(k + 1) % 3], corners[(k + 2) % 3], corners[k])));
+  const kinds = corners.map(
+    (_, k) => (area === 0 ? '' : edgeKind(corners[(k + 1) % 3], corners[(k + 2) % 3], corners[k])),
+  );
   return { indices: trianglesOf(figure)[number], corners, area, kinds, culled: isCulled(figure.cull, area), at };
 }
 
@@ -59,7 +61,8 @@ function samplesOf(figure, triangles) {
     for (let column = 0; column < COLUMNS; column++) {
       PATTERNS[figure.samples].forEach((_, sample) => {
         const position = positionOf(figure, column, row, sample);
-        samples.push({ column, row, sample, position, of: triangles.map((triangle) => triangle.at(column, row, sample)) });
+        const of = triangles.map((triangle) => triangle.at(column, row, sample));
+        samples.push({ column, row, sample, position, of });
       });
     }
   }

@@ -7,11 +7,12 @@ const TESTS = ['always', 'never', 'less', 'equal', 'less_equal', 'greater', 'not
 const PRIMITIVES = ['triangles', 'strip', 'quads'];
 const ALL_SAMPLES = 65535;
 
-// The causes for which a batch is refused, but for those of ids, of polygons and of vertices or indices that are missing or left over, with
-// their numbers and names as errors of lists. 18 is a `depth_write` that is no boolean, and 19 a `write` of too many of them.
+// The causes for which a batch is refused, but for those of ids, of polygons and of vertices or indices that are
+// missing or left over, with their numbers and names as errors of lists. 18 is a `depth_write` that is no boolean, and
+// 19 a `write` of too many of them.
 const ERRORS = {
-  4: '4 WrongKind', 6: '6 BadIndex', 7: '5 OutOfRange', 8: '10 NotConvex', 15: '5 OutOfRange', 16: '5 OutOfRange', 17: '5 OutOfRange',
-  18: '4 WrongKind', 19: '4 WrongKind', 20: '5 OutOfRange', 21: '5 OutOfRange', 22: '5 OutOfRange',
+  4: '4 WrongKind', 6: '6 BadIndex', 7: '5 OutOfRange', 8: '10 NotConvex', 15: '5 OutOfRange', 16: '5 OutOfRange',
+  17: '5 OutOfRange', 18: '4 WrongKind', 19: '4 WrongKind', 20: '5 OutOfRange', 21: '5 OutOfRange', 22: '5 OutOfRange',
 };
 
 /** An error of a list, in the program's words. */
@@ -23,8 +24,9 @@ export function errorLine({ cause, draw }) {
 function stateOf(draw, primitives) {
   const write = draw.write ?? [true, true, true];
   return {
-    topology: PRIMITIVES.indexOf(primitives), cull: CULLS.indexOf(draw.cull ?? 'none'), depth_test: TESTS.indexOf(draw.depth_test ?? 'always'),
-    depth_write: Number(draw.depth_write ?? false), keep: write.reduce((sum, isWritten, channel) => sum + (isWritten ? 0 : 1 << channel), 0),
+    topology: PRIMITIVES.indexOf(primitives), cull: CULLS.indexOf(draw.cull ?? 'none'),
+    depth_test: TESTS.indexOf(draw.depth_test ?? 'always'), depth_write: Number(draw.depth_write ?? false),
+    keep: write.reduce((sum, isWritten, channel) => sum + (isWritten ? 0 : 1 << channel), 0),
     skip_samples: ALL_SAMPLES & ~(draw.sample_mask ?? ALL_SAMPLES), scissor: draw.scissor ?? [0, 0, 4096, 4096],
     ...(draw.blend === 'over' ? { blend: BLEND_OVER } : {}),
   };
@@ -40,7 +42,9 @@ export function drawsOf(list) {
 
 /** The number of triangles of a list. */
 export function trianglesIn(list) {
-  const counts = list.draws.map((draw) => draw.triangles?.length ?? (draw.quads ? 2 * draw.quads.length : Math.max(0, draw.strip.length - 2)));
+  const counts = list.draws.map((draw) => (
+    draw.triangles?.length ?? (draw.quads ? 2 * draw.quads.length : Math.max(0, draw.strip.length - 2))
+  ));
   return counts.reduce((sum, count) => sum + count, 0);
 }
 

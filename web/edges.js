@@ -1,4 +1,5 @@
-// The edges of the figure's triangles. Each is drawn a little inside of its triangle, so a shared edge shows both of its sides.
+// The edges of the figure's triangles. Each is drawn a little inside of its triangle, so a shared edge
+// shows both of its sides.
 
 import { draw } from './elements.js';
 import { UNIT } from './figure.js';
@@ -17,7 +18,8 @@ export function edgesOf({ corners }) {
   return corners.map((_, k) => [corners[(k + 1) % 3], corners[(k + 2) % 3]]);
 }
 
-/** Draws a triangle's edges, this far inside: solid if top or left, else dotted. With `tags` these are where their words go. */
+/** Draws a triangle's edges, this far inside: solid if top or left, else dotted. With `tags` these are
+ * where their words go. */
 export function drawEdges(parent, triangle, number, inside, tags = null) {
   if (triangle.area === 0) return;
   const isClockwise = triangle.area > 0;
@@ -25,7 +27,9 @@ export function drawEdges(parent, triangle, number, inside, tags = null) {
   edgesOf(triangle).forEach((edge, k) => {
     const kind = triangle.kinds[k];
     const [from, to] = [0, 1].map((part) => along(edge, isClockwise, part, inside));
-    draw(parent, 'path', { class: `edge of${number} ${kind ? 'in' : 'out'}${more}`, 'data-kind': kind, d: `M${from}L${to}` });
+    draw(parent, 'path', {
+      class: `edge of${number} ${kind ? 'in' : 'out'}${more}`, 'data-kind': kind, d: `M${from}L${to}`,
+    });
     if (!tags || !kind || Math.hypot(edge[1][0] - edge[0][0], edge[1][1] - edge[0][1]) < 1.5 * UNIT) return;
     const [x, y] = along(edge, isClockwise, 0.5, 0.38);
     draw(tags, 'text', { class: `tag of${number}${more}`, x, y }, kind);

@@ -60,7 +60,8 @@ export class Examples {
 
   #addCards() {
     for (const name of Object.keys(this.lists)) {
-      const card = make('button', { type: 'button' }, make('canvas'), make('span', { textContent: name.replaceAll('_', ' ') }));
+      const caption = make('span', { textContent: name.replaceAll('_', ' ') });
+      const card = make('button', { type: 'button' }, make('canvas'), caption);
       card.dataset.name = name;
       card.addEventListener('click', () => this.choose(name));
       find('gallery').append(card);

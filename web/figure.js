@@ -1,4 +1,5 @@
-// What the explorer shows: four vertices, the two triangles over them, and the state in which they are drawn. A link holds all of it.
+// What the explorer shows: four vertices, the two triangles over them, and the state in which they are drawn. A
+// link holds all of it.
 
 export const COLUMNS = 16;
 export const ROWS = 12;
@@ -90,7 +91,9 @@ export function drawListOf(figure, tints) {
   if (figure.primitives === 'quad') {
     Object.assign(draw, { vertices: NAMES.map((_, index) => vertex(index, tints.quad)), quads: [quadOf(figure)] });
   } else {
-    const vertices = trianglesOf(figure).flatMap((triangle, k) => triangle.map((index) => vertex(index, tints.triangles[k])));
+    const vertices = trianglesOf(figure).flatMap(
+      (triangle, k) => triangle.map((index) => vertex(index, tints.triangles[k])),
+    );
     Object.assign(draw, { vertices, triangles: [[0, 1, 2], [3, 4, 5]] });
   }
   return { width: COLUMNS, height: ROWS, samples: Number(figure.samples), clear: tints.cell, draws: [draw] };
@@ -99,7 +102,9 @@ export function drawListOf(figure, tints) {
 /** The figure as the text of a link. */
 export function textOf(figure) {
   const parts = figure.points.map((point, index) => `${NAMES[index]}=${point}`);
-  for (const [name, values] of Object.entries(CHOICES)) if (figure[name] !== values[0]) parts.push(`${name}=${figure[name]}`);
+  for (const [name, values] of Object.entries(CHOICES)) {
+    if (figure[name] !== values[0]) parts.push(`${name}=${figure[name]}`);
+  }
   if (figure.scissor) parts.push(`scissor=${figure.scissor}`);
   return [...parts, `at=${figure.chosen}`].join('&');
 }
@@ -113,7 +118,9 @@ export function figureOf(text) {
     return fits ? words.map((word, k) => Math.min(Math.max(Number(word), limits[k][0]), limits[k][1])) : null;
   };
   const ends = [COLUMNS, ROWS].map((pixels) => [snapped(-Infinity, pixels), snapped(Infinity, pixels)]);
-  const choices = Object.entries(CHOICES).map(([name, values]) => [name, values.includes(given.get(name)) ? given.get(name) : values[0]]);
+  const choices = Object.entries(CHOICES).map(
+    ([name, values]) => [name, values.includes(given.get(name)) ? given.get(name) : values[0]],
+  );
   const figure = Object.fromEntries(choices);
   return {
     ...figure,

@@ -28,8 +28,12 @@ export class Grid {
     this.frame = draw(svg, 'rect', { class: 'scissor' });
     this.tags = draw(svg, 'g', {});
     this.ring = draw(svg, 'circle', { class: 'ring', r: 0.2 });
-    this.corners = CORNERS.map((name, k) => new Handle(svg, { name, kind: 'corner', step: UNIT, onMove: (to) => this.#cut(k, to) }));
-    this.vertices = NAMES.map((name, k) => new Handle(svg, { name, kind: 'vertex', step: 1, onMove: (to) => this.#move(k, to) }));
+    this.corners = CORNERS.map(
+      (name, k) => new Handle(svg, { name, kind: 'corner', step: UNIT, onMove: (to) => this.#cut(k, to) }),
+    );
+    this.vertices = NAMES.map(
+      (name, k) => new Handle(svg, { name, kind: 'vertex', step: 1, onMove: (to) => this.#move(k, to) }),
+    );
     svg.addEventListener('keydown', (event) => this.#key(event));
     svg.addEventListener('click', (event) => this.#choose(event));
   }
@@ -43,7 +47,9 @@ export class Grid {
     this.tags.replaceChildren();
     drawShared(this.edges, coverage.triangles[0]);
     coverage.triangles.forEach((triangle, k) => drawEdges(this.edges, triangle, k + 1, 0.06, this.tags));
-    this.vertices.forEach((handle, k) => handle.place(figure.points[k], `Vertex ${NAMES[k]} at ${positionName(figure.points[k])}`));
+    this.vertices.forEach(
+      (handle, k) => handle.place(figure.points[k], `Vertex ${NAMES[k]} at ${positionName(figure.points[k])}`),
+    );
     this.#showScissor(figure.scissor);
     this.#showChosen(figure);
   }
@@ -54,7 +60,9 @@ export class Grid {
       this.samples.replaceChildren();
       const r = RADII[samples.length / (COLUMNS * ROWS)];
       for (const { column, row, sample, position: [x, y] } of samples) {
-        draw(this.samples, 'circle', { class: 'sample', cx: x / UNIT, cy: y / UNIT, r, 'data-at': `${column},${row},${sample}` });
+        draw(this.samples, 'circle', {
+          class: 'sample', cx: x / UNIT, cy: y / UNIT, r, 'data-at': `${column},${row},${sample}`,
+        });
       }
     }
     const bits = (of, key) => of.map((each) => Number(each[key])).join('');
@@ -71,10 +79,14 @@ export class Grid {
     const [width, height] = [Math.max(0, right - left), Math.max(0, bottom - top)];
     update(this.veil, 'd', scissor ? `M0 0H${COLUMNS}V${ROWS}H0ZM${left} ${top}h${width}v${height}h${-width}Z` : '');
     for (const [name, value] of Object.entries({ x: left, y: top, width, height })) update(this.frame, name, value);
-    for (const element of [this.frame, ...this.corners.map(({ group }) => group)]) element.style.display = scissor ? '' : 'none';
+    for (const element of [this.frame, ...this.corners.map(({ group }) => group)]) {
+      element.style.display = scissor ? '' : 'none';
+    }
     const ends = [[left, top], [right, bottom]];
     this.corners.forEach((handle, k) => {
-      handle.place(ends[k].map((pixel) => UNIT * pixel), `Scissor, ${CORNERS[k]} corner at pixel ${positionName(ends[k])}`);
+      handle.place(
+        ends[k].map((pixel) => UNIT * pixel), `Scissor, ${CORNERS[k]} corner at pixel ${positionName(ends[k])}`,
+      );
     });
   }
 
@@ -92,7 +104,9 @@ export class Grid {
 
   #cut(corner, position) {
     const scissor = [...this.figure.scissor];
-    position.forEach((value, axis) => { scissor[2 * corner + axis] = Math.min(Math.max(Math.round(value / UNIT), 0), [COLUMNS, ROWS][axis]); });
+    position.forEach((value, axis) => {
+      scissor[2 * corner + axis] = Math.min(Math.max(Math.round(value / UNIT), 0), [COLUMNS, ROWS][axis]);
+    });
     this.change({ scissor });
   }
 
@@ -113,7 +127,9 @@ export class Grid {
     const at = positionIn(this.svg, event);
     const [column, row] = at.map((value) => Math.floor(value / UNIT));
     if (column < 0 || row < 0 || column >= COLUMNS || row >= ROWS) return;
-    const far = PATTERNS[this.figure.samples].map(([x, y]) => Math.hypot(UNIT * column + x - at[0], UNIT * row + y - at[1]));
+    const far = PATTERNS[this.figure.samples].map(
+      ([x, y]) => Math.hypot(UNIT * column + x - at[0], UNIT * row + y - at[1]),
+    );
     this.change({ chosen: [column, row, far.indexOf(Math.min(...far))] });
   }
 }

@@ -11,7 +11,8 @@ export function positionIn(svg, event) {
   return [UNIT * x, UNIT * y];
 }
 
-/** A handle with a name. `step` is what an arrow key moves it by, and `onMove` takes the position to which it is moved. */
+/** A handle with a name. `step` is what an arrow key moves it by, and `onMove` takes the position to
+ * which it is moved. */
 export class Handle {
   constructor(svg, { name, kind, step, onMove }) {
     Object.assign(this, { svg, step, onMove, name, position: [0, 0], grip: null });

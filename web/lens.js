@@ -1,4 +1,5 @@
-// The chosen pixel by itself, large: each sample with its position and the signs of the edge functions, or with its index.
+// The chosen pixel by itself, large: each sample with its position and the signs of the edge functions,
+// or with its index.
 
 import { draw, find } from './elements.js';
 import { drawEdges } from './edges.js';
@@ -17,12 +18,15 @@ export function showLens(svg, figure, coverage) {
   draw(svg, 'rect', { class: 'cell', x: column, y: row, width: 1, height: 1, fill: css(color) });
   coverage.triangles.forEach((triangle, k) => drawEdges(svg, triangle, k + 1, 0.006));
   for (const sample of coverage.samples) {
-    if (sample.column === column && sample.row === row) showSample(svg, sample, sample.sample === chosen, Number(figure.samples) > 4);
+    if (sample.column === column && sample.row === row) {
+      showSample(svg, sample, sample.sample === chosen, Number(figure.samples) > 4);
+    }
   }
   find('pixel').textContent = `Pixel (${column}, ${row})`;
 }
 
-/** Shows a sample. Beside it stand its position and the signs for each triangle, or its index alone where there are many. */
+/** Shows a sample. Beside it stand its position and the signs for each triangle, or its index alone
+ * where there are many. */
 function showSample(svg, { position, sample, of }, isChosen, isOneOfMany) {
   const [x, y] = position.map((value) => value / UNIT);
   const bits = (key) => of.map((each) => Number(each[key])).join('');
@@ -36,5 +40,7 @@ function showSample(svg, { position, sample, of }, isChosen, isOneOfMany) {
     return;
   }
   draw(svg, 'text', { class: 'note', y: y - LINE, ...more }, positionName(position));
-  of.forEach(({ values }, k) => draw(svg, 'text', { class: `note signs of${k + 1}`, y: y + k * LINE, ...more }, values.map(signOf).join(' ')));
+  of.forEach(({ values }, k) => draw(
+    svg, 'text', { class: `note signs of${k + 1}`, y: y + k * LINE, ...more }, values.map(signOf).join(' '),
+  ));
 }

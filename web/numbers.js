@@ -1,11 +1,13 @@
-// The numbers that callers pass. The core takes integers of 8, 16 or 32 bits, and WebAssembly cuts all else to these without a word.
+// The numbers that callers pass. The core takes integers of 8, 16 or 32 bits, and WebAssembly cuts all else to
+// these without a word.
 
 export const UINT8 = [0, 2 ** 8 - 1];
 export const UINT16 = [0, 2 ** 16 - 1];
 export const INT32 = [-(2 ** 31), 2 ** 31 - 1];
 export const UINT32 = [0, 2 ** 32 - 1];
 
-/** The value, if it is an integer from the least to the most. Throws a TypeError if it is no number, and else a RangeError. */
+/** The value, if it is an integer from the least to the most. Throws a TypeError if it is no number, and
+ * else a RangeError. */
 export function integer(name, value, [least, most]) {
   if (typeof value !== 'number') throw new TypeError(`${name}: an integer, and not ${typeof value}`);
   if (!Number.isInteger(value) || value < least || value > most) {
@@ -14,7 +16,8 @@ export function integer(name, value, [least, most]) {
   return value;
 }
 
-/** The values, if they are an array of such integers. Throws the same errors, and a RangeError if there are not so many. */
+/** The values, if they are an array of such integers. Throws the same errors, and a RangeError if there
+ * are not so many. */
 export function integers(name, values, range, count = values?.length) {
   if (!Array.isArray(values) && !(ArrayBuffer.isView(values) && 'length' in values)) {
     throw new TypeError(`${name}: an array of integers, and not ${values === null ? 'null' : typeof values}`);

@@ -78,7 +78,9 @@ class Page {
     this.showControls(this.figure);
     const { error } = coverage;
     find('refused').hidden = !error;
-    if (error) find('refused').textContent = `Nothing is drawn, since ${errorLine(error)}. A quad has to be strictly convex.`;
+    if (error) {
+      find('refused').textContent = `Nothing is drawn, since ${errorLine(error)}. A quad has to be strictly convex.`;
+    }
   }
 
   #writeLinkSoon() {

@@ -53,10 +53,13 @@ export function showReadout(figure, coverage) {
   find('which').textContent = `Sample ${index} at ${positionName(positionOf(figure, ...figure.chosen))}`;
   const rows = coverage.triangles.flatMap((triangle, k) => {
     const words = `${nameOf(triangle.indices)}: ${outcome(sample.of[k], triangle, coverage.error)}`;
-    const head = make('tr', { className: 'outcome' }, make('td', { colSpan: 5, className: `of${k + 1}`, textContent: words }));
+    const cell = make('td', { colSpan: 5, className: `of${k + 1}`, textContent: words });
+    const head = make('tr', { className: 'outcome' }, cell);
     return [head, ...showEdges(triangle, k, sample.of[k])];
   });
   find('edges').replaceChildren(...rows);
-  const names = coverage.triangles.map((triangle, k) => make('b', { className: `of${k + 1}`, textContent: edgeNames(triangle).join(' ') }));
+  const names = coverage.triangles.map(
+    (triangle, k) => make('b', { className: `of${k + 1}`, textContent: edgeNames(triangle).join(' ') }),
+  );
   find('order').replaceChildren('Signs of the edge functions, in this order: ', names[0], ' and ', names[1]);
 }

@@ -1,4 +1,5 @@
-// The colours of pixels, in light and in dark. They are those of the draw list too, so the program draws what the page shows.
+// The colours of pixels, in light and in dark. They are those of the draw list too, so the program draws
+// what the page shows.
 
 const LIGHT = { cell: [255, 255, 255], triangles: [[178, 206, 250], [255, 207, 160]], quad: [226, 196, 240] };
 const DARK = { cell: [24, 28, 33], triangles: [[35, 66, 117], [112, 62, 20]], quad: [84, 46, 104] };
