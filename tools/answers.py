@@ -27,7 +27,8 @@ class Answer(NamedTuple):
 
 
 def keep(name: str, text: bytes) -> str:
-    """Leaves a list whose answer differs in out/compare/. Returns the name of the file, from the top of the repository."""
+    """Leaves a list whose answer differs in out/compare/. Returns the name of the file, from the top of
+    the repository."""
     folder = os.path.join(OUT, "compare")
     os.makedirs(folder, exist_ok=True)
     path = os.path.join(folder, f"{name}.json")

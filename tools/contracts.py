@@ -3,10 +3,10 @@
     python3 -m tools.contracts BEFORE [AFTER]
 
 BEFORE and AFTER are folders of checkouts, as `git worktree add out/before REVISION` makes one. AFTER is this one if it
-is left out. A public call is found by its owner and name, and a definition by its name, in whichever file they stand. What
-moved from crate OLD to NEW is found by --crate OLD=NEW, and other names that were changed by --rename OLD=NEW. Where lines
-break does not count. Prints a diff of each that is not the same, then the counts. Exit status 1 if a contract or a
-definition differs or is gone.
+is left out. A public call is found by its owner and name, and a definition by its name, in whichever file they stand.
+What moved from crate OLD to NEW is found by --crate OLD=NEW, and other names that were changed by --rename OLD=NEW.
+Where lines break does not count. Prints a diff of each that is not the same, then the counts. Exit status 1 if a
+contract or a definition differs or is gone.
 """
 
 from __future__ import annotations
@@ -56,7 +56,8 @@ def mapped(text: str, words: dict[str, str], moved: dict[str, str]) -> str:
 
 
 def flat(text: str) -> str:
-    """The text without its layout: on one line, with no space beside a bracket, and with no comma or semicolon before one that closes."""
+    """The text without its layout: on one line, with no space beside a bracket, and with no comma or semicolon
+    before one that closes."""
     text = re.sub(r"\s*([()\[\]{}])\s*", r"\1", " ".join(text.split()))
     return re.sub(r"[,;](?=[)\]}])", "", text)
 
@@ -66,7 +67,8 @@ def lines_of(texts: list[str]) -> list[str]:
 
 
 def compare(before: Items, after: Items, words: dict[str, str], moved: dict[str, str]) -> bool:
-    """Prints a diff of each item that is not the same, and the counts. Returns whether all that was before is the same."""
+    """Prints a diff of each item that is not the same, and the counts. Returns whether all that was
+    before is the same."""
     renamed: Items = {}
     for name, texts in after.items():
         renamed.setdefault(mapped(name, words, moved), []).extend(mapped(text, words, moved) for text in texts)
@@ -91,11 +93,17 @@ def compare(before: Items, after: Items, words: dict[str, str], moved: dict[str,
 def main() -> int:
     parser = argparse.ArgumentParser(description="Compares the public contracts and definitions of two trees.")
     parser.add_argument("before", type=Path, metavar="BEFORE", help="the folder of a checkout")
-    parser.add_argument("after", type=Path, nargs="?", default=Path(TOP), metavar="AFTER", help="another (default: this one)")
+    parser.add_argument(
+        "after", type=Path, nargs="?", default=Path(TOP), metavar="AFTER", help="another (default: this one)"
+    )
     parser.add_argument("--rename", action="append", default=[], metavar="OLD=NEW", help="a name that was changed")
-    parser.add_argument("--crate", action="append", default=[], metavar="OLD=NEW", help="a crate from which something moved")
+    parser.add_argument(
+        "--crate", action="append", default=[], metavar="OLD=NEW", help="a crate from which something moved"
+    )
     options = parser.parse_args()
-    words, moved = ({new: old for old, new in (pair.split("=") for pair in pairs)} for pairs in (options.rename, options.crate))
+    words, moved = (
+        {new: old for old, new in (pair.split("=") for pair in pairs)} for pairs in (options.rename, options.crate)
+    )
     return 0 if compare(items(options.before), items(options.after), words, moved) else 1
 
 

@@ -1,10 +1,11 @@
-"""Writes the lines at the head of each crate's specs/Lib.antt: each public definition, and the first sentence of its comment. Also the
-table of docs/architecture.md with the files of each crate.
+"""Writes the lines at the head of each crate's specs/Lib.antt: each public definition, and the first sentence of its
+comment. Also the table of docs/architecture.md with the files of each crate.
 
     python3 -m tools.definitions [--check] [CRATE ...]
 
-With --check it writes nothing, names what is wrong, and exits with status 1 if something is: a definition without a comment of its
-own, a comment that is no sentence, a line longer than 140 columns, or a Lib.antt whose lines are not those of the definitions.
+With --check it writes nothing, names what is wrong, and exits with status 1 if something is: a definition without a
+comment of its own, a comment that is no sentence, a line longer than 140 columns, or a Lib.antt whose lines are not
+those of the definitions.
 """
 
 from __future__ import annotations
@@ -27,7 +28,10 @@ LONGEST = 140
 MODULE = re.compile(r"^pub mod (\w+)$", re.MULTILINE)
 # The table of all files stands on this page, under this heading.
 PAGE, HEADING = os.path.join("docs", "architecture.md"), "## Where each rule lives"
-OPENING = "-- The definitions of this crate, each file behind those that it uses; `python3 -m tools.definitions` writes these lines."
+OPENING = (
+    "-- The definitions of this crate, each file behind those that it uses; `python3 -m "
+    "tools.definitions` writes these lines."
+)
 
 
 def faults_of(defined: Defined) -> Iterator[str]:
@@ -51,10 +55,15 @@ def file_of(crate: str, module: str) -> str:
 def reading_order(crate: str, modules: list[str]) -> list[str]:
     """The modules of a crate in the order in which Lib.antt has them, but each behind those that it uses."""
     texts = {module: text_of(file_of(crate, module)) for module in modules}
-    uses = {module: set(re.findall(rf"^use Rattle\.{crate}\.specs\.(\w+)\b", texts[module], re.MULTILINE)) for module in modules}
+    uses = {
+        module: set(re.findall(rf"^use Rattle\.{crate}\.specs\.(\w+)\b", texts[module], re.MULTILINE))
+        for module in modules
+    }
     placed: list[str] = []
     while len(placed) < len(modules):
-        placed.append(next(one for one in modules if one not in placed and uses[one].intersection(modules) <= {*placed, one}))
+        placed.append(
+            next(one for one in modules if one not in placed and uses[one].intersection(modules) <= {*placed, one})
+        )
     return placed
 
 
@@ -96,13 +105,19 @@ def faults(crate: str) -> Iterator[str]:
         path = file_of(crate, module)
         for one in definitions_in(text_of(path)):
             yield from (f"{path}: {fault}" for fault in faults_of(one))
-    present = {os.path.basename(path).removesuffix(".antt") for path in places.files("crates", crate, "specs", "*.antt")}
+    present = {
+        os.path.basename(path).removesuffix(".antt") for path in places.files("crates", crate, "specs", "*.antt")
+    }
     for module in sorted(present - {"Lib", *modules}):
         yield f"{file_of(crate, 'Lib')}: {module} is no module of it"
     stands = text_of(file_of(crate, "Lib"))
-    had, expected = stands.removesuffix(without_head(stands)).rstrip("\n").split("\n"), head_of(crate).rstrip("\n").split("\n")
+    had, expected = (
+        stands.removesuffix(without_head(stands)).rstrip("\n").split("\n"), head_of(crate).rstrip("\n").split("\n")
+    )
     yield from (f"{file_of(crate, 'Lib')}: this line is missing: {line}" for line in expected if line not in had)
-    yield from (f"{file_of(crate, 'Lib')}: this line is of no definition: {line}" for line in had if line not in expected)
+    yield from (
+        f"{file_of(crate, 'Lib')}: this line is of no definition: {line}" for line in had if line not in expected
+    )
     if set(had) == set(expected) and had != expected:
         yield f"{file_of(crate, 'Lib')}: its lines are not in reading order"
 

@@ -2,13 +2,15 @@
 
     python3 -m tools.prove [--jobs N] [--cpu NAME] CRATE [WORD ..] < INPUT
 
-`rt check` proves the crate that all others wait for, with all processors. `rt all check` then proves those that can stand side by
-side; in it a crate that waits for another keeps its place, so there are WAITING places more than processors. As soon as only crates
-are left beside which nothing can be proved, it is ended, and `rt run` in the program's folder proves these, each with all processors,
-builds the program, and runs it on the input, with the words as its arguments. What it writes is discarded.
+`rt check` proves the crate that all others wait for, with all processors. `rt all check` then proves those that can
+stand side by side; in it a crate that waits for another keeps its place, so there are WAITING places more than
+processors. As soon as only crates are left beside which nothing can be proved, it is ended, and `rt run` in the
+program's folder proves these, each with all processors, builds the program, and runs it on the input, with the words as
+its arguments. What it writes is discarded.
 
-What rt prints goes to out/CRATE.log. Each line here is the time so far, a crate and the number of its functions. The command is
-`rt`, or the environment's RT. The exit status is that of the command that failed. If it is not 0, the last line names the log.
+What rt prints goes to out/CRATE.log. Each line here is the time so far, a crate and the number of its functions. The
+command is `rt`, or the environment's RT. The exit status is that of the command that failed. If it is not 0, the
+last line names the log.
 """
 
 from __future__ import annotations
@@ -39,7 +41,8 @@ class Clock:
 
 
 def alone(crate: str, uses: Uses) -> list[str]:
-    """The crates beside which no other can be proved, lowest first: of a program's crates, those that each other uses or is used by."""
+    """The crates beside which no other can be proved, lowest first: of a program's crates, those that each other
+    uses or is used by."""
     names = below(crate, uses) | {crate}
     under = {name: below(name, uses) for name in names}
     found = [name for name in names if all(name in under[other] or other in under[name] for other in names - {name})]
@@ -56,7 +59,8 @@ class Prover:
         self.proved: set[str] = set()
 
     def rt(self, words: Sequence[str], crate: str, until: Collection[str] = ()) -> int:
-        """Runs rt in a crate's folder, and returns the status. If crates are named, it is ended when these are proved."""
+        """Runs rt in a crate's folder, and returns the status. If crates are named, it is ended when
+        these are proved."""
         command = [os.environ.get("RT", "rt"), *words]
         # Under `rt run` the program has the input and standard output, and rt prints on standard error.
         is_run = words[0] == "run"
@@ -107,7 +111,9 @@ def main() -> int:
     parser = argparse.ArgumentParser(description="Proves the crates that a program needs, and builds the program.")
     parser.add_argument("program", metavar="CRATE", help="its name in crates/")
     parser.add_argument("arguments", nargs="*", metavar="WORD", help="an argument that it is run with")
-    parser.add_argument("--jobs", type=int, default=os.cpu_count() or 1, metavar="N", help="crates at once (one a processor)")
+    parser.add_argument(
+        "--jobs", type=int, default=os.cpu_count() or 1, metavar="N", help="crates at once (one a processor)"
+    )
     parser.add_argument("--cpu", metavar="NAME", help="the processor that it is built for")
     options = parser.parse_args()
     os.makedirs(OUT, exist_ok=True)

@@ -1,8 +1,10 @@
-"""Draws the pictures of docs/ that show rules, over what the program draws. Needs matplotlib (Debian's python3-matplotlib).
+"""Draws the pictures of docs/ that show rules, over what the program draws. Needs matplotlib (Debian's
+python3-matplotlib).
 
     python3 -m tools.rule_pictures
 
-Writes docs/first_list.svg, docs/top_left.svg and docs/shared_edge.svg. Each pixel has the colour that bin/trirast gave it.
+Writes docs/first_list.svg, docs/top_left.svg and docs/shared_edge.svg. Each pixel has the colour that
+bin/trirast gave it.
 """
 
 from __future__ import annotations
@@ -86,7 +88,8 @@ def white(width: int, height: int, *triangles: list[Vertex]) -> DrawList:
 
 
 def first_list() -> Figure:
-    """The triangle of the first list of docs/draw-list.md on its nine pixels, in blue on white in place of white on black."""
+    """The triangle of the first list of docs/draw-list.md on its nine pixels, in blue on white in place
+    of white on black."""
     corners = triangle(BLUE, (0.5, 0.5), (2.5, 0.5), (0.5, 2.5))
     figure, axes = axes_of(white(3, 3, corners), 1)
     outlines(axes, corners)

@@ -3,10 +3,11 @@
     python3 -m pytest tools/checks/allocation_failures.py
 
 If an allocation fails, a run ends as it would have without (a vector that could grow ahead of need grows by less, and a
-batch of tile rows whose workers are out of memory is drawn again by the calling thread), or with status 1, the line `trirast:
-out of memory` and exactly the tile rows before the one for which the calling thread had no memory. bin/refused_tiles, which draws
-the tiles of a list in one tile buffer, goes on after a refusal: the tiles that follow are right. The program's line names no
-draw, so the draw in which memory ran out is seen by crates/list_bench, which prints it. Needs gcc.
+batch of tile rows whose workers are out of memory is drawn again by the calling thread), or with status 1, the line
+`trirast: out of memory` and exactly the tile rows before the one for which the calling thread had no memory.
+bin/refused_tiles, which draws the tiles of a list in one tile buffer, goes on after a refusal: the tiles that follow
+are right. The program's line names no draw, so the draw in which memory ran out is seen by crates/list_bench, which
+prints it. Needs gcc.
 """
 
 from __future__ import annotations
@@ -22,8 +23,8 @@ from tools.draw_list import Draw, DrawList, draw, draw_list, encode, vertex
 from tools.checks.injection import Refusal, Run
 from tools.places import PROGRAM, READER_PROGRAM, TILES_PROGRAM, bytes_of
 from tools.small_pictures import (
-    FIRST, FIRST_DRAW, FIRST_PICTURE, FIRST_VERTICES, LARGE, LARGE_BEGINNINGS, LARGE_HEADER, LARGE_PICTURE, OUT_OF_MEMORY,
-    SQUARE_PICTURE, SQUARE_VERTICES,
+    FIRST, FIRST_DRAW, FIRST_PICTURE, FIRST_VERTICES, LARGE, LARGE_BEGINNINGS, LARGE_HEADER, LARGE_PICTURE,
+    OUT_OF_MEMORY, SQUARE_PICTURE, SQUARE_VERTICES,
 )
 
 
@@ -34,7 +35,9 @@ class AllocationTest(injection.InjectionTest):
         """A run for each allocation that fails, from the first on."""
         return self.each_run(lambda number: self.run_once(arguments, text, allocation=number))
 
-    def cut_runs(self, arguments: Sequence[str], text: bytes, status: int, output: bytes, line: bytes = b"") -> list[Run]:
+    def cut_runs(
+        self, arguments: Sequence[str], text: bytes, status: int, output: bytes, line: bytes = b""
+    ) -> list[Run]:
         """The runs that were cut short; all others ended as they would have without a refusal."""
         whole = (output, line, status)
         cut = [run for run in self.runs(arguments, text) if (run.output, run.line, run.status) != whole]
@@ -48,9 +51,10 @@ class AllocationTest(injection.InjectionTest):
 class TileRows(AllocationTest):
     """A picture of 24 tile rows, which several workers draw in batches of three.
 
-    Which tile row was refused is known without the picture: one worker is the calling thread, and the tiles that it allocated
-    say how far it came. Of several workers the threads that were started say which batch was being drawn. The calling thread
-    allocates tiles only where it draws a batch again, so their number says how far it came in that batch.
+    Which tile row was refused is known without the picture: one worker is the calling thread, and the tiles
+    that it allocated say how far it came. Of several workers the threads that were started say which batch was
+    being drawn. The calling thread allocates tiles only where it draws a batch again, so their number says how
+    far it came in that batch.
     """
 
     tile_bytes = tall.TILE_BYTES
@@ -65,7 +69,8 @@ class TileRows(AllocationTest):
     def tearDownClass(cls) -> None:
         for workers, found in sorted(cls.found.items()):
             print(
-                f"{tall.ROWS} tile rows, workers {workers}: {found['runs']} runs with refusals, {found['faults']} of them out of "
+                f"{tall.ROWS} tile rows, workers {workers}: {found['runs']} runs with refusals, "
+                f"{found['faults']} of them out of "
                 "memory, each after exactly the whole tile rows before the refused one",
                 flush=True,
             )
@@ -77,7 +82,8 @@ class TileRows(AllocationTest):
         return self.each_run(lambda number: self.run_tall(workers, allocation=number, **refused))
 
     def check_runs(self, workers: int, runs: list[Run], row_of: Callable[[Refusal, Refusal], int]) -> set[int]:
-        """Checks that each run wrote the picture, or exactly the tile rows before the refused one. These rows, without repeats."""
+        """Checks that each run wrote the picture, or exactly the tile rows before the refused one. These
+        rows, without repeats."""
         rows = set()
         for run in runs:
             if run.status == 0:
@@ -120,8 +126,8 @@ class TileRows(AllocationTest):
         self.check_runs(workers, runs, lambda _first, _last: 0)
 
     def test_one_refusal_of_two_workers(self) -> None:
-        """Catches a body that draws a batch again from its second tile row on, that writes a tile row or a batch twice, that
-        loses the batch above, or that draws nothing again."""
+        """Catches a body that draws a batch again from its second tile row on, that writes a tile row or a batch twice,
+        that loses the batch above, or that draws nothing again."""
         self.check_one_refusal(2)
 
     def test_one_refusal_of_four_workers(self) -> None:
@@ -129,8 +135,8 @@ class TileRows(AllocationTest):
         self.check_one_refusal(4)
 
     def gathering(self, workers: int) -> int:
-        """How many allocations the calling thread makes after it joined the workers of a batch until the batch is done, which is
-        when the one above is written: as many as before the first batch was written."""
+        """How many allocations the calling thread makes after it joined the workers of a batch until the batch is done,
+        which is when the one above is written: as many as before the first batch was written."""
         third_batch = 2 * workers + 1
         return self.run_tall(workers, thread=third_batch).refusals[0].at_write
 
@@ -159,18 +165,20 @@ class TileRows(AllocationTest):
         self.check_each_later_allocation(4)
 
     def check_drawing_again(self, workers: int) -> None:
-        """The first or the last thread of a batch is not started, and then an allocation of the calling thread fails, each in
-        turn. So the batch that is drawn again is known by the number of the thread."""
+        """The first or the last thread of a batch is not started, and then an allocation of the calling thread fails,
+        each in turn. So the batch that is drawn again is known by the number of the thread."""
         for batch in (0, 4, 7):
             for thread in (batch * workers + 1, (batch + 1) * workers):
                 again = self.each_run(lambda later: self.run_tall(workers, thread=thread, later=later), least=2)
-                rows = self.check_runs(workers, again, lambda _first, last: tall.TOGETHER * batch + last.tiles // tall.COLUMNS)
+                rows = self.check_runs(
+                    workers, again, lambda _first, last: tall.TOGETHER * batch + last.tiles // tall.COLUMNS
+                )
                 first = tall.TOGETHER * batch
                 self.assertEqual(rows, set(range(first, first + tall.TOGETHER)))
 
     def test_drawing_again_for_two_workers(self) -> None:
-        """Catches a body that fails before it has written the whole tile rows of a batch that is drawn again, that writes one of
-        them twice, that begins with the second, or that loses the batch above."""
+        """Catches a body that fails before it has written the whole tile rows of a batch that is drawn again, that
+        writes one of them twice, that begins with the second, or that loses the batch above."""
         self.check_drawing_again(2)
 
     def test_drawing_again_for_four_workers(self) -> None:
@@ -261,7 +269,8 @@ class Lists(AllocationTest):
 
 
 class Draws(AllocationTest):
-    """`OutOfMemory` is reported with the draw that was being read, and without one before the first draw and after the last."""
+    """`OutOfMemory` is reported with the draw that was being read, and without one before the first draw
+    and after the last."""
 
     program = READER_PROGRAM
 

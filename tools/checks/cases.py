@@ -37,7 +37,9 @@ class Case:
     is_long: bool = False
 
 
-def case(name: str, check: Callable[..., object], *arguments: Any, needs: str = "", is_long: bool = False, **named: Any) -> Case:
+def case(
+    name: str, check: Callable[..., object], *arguments: Any, needs: str = "", is_long: bool = False, **named: Any
+) -> Case:
     return Case(name, check, arguments, named, needs, is_long)
 
 
@@ -64,8 +66,8 @@ def passes(it: Case) -> bool:
 
 
 def run(it: Case) -> None:
-    """Runs a case as a test. It is skipped if the machine lacks what it needs, or if the case did not pass without which it
-    shows nothing."""
+    """Runs a case as a test. It is skipped if the machine lacks what it needs, or if the case did not pass without
+    which it shows nothing."""
     if OUTCOMES.get(it.name):
         return
     OUTCOMES[it.name] = False

@@ -2,8 +2,8 @@
 
     python3 -m pytest tools/checks/fault_injection.py
 
-Each run ends by itself, with the picture or with one line and its status. What the system here does not have is named and
-skipped, as is gcc, by which single threads are refused. Linux alone.
+Each run ends by itself, with the picture or with one line and its status. What the system here does not have is named
+and skipped, as is gcc, by which single threads are refused. Linux alone.
 """
 
 from __future__ import annotations
@@ -50,7 +50,9 @@ def triangle(*corners: tuple[int, int]) -> Draw:
 
 def run(text: bytes | None, *arguments: str | bytes, program: str = PROGRAM, **how: Any) -> Answer:
     """A run on this list. Further arguments are given to `subprocess.run`; a stream that they name is not captured."""
-    streams: dict[str, Any] = {"input": text, "stdout": subprocess.PIPE, "stderr": subprocess.PIPE, "timeout": MAX_SECONDS, **how}
+    streams: dict[str, Any] = {
+        "input": text, "stdout": subprocess.PIPE, "stderr": subprocess.PIPE, "timeout": MAX_SECONDS, **how
+    }
     done = subprocess.run([program, *arguments], **streams)
     return Answer(done.returncode, done.stdout or b"", done.stderr)
 
@@ -102,7 +104,8 @@ class Outputs(unittest.TestCase):
         self.assertEqual(run_by_shell(">&-", FIRST), (1, b"", written(0)))
 
     def test_file_that_takes_each_number_of_bytes(self) -> None:
-        """A file with a limit to its length takes that many bytes and refuses the next one, for each limit with one worker."""
+        """A file with a limit to its length takes that many bytes and refuses the next one, for each
+        limit with one worker."""
         with tempfile.TemporaryFile() as list_file, tempfile.TemporaryFile() as file:
             list_file.write(LARGE_TEXT)
             list_file.flush()
@@ -145,7 +148,9 @@ class Outputs(unittest.TestCase):
         self.assertTrue(WIDE_PICTURE.startswith(held))
 
     def test_reader_that_goes_away(self) -> None:
-        with subprocess.Popen([PROGRAM], stdin=subprocess.PIPE, stdout=subprocess.PIPE, stderr=subprocess.PIPE) as child:
+        with subprocess.Popen(
+            [PROGRAM], stdin=subprocess.PIPE, stdout=subprocess.PIPE, stderr=subprocess.PIPE
+        ) as child:
             assert child.stdin and child.stdout and child.stderr
             child.stdin.write(WIDE)
             child.stdin.close()
@@ -246,10 +251,13 @@ class Threads(unittest.TestCase):
 
 
 class RefusedThreads(injection.InjectionTest):
-    """A picture of eight batches is whole if one thread is not started, whichever it is, and if no later one is either."""
+    """A picture of eight batches is whole if one thread is not started, whichever it is, and if no
+    later one is either."""
 
     def check_threads(self, workers: int, later: int = 0) -> None:
-        runs = self.each_run(lambda number: self.run_once(tall.arguments(workers), tall.LIST, thread=number, later=later))
+        runs = self.each_run(
+            lambda number: self.run_once(tall.arguments(workers), tall.LIST, thread=number, later=later)
+        )
         # Each batch has a thread for each worker, and those before the refused one were started.
         threads = workers * tall.ROWS // tall.TOGETHER
         self.assertEqual([run.refusals[0].started for run in runs], list(range(threads)))
@@ -268,7 +276,8 @@ class RefusedThreads(injection.InjectionTest):
         for megabytes in range(3, 64):
             most = megabytes * 1024 * 1024
             run = self.run_once(
-                tall.arguments(4), tall.LIST, preexec_fn=lambda most=most: resource.setrlimit(resource.RLIMIT_AS, (most, most))
+                tall.arguments(4), tall.LIST,
+                preexec_fn=lambda most=most: resource.setrlimit(resource.RLIMIT_AS, (most, most)),
             )
             # With less the system cannot load the program, or memory is refused.
             if run.status == 0:

@@ -1,10 +1,12 @@
-"""Makes up calls of the Python package by hypothesis, and compares the picture after each with one drawn in the plainest way.
+"""Makes up calls of the Python package by hypothesis, and compares the picture after each with one drawn
+in the plainest way.
 
     python3 -m tools.checks.fuzz_package [--calls 10000]
 
-It needs the library (make library), and numpy, hypothesis and pytest: in Debian python3-numpy, python3-hypothesis and python3-pytest. Each run makes up other calls:
-layouts, types, shapes, threads, interrupts, copies, and arrays that change as they are drawn. python/tests/test_fuzz.py has them, and makes
-some hundred that are always the same as a part of the package's tests. Exit status 1 if the package crashed or drew another picture.
+It needs the library (make library), and numpy, hypothesis and pytest: in Debian python3-numpy, python3-hypothesis and
+python3-pytest. Each run makes up other calls: layouts, types, shapes, threads, interrupts, copies, and arrays that
+change as they are drawn. python/tests/test_fuzz.py has them, and makes some hundred that are always the same as a part
+of the package's tests. Exit status 1 if the package crashed or drew another picture.
 """
 
 from __future__ import annotations

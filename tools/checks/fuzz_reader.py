@@ -2,11 +2,12 @@
 
     python3 -m tools.checks.fuzz_reader [--texts 1000000] [--seed N] [--program PATH]
 
-It needs bin/list_bench (make bin/list_bench). A text is a list as it should be, or one with a few mistakes: another token,
-a token that is left out, said twice or moved, bytes that are changed, put in or taken away, or an end too early. Blanks and
-escapes stand at any place in some of them, and in some a space behind each comma. For each text `read_in_one_pass` has to return the list that `read_by_value`
-returns or none, and `read` the same list or the same error. A text for which they differ is written to out/fuzz_reader.
-Exit status 1 if there is one, or if too few texts were read in one pass for that to say something.
+It needs bin/list_bench (make bin/list_bench). A text is a list as it should be, or one with a few mistakes: another
+token, a token that is left out, said twice or moved, bytes that are changed, put in or taken away, or an end too early.
+Blanks and escapes stand at any place in some of them, and in some a space behind each comma. For each text
+`read_in_one_pass` has to return the list that `read_by_value` returns or none, and `read` the same list or the same
+error. A text for which they differ is written to out/fuzz_reader. Exit status 1 if there is one, or if too few texts
+were read in one pass for that to say something.
 """
 
 from __future__ import annotations

@@ -1,14 +1,16 @@
-"""Compares the pictures of examples/ and tests/regressions/ with their recorded checksums and with the reference renderer.
+"""Compares the pictures of examples/ and tests/regressions/ with their recorded checksums and with the
+reference renderer.
 
     python3 -m tools.checks.golden [--program bin/trirast]
     python3 -m tools.checks.golden --record
 
-Beside the lists stands SHA256SUMS, with the sum of the picture file of each. NAME.json has its sum as NAME.pnm, the name under
-which `make demo` leaves the picture in out/. Three checks are made of each list. Its recorded sum must be that of the picture
-that tools/reference/renderer.py draws; and bin/trirast must draw those bytes, by default and with tiles of 8 pixels and one worker.
-Each list must also have a line in the README.md beside it, and each sum a list. If a picture differs, the list is left
-in out/golden/ with NAME.got.png, NAME.expected.png and NAME.difference.png: equal channels are black there, and
-all others at least half bright. --record writes the sums anew, by the reference alone. Exit status 1 if a check failed.
+Beside the lists stands SHA256SUMS, with the sum of the picture file of each. NAME.json has its sum as NAME.pnm, the
+name under which `make demo` leaves the picture in out/. Three checks are made of each list. Its recorded sum must be
+that of the picture that tools/reference/renderer.py draws; and bin/trirast must draw those bytes, by default and with
+tiles of 8 pixels and one worker. Each list must also have a line in the README.md beside it, and each sum a list. If a
+picture differs, the list is left in out/golden/ with NAME.got.png, NAME.expected.png and NAME.difference.png: equal
+channels are black there, and all others at least half bright. --record writes the sums anew, by the reference alone.
+Exit status 1 if a check failed.
 """
 
 from __future__ import annotations
@@ -90,7 +92,8 @@ def expected_answers(entries: list[Entry]) -> dict[Entry, Answer]:
 
 
 def difference_pixels(got: PictureFile, wanted: PictureFile) -> bytes:
-    """The pixels of a picture of differences: 0 for equal channels, else half of the range and half of the difference."""
+    """The pixels of a picture of differences: 0 for equal channels, else half of the range and half of
+    the difference."""
     size = 2 if wanted.pixel_bytes == 2 else 1
     half = 1 << (8 * size - 1)
     pixels = bytearray()
@@ -160,7 +163,9 @@ class Golden:
         if recorded == checksum(wanted.output):
             self.passed()
         else:
-            self.failed(f"{entry.path}: the sum in {SUMS} is not that of the reference's picture, {checksum(wanted.output)}")
+            self.failed(
+                f"{entry.path}: the sum in {SUMS} is not that of the reference's picture, {checksum(wanted.output)}"
+            )
         for arguments in RUNS:
             if not self.check_run(entry, arguments, wanted):
                 return
@@ -213,7 +218,9 @@ def record(top: str) -> None:
 def main() -> int:
     parser = argparse.ArgumentParser(description="Compares the pictures of recorded lists with their checksums.")
     parser.add_argument("--program", default=PROGRAM, help="default bin/trirast")
-    parser.add_argument("--record", action="store_true", help="write the sums of the reference's pictures, and check nothing")
+    parser.add_argument(
+        "--record", action="store_true", help="write the sums of the reference's pictures, and check nothing"
+    )
     options = parser.parse_args()
     if options.record:
         record(TOP)

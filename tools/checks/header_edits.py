@@ -14,12 +14,15 @@ from tools.places import text_of
 
 def names(check: str) -> list[str]:
     """The names of a check's wrong edits."""
-    return [os.path.basename(path)[: -len(".edit")] for path in places.files("tools", "checks", check, "edits", "*.edit")]
+    return [
+        os.path.basename(path)[: -len(".edit")] for path in places.files("tools", "checks", check, "edits", "*.edit")
+    ]
 
 
 def apply(check: str, name: str, sources: Sequence[str], folder: str) -> str:
-    """Copies folders with headers to one, since a header that stands beside another is taken before any folder, and makes the copies
-    wrong by an edit. Each old text stands once in what the pairs before it made. Returns the folder."""
+    """Copies folders with headers to one, since a header that stands beside another is taken before any
+    folder, and makes the copies wrong by an edit. Each old text stands once in what the pairs before it made.
+    Returns the folder."""
     for source in sources:
         shutil.copytree(source, folder, dirs_exist_ok=True)
     for file, old, new in pairs_in(text_of("tools", "checks", check, "edits", f"{name}.edit")):

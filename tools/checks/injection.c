@@ -1,16 +1,18 @@
-// Makes allocations fail and threads not start, in the program that it is loaded into by LD_PRELOAD. tools/checks/injection.py builds
-// it, and asks in the environment:
+// Makes allocations fail and threads not start, in the program that it is loaded into by LD_PRELOAD.
+// tools/checks/injection.py builds it, and asks in the environment:
 //
 //     REFUSE_ALLOCATION   the number of the allocation that fails, counted from 1
 //     REFUSE_THREAD       the number of the thread that is not started, counted from 1
-//     REFUSE_LATER        what else is refused after that: -1 is each later one of its kind, and K is the Kth allocation of the
-//                         first thread, counted from there
+//     REFUSE_LATER        what else is refused after that: -1 is each later one of its kind, and K is the Kth
+//                         allocation of the first thread, counted from there
 //     TILE_BYTES          a malloc of this size is counted as one of a tile's pixels
-//     REPORT              the file descriptor to which each refusal is reported, in one line; so is a thread that the system refuses
+//     REPORT              the file descriptor to which each refusal is reported, in one line; so is a thread that
+//                         the system refuses
 //
-// 0 is none of them. A line has the refusal's number, whether the first thread was refused, and what was counted before it: the
-// bytes written to standard output, the tiles that the first thread allocated, the threads that were started and that were
-// joined, the allocations of the first thread since it last joined one, and how many of these there were at its last write.
+// 0 is none of them. A line has the refusal's number, whether the first thread was refused, and what was counted
+// before it: the bytes written to standard output, the tiles that the first thread allocated, the threads that were
+// started and that were joined, the allocations of the first thread since it last joined one, and how many of these
+// there were at its last write.
 #define _GNU_SOURCE
 #include <dlfcn.h>
 #include <errno.h>
@@ -45,7 +47,8 @@ __attribute__((constructor)) static void begin(void) {
     next_aligned_alloc = (void *(*)(size_t, size_t))dlsym(RTLD_NEXT, "aligned_alloc");
     next_write = (ssize_t (*)(int, const void *, size_t))dlsym(RTLD_NEXT, "write");
     next_join = (int (*)(pthread_t, void **))dlsym(RTLD_NEXT, "pthread_join");
-    next_create = (int (*)(pthread_t *, const pthread_attr_t *, void *(*)(void *), void *))dlsym(RTLD_NEXT, "pthread_create");
+    next_create =
+        (int (*)(pthread_t *, const pthread_attr_t *, void *(*)(void *), void *))dlsym(RTLD_NEXT, "pthread_create");
     which_allocation = number_in("REFUSE_ALLOCATION");
     which_thread = number_in("REFUSE_THREAD");
     later = number_in("REFUSE_LATER");
@@ -57,12 +60,13 @@ static int in_first_thread(void) { return pthread_equal(pthread_self(), first_th
 
 static void report(long number) {
     char line[256];
-    int length = snprintf(line, sizeof line, "%ld %d %ld %ld %ld %ld %ld %ld\n", number, in_first_thread(), written, tiles, started,
-                          joined, since_join, at_write);
+    int length = snprintf(line, sizeof line, "%ld %d %ld %ld %ld %ld %ld %ld\n", number, in_first_thread(), written,
+                          tiles, started, joined, since_join, at_write);
     if (next_write((int)report_to, line, (size_t)length) != length) abort();
 }
 
-// Whether a call with this number is refused, where the number of the first one of its kind is asked for, and 0 if none is.
+// Whether a call with this number is refused, where the number of the first one of its kind is asked
+// for, and 0 if none is.
 static int is_refused(long number, long first, int also) {
     if (number != first && !(first > 0 && later == -1 && number > first) && !also) return 0;
     report(atomic_fetch_add(&refusals, 1) + 1);
@@ -71,7 +75,8 @@ static int is_refused(long number, long first, int also) {
 
 static int allocation_is_refused(void) {
     long number = atomic_fetch_add(&allocations, 1) + 1;
-    int is_later = later > 0 && refusals > 0 && in_first_thread() && atomic_fetch_add(&later_allocations, 1) + 1 == later;
+    int is_later =
+        later > 0 && refusals > 0 && in_first_thread() && atomic_fetch_add(&later_allocations, 1) + 1 == later;
     if (is_refused(number, which_allocation, is_later)) {
         errno = ENOMEM;
         return 1;

@@ -1,4 +1,5 @@
-"""Runs a program with allocations that fail and threads that do not start, by the shim of tools/checks/injection.c. Needs gcc."""
+"""Runs a program with allocations that fail and threads that do not start, by the shim of
+tools/checks/injection.c. Needs gcc."""
 
 from __future__ import annotations
 
@@ -80,7 +81,10 @@ class InjectionTest(CompilingTest):
         self, arguments: Sequence[str], text: bytes, allocation: int = 0, thread: int = 0, later: int = 0, **more: Any
     ) -> Run:
         """A run of the program. Further arguments are given to `subprocess.run`."""
-        asked = {"REFUSE_ALLOCATION": allocation, "REFUSE_THREAD": thread, "REFUSE_LATER": later, "TILE_BYTES": self.tile_bytes}
+        asked = {
+            "REFUSE_ALLOCATION": allocation, "REFUSE_THREAD": thread, "REFUSE_LATER": later,
+            "TILE_BYTES": self.tile_bytes,
+        }
         read_end, write_end = os.pipe()
         with open(read_end, "rb") as report:
             variables = {name: str(value) for name, value in {**asked, "REPORT": write_end}.items()}

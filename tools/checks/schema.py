@@ -2,8 +2,9 @@
 
     python3 -m tools.checks.schema
 
-It needs python's package jsonschema with draft 2020-12 (4.0 or later). Exit status 0 if all is as the tables below say, 1 if
-something is not, 77 if the package is missing. The reader is tools/reference/renderer.py, so that the tables stay true of the rules.
+It needs python's package jsonschema with draft 2020-12 (4.0 or later). Exit status 0 if all is as the tables below
+say, 1 if something is not, 77 if the package is missing. The reader is tools/reference/renderer.py, so that the tables
+stay true of the rules.
 """
 
 from __future__ import annotations
@@ -155,7 +156,8 @@ REFUSED += [
     for key in renderer.FACE_KEYS
 ]
 
-# Lists that the reader refuses and a schema accepts: why a schema cannot refuse them, the text, and the error of the reader.
+# Lists that the reader refuses and a schema accepts: why a schema cannot refuse them, the text, and the
+# error of the reader.
 BEYOND_A_SCHEMA = [
     ("1.0 is an integer of JSON Schema", '{"width":1.0,"height":1,"draws":[]}', "4 WrongKind"),
     ("1e0 is an integer of JSON Schema", '{"width":1e0,"height":1,"draws":[]}', "4 WrongKind"),

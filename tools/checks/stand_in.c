@@ -1,5 +1,6 @@
-// Writes the picture of tools/checks/tall_picture.py as bin/trirast does, with the same ways out where memory or a thread is refused, or
-// with the mistake that MISTAKE names. tools/checks/test_injection.py shows by it that each of these mistakes is caught.
+// Writes the picture of tools/checks/tall_picture.py as bin/trirast does, with the same ways out where memory or a
+// thread is refused, or with the mistake that MISTAKE names. tools/checks/test_injection.py shows by it that each of
+// these mistakes is caught.
 #include <pthread.h>
 #include <stdatomic.h>
 #include <stdlib.h>

@@ -19,8 +19,8 @@ DRAW = draw_list.draw([draw_list.vertex(x, y) for x, y in CORNERS])
 LIST = draw_list.encode(draw_list.draw_list(WIDTH, HEIGHT, DRAW))
 
 HEADER = b"P6\n64 192\n255\n"
-# The slanted edge is 3 * x + y = 192. A pixel's centre is half a pixel to the right of and below its corner, and one that lies
-# on this edge is not covered.
+# The slanted edge is 3 * x + y = 192. A pixel's centre is half a pixel to the right of and below its corner, and one
+# that lies on this edge is not covered.
 PIXELS = b"".join(
     b"\xff\xff\xff" if 3 * column + row + 2 < 192 else b"\0\0\0" for row in range(HEIGHT) for column in range(WIDTH)
 )

@@ -1,5 +1,5 @@
-"""Tests that what the documents name is there: files, definitions, commands, and the calls and clauses of proofs.md. Also that each
-public definition of specs/ has a sentence of its own, above it and in its crate's Lib.antt.
+"""Tests that what the documents name is there: files, definitions, commands, and the calls and clauses of proofs.md.
+Also that each public definition of specs/ has a sentence of its own, above it and in its crate's Lib.antt.
 
     python3 -m pytest tools/checks/test_documents.py
 """
@@ -42,7 +42,9 @@ def anchors(text: str) -> set[str]:
 
 def documents() -> dict[str, str]:
     names = ["README.md", "CONTRIBUTING.md", "RELEASING.md"]
-    names += [os.path.join(folder, "README.md") for folder in ("crates", "examples", os.path.join("tests", "regressions"))]
+    names += [
+        os.path.join(folder, "README.md") for folder in ("crates", "examples", os.path.join("tests", "regressions"))
+    ]
     names += places.files("docs", "**", "*.md")
     return {name: text_of(name) for name in names}
 
@@ -73,9 +75,12 @@ class Names(unittest.TestCase):
     def test_files(self) -> None:
         for name, text in documents().items():
             for path in set(PATH.findall(text)):
-                # A file is named from the top, from the document's folder, from crates/, from a crate, or as a wheel has it; one that
-                # a command makes is not there before it.
-                folders = ((), (os.path.dirname(name),), ("crates",), ("crates", "*"), ("crates", "*", "src"), ("python", "src"))
+                # A file is named from the top, from the document's folder, from crates/, from a crate, or as a wheel
+                # has it; one that a command makes is not there before it.
+                folders = (
+                    (), (os.path.dirname(name),), ("crates",), ("crates", "*"), ("crates", "*", "src"),
+                    ("python", "src"),
+                )
                 places = [os.path.join(TOP, *folder, path) for folder in folders]
                 if not path.startswith(("out/", "conformance/out/", "crates/NAME/", "trirast/lib/")):
                     self.assertTrue(any(map(glob.glob, places)), f"{name}: {path}")
@@ -107,7 +112,9 @@ class Names(unittest.TestCase):
             files = [definitions[path] for path in re.findall(r"`(crates/[\w/.]+\.antt)`", paragraph)]
             self.assertTrue(files, paragraph)
             for name in re.findall(r"`(\w+)`", paragraph):
-                stands = re.compile(rf"^(?:(?:pub|abbrev|record|data|opaque|unfoldable) )*{name} (?:.*)?:", re.MULTILINE)
+                stands = re.compile(
+                    rf"^(?:(?:pub|abbrev|record|data|opaque|unfoldable) )*{name} (?:.*)?:", re.MULTILINE
+                )
                 self.assertTrue(any(stands.search(text) for text in files), f"{name}: {paragraph}")
 
     def test_faults_of_lists(self) -> None:
@@ -136,7 +143,9 @@ class Names(unittest.TestCase):
         # Each crate has its line of what it does, and stands on those before it and on the toolchain's.
         before: set[str] = set()
         every = [one for layer in layers.layers() for one in layer.crates]
-        self.assertEqual({one.name for one in every}, {path.split(os.sep)[1] for path in places.files("crates", "*", "src")})
+        self.assertEqual(
+            {one.name for one in every}, {path.split(os.sep)[1] for path in places.files("crates", "*", "src")}
+        )
         trusted = text_of("README.md").split("| Trusted |")[1].split("\n\n")[0]
         for one in every:
             self.assertRegex(one.does, r"^[A-Z`].*\.$", one.name)
@@ -145,25 +154,32 @@ class Names(unittest.TestCase):
 
     def test_number_of_mutants(self) -> None:
         self.assertIn(f"that {len(mutants.MUTANTS)} wrong rules", text_of("docs/tested.md"))
-        self.assertIn(f"finds {len(canvas_mutants.MUTANTS) + len(canvas_mutants.BLENDING)} wrong rules", text_of("docs/tested.md"))
+        self.assertIn(
+            f"finds {len(canvas_mutants.MUTANTS) + len(canvas_mutants.BLENDING)} wrong rules", text_of("docs/tested.md")
+        )
 
     def test_sample_patterns(self) -> None:
         table = text_of("docs/rules.md").split("## Sample positions")[1].split("\n\n")[2]
-        listed = {int(count): re.findall(r"\((-?\d), (-?\d)\)", positions) for count, positions in list(rows(table))[1:]}
+        listed = {
+            int(count): re.findall(r"\((-?\d), (-?\d)\)", positions) for count, positions in list(rows(table))[1:]
+        }
         found = {count: tuple((int(x), int(y)) for x, y in positions) for count, positions in listed.items()}
         self.assertEqual(found, renderer.PATTERNS)
         self.assertEqual(text_of("docs/samples.svg"), sample_patterns.svg())
 
 
 class Proofs(unittest.TestCase):
-    """The right cells of the tables of promises: calls, and behind a colon the names of their clauses or of a record's parts."""
+    """The right cells of the tables of promises: calls, and behind a colon the names of their clauses or of
+    a record's parts."""
 
     def test_calls_and_clauses(self) -> None:
         known = {**parts(), **contracts()}
         types = set(re.findall(r"\b(?:struct|enum|trait) (\w+)", "".join(sources("src/**/*.rt").values())))
         types |= parts().keys()
         clauses: set[str | None] = set()
-        for *_promise, carriers in rows(text_of("docs/proofs.md").split("## Every promise")[1].split("## What no public clause says")[0]):
+        for *_promise, carriers in rows(
+            text_of("docs/proofs.md").split("## Every promise")[1].split("## What no public clause says")[0]
+        ):
             carriers = re.sub(r"\(.*?\)", "", carriers)
             words = [word.split("::")[-1] for word in re.findall(r"`([\w:]+)`", carriers)]
             # "The same" calls are those of the row above.
@@ -215,7 +231,10 @@ pub extern "C" fn version() {}
         self.assertLessEqual({call.split("::")[0] for call in public_calls() if call[0].islower()}, set(CRATES))
 
     def test_calls_are_read_of_cells(self) -> None:
-        public = {"Tri::covers", "Tri::new", "Row::new", "Row::step", "Row::value", "grid::side", "plain::draw", "trirast::draw"}
+        public = {
+            "Tri::covers", "Tri::new", "Row::new", "Row::step", "Row::value", "grid::side", "plain::draw",
+            "trirast::draw",
+        }
         for cell, named in (
             ("`grid::Tri::covers`: its clause", {"Tri::covers"}),
             ("`Row`: `new`, `step`: their clauses; `value`: `new`", {"Row::new", "Row::step", "Row::value"}),
@@ -252,13 +271,16 @@ pub extern "C" fn version() {}
         for crates, named, _reason in list(rows(table))[1:]:
             folders = [os.path.join("crates", crate) for crate in re.findall(r"`(\w+)`", crates)]
             public = set().union(*(given_out(text_of(folder, "src", "lib.rt")) for folder in folders))
-            public |= {part for folder in folders for call in calls_of(os.path.basename(folder)) for part in call.split("::")}
+            public |= {
+                part for folder in folders for call in calls_of(os.path.basename(folder)) for part in call.split("::")
+            }
             words = {part for word in re.findall(r"`([\w:]+)`", named) for part in word.split("::")}
             self.assertLessEqual(words, public, crates)
 
 
 class Definitions(unittest.TestCase):
-    """The comments of the definitions in specs/, and the lines of each crate's Lib.antt, which `python3 -m tools.definitions` writes."""
+    """The comments of the definitions in specs/, and the lines of each crate's Lib.antt, which
+    `python3 -m tools.definitions` writes."""
 
     def test_each_has_its_sentence_and_its_line(self) -> None:
         self.assertGreaterEqual(len(lines.crates()), 15)
@@ -270,7 +292,9 @@ class Definitions(unittest.TestCase):
     def test_all_are_read(self) -> None:
         # Counted here by the word `pub` alone: a definition stands at the line's start, or in a module with parameters.
         for path in places.files("crates", "*", "specs", "**", "*.antt"):
-            code = re.findall(r"^(?! *pub \w+ :)(?:.* )?pub (?!mod\b|use\b).*", re.sub(r"--.*", "", text_of(path)), re.MULTILINE)
+            code = re.findall(
+                r"^(?! *pub \w+ :)(?:.* )?pub (?!mod\b|use\b).*", re.sub(r"--.*", "", text_of(path)), re.MULTILINE
+            )
             self.assertEqual(len(list(definitions_in(text_of(path)))), len(code), path)
 
     def test_faults_are_seen(self) -> None:
@@ -285,14 +309,21 @@ class Definitions(unittest.TestCase):
         ):
             (found,) = definitions_in(comment + code)
             self.assertRegex(" ".join(lines.faults_of(found)), fault)
-        for comment in ("-- n is its own number.\n", "-- Its number,\n-- as it is. And more.\n", "-- ---- numbers\n-- 1 if it is.\n"):
+        for comment in (
+            "-- n is its own number.\n", "-- Its number,\n-- as it is. And more.\n", "-- ---- numbers\n-- 1 if it is.\n"
+        ):
             (found,) = definitions_in(comment + code)
             self.assertEqual(list(lines.faults_of(found)), [])
 
     def test_first_sentence_is_the_line(self) -> None:
-        text = "-- A row\n-- of f.g. And more.\npub record Row (n : ℕ) : Type 0 where\n  pub first : ℕ\n\nmodule _ {X : Type 0} where\n"
+        text = (
+            "-- A row\n-- of f.g. And more.\npub record Row (n : ℕ) : Type 0 where\n  pub first : "
+            "ℕ\n\nmodule _ {X : Type 0} where\n"
+        )
         text += "  -- A row in it.\n  abbrev pub inner : X → ℕ\n  inner x = 0\n"
-        self.assertEqual([one.line for one in definitions_in(text)], ["--   Row: A row of f.g.", "--   inner: A row in it."])
+        self.assertEqual(
+            [one.line for one in definitions_in(text)], ["--   Row: A row of f.g.", "--   inner: A row in it."]
+        )
 
     def test_lines_of_lib_are_compared(self) -> None:
         with tempfile.TemporaryDirectory() as top, mock.patch.object(places, "TOP", top):

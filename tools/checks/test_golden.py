@@ -19,7 +19,8 @@ from tools import png
 from tools.checks import golden
 from tools.counts import Counts
 
-# Two lists without triangles and their files, by the rules: each pixel has the clear colour, or the clear depth in two bytes.
+# Two lists without triangles and their files, by the rules: each pixel has the clear colour, or the
+# clear depth in two bytes.
 COLOURS = b'{"width":2,"height":1,"clear":[1,2,255],"draws":[]}'
 COLOUR_FILE = b"P6\n2 1\n255\n\x01\x02\xff\x01\x02\xff"
 DEPTHS = b'{"width":2,"height":1,"output":"depth","clear_depth":513,"draws":[]}'
@@ -197,7 +198,9 @@ sys.stdout.buffer.write({tiles_of_8!r} if {tiles_of_8!r} and "8" in sys.argv els
 
     def test_sums_that_cannot_be_read(self) -> None:
         line = f"{'0' * 64}  colours.pnm\n"
-        for text, reason in ((line * 2, "line 2"), (line.replace("  ", " "), "line 1"), (line.replace("pnm", "ppm"), "line 1")):
+        for text, reason in (
+            (line * 2, "line 2"), (line.replace("  ", " "), "line 1"), (line.replace("pnm", "ppm"), "line 1")
+        ):
             self.write(os.path.join("examples", golden.SUMS), text.encode())
             self.assertEqual(self.check(self.program()), Counts(passed=3, failed=1), text)
             self.assertIn(reason, self.printed)
@@ -211,5 +214,7 @@ sys.stdout.buffer.write({tiles_of_8!r} if {tiles_of_8!r} and "8" in sys.argv els
         self.write("examples/more.json", DEPTHS)
         golden.record(self.top)
         recorded = golden.read_sums(os.path.join(self.top, "examples", golden.SUMS))
-        sums = {name: hashlib.sha256(data).hexdigest() for name, data in (("colours", COLOUR_FILE), ("more", DEPTH_FILE))}
+        sums = {
+            name: hashlib.sha256(data).hexdigest() for name, data in (("colours", COLOUR_FILE), ("more", DEPTH_FILE))
+        }
         self.assertEqual(recorded, sums)

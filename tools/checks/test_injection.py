@@ -1,9 +1,10 @@
-"""Tests of tools/checks/allocation_failures.py and of the threads in tools/checks/fault_injection.py: they catch mistakes in tools/checks/stand_in.c.
+"""Tests of tools/checks/allocation_failures.py and of the threads in tools/checks/fault_injection.py: they catch
+mistakes in tools/checks/stand_in.c.
 
     python3 -m pytest tools/checks/test_injection.py
 
-The stand-in writes one picture as the program does if an allocation fails or a thread does not start, or with a mistake in that.
-Needs gcc.
+The stand-in writes one picture as the program does if an allocation fails or a thread does not start, or with a
+mistake in that. Needs gcc.
 """
 
 from __future__ import annotations

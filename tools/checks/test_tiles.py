@@ -38,8 +38,11 @@ def combined(number: int) -> dict[str, Any]:
 
 
 def over_blocks(pick: random.Random, state: dict[str, Any], is_flat: bool) -> Draw:
-    """A draw of a triangle that covers whole blocks and of two others; if it is flat, all vertices have one depth and colour."""
-    places = [(-1000, -500), (5000, -500), (500, 5000)] + [(pick.randrange(-6000, 26_768), pick.randrange(-6000, 26_768)) for _ in "ab"]
+    """A draw of a triangle that covers whole blocks and of two others; if it is flat, all vertices have one
+    depth and colour."""
+    places = [(-1000, -500), (5000, -500), (500, 5000)] + [
+        (pick.randrange(-6000, 26_768), pick.randrange(-6000, 26_768)) for _ in "ab"
+    ]
     values = [[pick.randrange(65_536), *(pick.randrange(256) for _ in "rgba")] for _ in places]
     vertices = [[x, y, *(values[0] if is_flat else own)] for (x, y), own in zip(places, values)]
     return draw(vertices, [[0, 1, 2], [0, 3, 4], [2, 4, 3]], **state)

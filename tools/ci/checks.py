@@ -104,7 +104,8 @@ CHECKS = (
     ),
     Check(
         name="edits",
-        about="must-fail edits by name, the statuses, causes and numbers of samples of header, bindings and page, names that two crates have, and how contracts are compared",
+        about="must-fail edits by name, the statuses, causes and numbers of samples of header, bindings and page, "
+        "names that two crates have, and how contracts are compared",
         command="pytest tools/sources --ignore tools/sources/test_statement.py", seconds=2,
     ),
     Check(
@@ -147,7 +148,8 @@ CHECKS = (
     ),
     Check(
         name="compare-canvas",
-        about="generated lists on canvases, split into batches, by Python and by C, against program and second renderer",
+        about="generated lists on canvases, split into batches, by Python and by C, against "
+        "program and second renderer",
         command="tools.reference.compare_canvas --lists 200", seconds=20,
         long="--lists 1000", long_seconds=90,
         runs=EVERYTHING, needs=COMPILER,
@@ -240,7 +242,8 @@ CHECKS = (
     ),
     Check(
         name="shade",
-        about="shading in C and C++: weights and pictures beside exact ones, the same bytes by every compiler, wrong edits",
+        about="shading in C and C++: weights and pictures beside exact ones, the same bytes by "
+        "every compiler, wrong edits",
         command="pytest tools/checks/shade", seconds=85,
         long="-m 'long or not long'", long_seconds=600,
         runs=("library",), needs=(*COMPILER, "g++"),

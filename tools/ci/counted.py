@@ -10,11 +10,12 @@ from tools.counts import Counts
 
 
 def run(name: str, words: Sequence[str], top: str, said: Callable[[str], str]) -> Counts:
-    """Runs a command and passes on what it prints. `said` is what a line says that may be the last one, or nothing. No counts, or a
-    status against them, are a failure."""
+    """Runs a command and passes on what it prints. `said` is what a line says that may be the last one, or nothing. No
+    counts, or a status against them, are a failure."""
     last = ""
     with subprocess.Popen(
-        words, cwd=top, stdin=subprocess.DEVNULL, stdout=subprocess.PIPE, stderr=subprocess.STDOUT, text=True, errors="replace",
+        words, cwd=top, stdin=subprocess.DEVNULL, stdout=subprocess.PIPE, stderr=subprocess.STDOUT, text=True,
+        errors="replace",
     ) as child:
         assert child.stdout
         for line in child.stdout:

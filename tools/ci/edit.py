@@ -25,8 +25,8 @@ def pairs_in(text: str) -> list[tuple[str, str, str]]:
 
 
 def applied(folder: str, text: str) -> tuple[dict[str, str], str | None]:
-    """The texts of the files that an edit changes, or why it cannot be applied: each old text stands once in what the pairs before
-    it made."""
+    """The texts of the files that an edit changes, or why it cannot be applied: each old text stands once in what the
+    pairs before it made."""
     texts: dict[str, str] = {}
     for path, old, new in pairs_in(text):
         if not path or not old:

@@ -1,11 +1,12 @@
-"""Must-fail edits of a crate that are tried together: one check of the crate with all of them judges each by its own function.
+"""Must-fail edits of a crate that are tried together: one check of the crate with all of them judges each
+by its own function.
 
-The proof of a function reads its own body, and of all other functions the contracts. So whether an edit of one body is refused
-does not hang on what stands in another body, and a check of ten edits costs less than ten checks, since most of each is to
-load what is proved. An edit takes part if it changes the body of one function that the file has once. It is refused if the
-check says of that function that its own proof does not hold; that of a function above may, and is then said to call one that
-is not proved. All other edits are tried by themselves: those that change more, and those of whose function the check does not
-say so.
+The proof of a function reads its own body, and of all other functions the contracts. So whether an edit of one body is
+refused does not hang on what stands in another body, and a check of ten edits costs less than ten checks, since most of
+each is to load what is proved. An edit takes part if it changes the body of one function that the file has once. It is
+refused if the check says of that function that its own proof does not hold; that of a function above may, and is then
+said to call one that is not proved. All other edits are tried by themselves: those that change more, and those of whose
+function the check does not say so.
 """
 
 from __future__ import annotations
@@ -24,8 +25,8 @@ from tools.ci.sources import changed_bodies, owner_of
 from tools.ci.toolchain import Ran, Toolchain
 from tools.places import text_of
 
-# The most edits that are tried together, and the most seconds of a processor that these are likely to take. With more, processors
-# would wait for the last batch.
+# The most edits that are tried together, and the most seconds of a processor that these are likely to take. With more,
+# processors would wait for the last batch.
 MOST = 24
 MOST_SECONDS = 300.0
 # What a check says of a function whose own proof does not hold.
@@ -44,8 +45,8 @@ class Edit:
     owner: str
 
     def verdict(self, crate: str, said: str) -> str:
-        """What a check said of the function; nothing if it did not name it, or several of that name. A method has the name of its
-        type, which may stand in another module."""
+        """What a check said of the function; nothing if it did not name it, or several of that name. A method has the
+        name of its type, which may stand in another module."""
         modules = self.path[len("src/") : -len(".rt")].split("/")
         inside = [] if modules in (["lib"], ["main"]) else modules
         place = rf"{crate}(?:::\w+)*::{self.owner}" if self.owner else "::".join([crate, *inside])
@@ -61,7 +62,10 @@ def edit_of(folder: str, name: str, text: str) -> Edit | None:
     [(path, new)] = texts.items()
     old = text_of(os.path.join(folder, path))
     changed = changed_bodies(old, new)
-    return Edit(name, text, path, changed[0], owner_of(old, changed[0])) if changed is not None and len(changed) == 1 else None
+    return (
+        Edit(name, text, path, changed[0], owner_of(old, changed[0]))
+        if changed is not None and len(changed) == 1 else None
+    )
 
 
 def first_of_each(edits: Iterable[Edit]) -> list[Edit]:
@@ -109,7 +113,8 @@ class Batch:
         return self.outcomes
 
     def try_together(self, edits: Sequence[Edit]) -> list[Edit]:
-        """Tries edits of different functions, and notes those that are refused. Returns those that could be made together."""
+        """Tries edits of different functions, and notes those that are refused. Returns those that could
+        be made together."""
         with self.rooms.room(self.crate, (KEPT,)) as folder:
             made = put_in(folder, edits)
             ran = self.rt(folder, "check", "--jobs", "1", seconds=SECONDS)
@@ -125,8 +130,8 @@ class Batch:
 
 
 def batches(seconds: Mapping[str, float]) -> list[list[str]]:
-    """The edits of a crate, with what each is likely to take, in batches of about the same size. Those of one function, whose names
-    are alike, and of functions that call each other, which stand in one file, come into several."""
+    """The edits of a crate, with what each is likely to take, in batches of about the same size. Those of one function,
+    whose names are alike, and of functions that call each other, which stand in one file, come into several."""
     names = list(seconds)
     count = min(len(names), max(ceil(len(names) / MOST), ceil(sum(seconds.values()) / MOST_SECONDS)))
     return [names[k::count] for k in range(count)]

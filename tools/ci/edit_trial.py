@@ -1,4 +1,5 @@
-"""Tries a must-fail edit: `rt check` of the edited crate, in a room with what is proved, has to refuse it for its meaning."""
+"""Tries a must-fail edit: `rt check` of the edited crate, in a room with what is proved, has to refuse
+it for its meaning."""
 
 from __future__ import annotations
 

@@ -7,8 +7,8 @@ An edit is due if anything that its check reads has changed since it was last tr
 checksum of
 
 - its own src/, specs/ and proofs/ and its line of crates.txt, without comments, layout and tests;
-- of the crates below it the lines, and the files of specs/ and src/ that its text leads to, as `reads.py` finds them, without the
-  bodies of functions;
+- of the crates below it the lines, and the files of specs/ and src/ that its text leads to, as `reads.py` finds them,
+  without the bodies of functions;
 - the checksum of the toolchain's logic, which README names;
 
 and each edit one of its own text. So a change in a crate makes all of its edits due, and a new or changed edit itself
@@ -69,7 +69,9 @@ class Checksums:
         own = [(path, normal(path, False)) for part in PARTS for path in sources_in(os.path.join(folder, part))]
         below = [(path, self.reads.kept(path)) for path in self.reads.of(crate)]
         lines = (self.tree.lines[name] for name in (crate, *self.tree.below(crate)))
-        return sum_of(self.logic, *lines, *(f"{os.path.relpath(path, self.tree.top)}\n{text}" for path, text in own + below))
+        return sum_of(
+            self.logic, *lines, *(f"{os.path.relpath(path, self.tree.top)}\n{text}" for path, text in own + below)
+        )
 
     def of_all(self) -> tuple[dict[str, str], dict[str, dict[str, str]]]:
         """The checksums of the crates that have edits, and of these."""
@@ -83,7 +85,8 @@ class Checksums:
 
 @dataclass(frozen=True)
 class Plan:
-    """Edits by CRATE/NAME.edit: those that are due, each with the reason, the sample, and those that cannot be applied."""
+    """Edits by CRATE/NAME.edit: those that are due, each with the reason, the sample, and those that
+    cannot be applied."""
 
     due: dict[str, str]
     sample: tuple[str, ...]
@@ -155,7 +158,9 @@ def main() -> int:
     parser.add_argument("verb", choices=("plan", "record"))
     parser.add_argument("--top", default=TOP, help="of the repository (default: this one)")
     parser.add_argument("--base", metavar="COMMIT", help="the commit whose record of what was tried is believed")
-    parser.add_argument("--sample", type=int, default=SAMPLE, metavar="N", help=f"edits that are tried besides (default {SAMPLE})")
+    parser.add_argument(
+        "--sample", type=int, default=SAMPLE, metavar="N", help=f"edits that are tried besides (default {SAMPLE})"
+    )
     parser.add_argument("--list", action="store_true", help="name each edit")
     options = parser.parse_args()
     tree = Tree(options.top)

@@ -37,7 +37,9 @@ class Passed:
         self.is_anew = is_anew
         own = (os.path.join(os.path.dirname(__file__), name) for name in JUDGES)
         handles = os.path.join(tree.top, "HANDLES")
-        self.judge = version + digest(own, tree.top) + (digest(iter((handles,)), tree.top) if os.path.isfile(handles) else "")
+        self.judge = (
+            version + digest(own, tree.top) + (digest(iter((handles,)), tree.top) if os.path.isfile(handles) else "")
+        )
         self.of_files = lru_cache(maxsize=None)(self.read_files)
 
     def read_files(self, crate: str) -> str:

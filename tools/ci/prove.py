@@ -42,7 +42,8 @@ from tools.places import TOP
 
 # The crates whose programs the checks run, and the names under which they stand in bin/.
 PROGRAMS = {
-    "trirast_cli": "trirast", "trirast_why": "trirast_why", "refused_tiles": "refused_tiles", "list_bench": "list_bench",
+    "trirast_cli": "trirast", "trirast_why": "trirast_why", "refused_tiles": "refused_tiles",
+    "list_bench": "list_bench",
 }
 
 
@@ -95,7 +96,8 @@ class Run:
         return [task for crate in order for task in tasks_of(crate, self.steps, of[crate], known)]
 
     def keep_what_was_seen(self) -> None:
-        """Leaves for `record` which edits were refused, by this run and by those before it, and how long the steps took."""
+        """Leaves for `record` which edits were refused, by this run and by those before it, and how
+        long the steps took."""
         seconds.write_file(os.path.join(self.tree.top, seconds.SEEN), self.took)
         record = {crate: tried.Entry(self.sums.of_crate(crate), names) for crate, names in self.refused.items()}
         tried.write_file(self.path, tried.merged(self.before, record, *self.sums.of_all()))
@@ -129,9 +131,11 @@ def crate_of(name: str) -> str:
     return name.split("/")[0]
 
 
-def chosen(run: Run, options: argparse.Namespace, refused: frozenset[str]) -> tuple[list[str], list[str], dict[str, int]]:
-    """The crates to prove, the edits to try but those that were refused, and what these are known to take. Edits that cannot be
-    applied are counted as failed."""
+def chosen(
+    run: Run, options: argparse.Namespace, refused: frozenset[str]
+) -> tuple[list[str], list[str], dict[str, int]]:
+    """The crates to prove, the edits to try but those that were refused, and what these are known to take. Edits that
+    cannot be applied are counted as failed."""
     base = tried.base_of(options.top, options.base)
     plan = edits.make_plan(run.sums, base.record, tried.number_of_commits(options.top))
     known = known_seconds(options.top)
@@ -190,11 +194,15 @@ def prove_alone(options: argparse.Namespace) -> Counts:
 
 def main() -> int:
     parser = argparse.ArgumentParser(description="All that needs the prover.")
-    parser.add_argument("crates", nargs="*", metavar="CRATE", help="only these and those below them, with all edits of these")
+    parser.add_argument(
+        "crates", nargs="*", metavar="CRATE", help="only these and those below them, with all edits of these"
+    )
     parser.add_argument("--all", action="store_true", help="the whole of rt ci first, and every edit")
     parser.add_argument("--anew", action="store_true", help="take no step as passed before")
     parser.add_argument("--base", metavar="COMMIT", help="the commit whose record of what was tried is believed")
-    parser.add_argument("--processors", type=int, default=processors(), metavar="N", help="tasks at once (default: one a processor)")
+    parser.add_argument(
+        "--processors", type=int, default=processors(), metavar="N", help="tasks at once (default: one a processor)"
+    )
     parser.add_argument("--rt", default=os.environ.get("RT", "rt"), help="the toolchain's command (default rt)")
     parser.add_argument("--top", default=TOP, help="of the repository (default: this one)")
     options = parser.parse_args()

@@ -1,9 +1,9 @@
 """What a crate reads of the crates below it: the files that its text names, and those that these name in turn.
 
-A file of a crate below is named by a path: `use cover::Setup`, `cover::Setup::of`, `Rattle.cover.specs.Masks`. Of what it
-names itself only what its signatures, types and clauses use counts, since nobody above sees the body of a function. With
-a type comes each file that implements something for it. A path that leads to no file counts as the whole crate. Lemmas
-are left out: no lemma makes a wrong body right.
+A file of a crate below is named by a path: `use cover::Setup`, `cover::Setup::of`, `Rattle.cover.specs.Masks`. Of what
+it names itself only what its signatures, types and clauses use counts, since nobody above sees the body of a function.
+With a type comes each file that implements something for it. A path that leads to no file counts as the whole crate.
+Lemmas are left out: no lemma makes a wrong body right.
 """
 
 from __future__ import annotations
@@ -95,7 +95,9 @@ class Reads:
 
     def find_files(self, crate: str) -> tuple[str, ...]:
         """All that a crate above could read of this one."""
-        return tuple(path for part in ("src", "specs") for path in sources_in(os.path.join(self.tree.folder(crate), part)))
+        return tuple(
+            path for part in ("src", "specs") for path in sources_in(os.path.join(self.tree.folder(crate), part))
+        )
 
     def crate_of(self, path: str) -> str:
         return os.path.relpath(path, os.path.join(self.tree.top, "crates")).split(os.sep)[0]
@@ -152,7 +154,9 @@ class Reads:
         for count in range(len(words), 0, -1):
             path = os.path.join(folder, *words[:count]) + ".rt"
             if os.path.isfile(path):
-                return {path, *(other for word in words[count:] for other in self.implementing(name.crate).get(word, ()))}
+                return {
+                    path, *(other for word in words[count:] for other in self.implementing(name.crate).get(word, ()))
+                }
         return self.files(name.crate)
 
     def defining(self, crate: str, words: tuple[str, ...]) -> Iterable[str]:

@@ -25,7 +25,8 @@ KEPT = os.path.join("out", "incremental")
 
 
 def link_tree(source: str, target: str) -> None:
-    """Makes a second tree of links to the same files, if there is such a tree; of copies where files cannot be linked."""
+    """Makes a second tree of links to the same files, if there is such a tree; of copies where files
+    cannot be linked."""
     if not os.path.isdir(source):
         return
     os.makedirs(os.path.dirname(target), exist_ok=True)

@@ -1,4 +1,5 @@
-"""The whole of `rt ci`, or of what it does for some crates, with its counts and the must-fail edits that it saw refused."""
+"""The whole of `rt ci`, or of what it does for some crates, with its counts and the must-fail edits
+that it saw refused."""
 
 from __future__ import annotations
 

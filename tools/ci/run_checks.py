@@ -42,7 +42,9 @@ def counted(ran: Ran) -> Counts:
     if ran.status == MISSING:
         return Counts(skipped=1)
     if ran.status != 0:
-        return counts if counts and counts.failed and ran.status is not None else (counts or Counts()) + Counts(failed=1)
+        return (
+            counts if counts and counts.failed and ran.status is not None else (counts or Counts()) + Counts(failed=1)
+        )
     return counts or Counts(passed=1)
 
 
@@ -146,7 +148,9 @@ def main() -> int:
     parser = argparse.ArgumentParser(description="Runs the checks of what was built.")
     parser.add_argument("names", nargs="*", metavar="NAME", help="of checks (default: all)")
     parser.add_argument("--long", action="store_true", help="each check in its longer form")
-    parser.add_argument("--processors", type=int, default=len(os.sched_getaffinity(0)), metavar="N", help="checks at once")
+    parser.add_argument(
+        "--processors", type=int, default=len(os.sched_getaffinity(0)), metavar="N", help="checks at once"
+    )
     options = parser.parse_args()
     known = {check.name for check in CHECKS}
     if lacking := [name for name in options.names if name not in known]:

@@ -61,7 +61,10 @@ class Ended:
     def each(self) -> list[Ended]:
         """Its parts, each with its own outcome, or the task itself if it has none."""
         parts = self.outcome.parts
-        return [Ended(replace(self.task, name=name, parts=()), parts.get(name, self.outcome), self.at) for name in self.task.parts] or [self]
+        return [
+            Ended(replace(self.task, name=name, parts=()), parts.get(name, self.outcome), self.at)
+            for name in self.task.parts
+        ] or [self]
 
 
 @dataclass
@@ -94,7 +97,9 @@ class Schedule:
         """Ends the tasks that need one which failed. Returns the others."""
         left = []
         for task in waiting:
-            lost = next((name for name in task.needs if name in self.ended and not self.ended[name].outcome.has_passed), None)
+            lost = next(
+                (name for name in task.needs if name in self.ended and not self.ended[name].outcome.has_passed), None
+            )
             if lost is None:
                 left.append(task)
             else:

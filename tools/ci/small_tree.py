@@ -1,8 +1,9 @@
 """A tree of small crates for the tests of CI, and a program that stands for rt in it.
 
-The crates are `low`, `high` above it, the program `app` above that, and `apart`. What the stand-in refuses is written
-into their sources: a check of a crate whose sources have the word WRONG is refused by the proof of the function in which it
-stands, and one with BROKEN does not get that far. A function with the word CALLS stands on one that is not proved, if any is.
+The crates are `low`, `high` above it, the program `app` above that, and `apart`. What the stand-in refuses is
+written into their sources: a check of a crate whose sources have the word WRONG is refused by the proof of the
+function in which it stands, and one with BROKEN does not get that far. A function with the word CALLS stands on one
+that is not proved, if any is.
 """
 
 from __future__ import annotations
@@ -49,7 +50,9 @@ FILES = {
     "crates/app/src/main.rt": "fn main() {}\n",
     "crates/app/stdin": "2\n",
     "crates/app/stdout": "3\n",
-    "crates/apart/src/lib.rt": "".join(f"pub fn f{k}() -> u32\n    ensures {{ result ≡ {k} }}\n{{\n    {k}\n}}\n" for k in range(FUNCTIONS)),
+    "crates/apart/src/lib.rt": "".join(
+        f"pub fn f{k}() -> u32\n    ensures {{ result ≡ {k} }}\n{{\n    {k}\n}}\n" for k in range(FUNCTIONS)
+    ),
 }
 for k in range(FUNCTIONS):
     FILES[f"crates/apart/must-fail/lib.f{k}.gives_another.edit"] = EDIT.format(f"    {k}", f"    {k} + 1 // WRONG")

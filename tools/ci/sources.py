@@ -1,4 +1,5 @@
-"""What a checksum takes of a source: its words, without comments and layout, and of a crate below without what no contract can read."""
+"""What a checksum takes of a source: its words, without comments and layout, and of a crate below without what no
+contract can read."""
 
 from __future__ import annotations
 
@@ -41,7 +42,8 @@ def after_group(words: list[str], at: int) -> int:
 
 
 def is_clause(words: list[str], at: int) -> bool:
-    """Whether the brace there begins a clause and no body: behind `requires`, `ensures*`, `ensures value` or `ghost name:`."""
+    """Whether the brace there begins a clause and no body: behind `requires`, `ensures*`, `ensures value`
+    or `ghost name:`."""
     before = [word for word in words[max(0, at - 4) : at] if word != "*"]
     return any(word in CLAUSES for word in before[-2:]) or (before[-1:] == [":"] and before[-3:-2] == ["ghost"])
 
@@ -92,8 +94,8 @@ def bodies(words: list[str]) -> list[tuple[str, list[str]]]:
 
 
 def changed_bodies(old: str, new: str) -> list[str] | None:
-    """The names of the functions whose bodies differ between two texts of a source, if nothing else does and each of them has a name
-    of its own."""
+    """The names of the functions whose bodies differ between two texts of a source, if nothing else does and each of
+    them has a name of its own."""
     before, after = words_of(old), words_of(new)
     if without_bodies(before) != without_bodies(after):
         return None
@@ -109,7 +111,8 @@ def last_name(words: str) -> str:
 
 
 def owner_of(text: str, function: str) -> str:
-    """What a check names in front of the function if it is a method, in a source that is laid out: its type, and behind that its trait."""
+    """What a check names in front of the function if it is a method, in a source that is laid out: its type, and
+    behind that its trait."""
     for head, body in IMPL.findall(text):
         if re.search(rf"\bfn {function}\b", body):
             of_trait, _for, of_type = re.split(r"\swhere\b", head)[0].rpartition(" for ")

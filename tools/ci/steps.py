@@ -132,7 +132,9 @@ class Steps:
                 for backend, *flags in BACKENDS:
                     ran, fault = self.run_by(folder, crate, [*flags, "--jobs", str(jobs)])
                     seconds += ran.seconds
-                    is_refused = backend == "rattle" and not was_run(ran) and verdict_of(ran.text).get("logic") == "proved"
+                    is_refused = (
+                        backend == "rattle" and not was_run(ran) and verdict_of(ran.text).get("logic") == "proved"
+                    )
                     if fault and not is_refused:
                         return failed(f"by {backend}: {fault}", ran)
                     said.append(f"by {backend}: {'not compiled' if is_refused else 'as its stdout has it'}")
@@ -146,7 +148,9 @@ class Steps:
         given, wanted = (os.path.join(folder, name) for name in ("stdin", "stdout"))
         words, status = content(folder, "args").splitlines(), int(content(folder, "status") or 0)
         with tempfile.TemporaryFile() as wrote, open(given if os.path.isfile(given) else os.devnull, "rb") as stdin:
-            ran = self.rt(folder, "run", EMPTY_CONTRACTS, *flags, "--", *words, seconds=SECONDS, stdin=stdin, stdout=wrote)
+            ran = self.rt(
+                folder, "run", EMPTY_CONTRACTS, *flags, "--", *words, seconds=SECONDS, stdin=stdin, stdout=wrote
+            )
             wrote.seek(0)
             written = wrote.read()
         if faults := faults_of(ran.text, self.handles):
@@ -174,5 +178,7 @@ def was_run(ran: Ran) -> bool:
 
 
 def difference(written: bytes, expected: bytes) -> str:
-    at = next((k for k, (one, other) in enumerate(zip(written, expected)) if one != other), min(len(written), len(expected)))
+    at = next(
+        (k for k, (one, other) in enumerate(zip(written, expected)) if one != other), min(len(written), len(expected))
+    )
     return f"they differ first at byte {at + 1}, line {expected[:at].count(10) + 1}"

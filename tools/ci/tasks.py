@@ -11,7 +11,8 @@ from tools.ci.schedule import Outcome, Task
 from tools.ci.steps import Steps
 from tools.sources.crates import PARTS, Tree, files_in
 
-# For the order of tasks alone: what a check takes at least, and the seconds of a processor for a byte of a crate's sources.
+# For the order of tasks alone: what a check takes at least, and the seconds of a processor for a byte
+# of a crate's sources.
 CHECK_SECONDS = 10.0
 SECONDS_A_BYTE = 1 / 1200
 EDIT_SECONDS = 20.0
@@ -35,7 +36,9 @@ def steps_of(crate: str, steps: Steps, has_edits: bool, known: Mapping[str, int]
 
     def add(step: str, run: Callable[[int], Outcome], likely: float) -> None:
         name, below = f"{crate}: {step}", tuple(f"{name}: proof" for name in tree.below(crate))
-        made.append(Task(name, run, (*below, *(task.name for task in made[-1:])), known.get(name, likely), is_wide=True))
+        made.append(
+            Task(name, run, (*below, *(task.name for task in made[-1:])), known.get(name, likely), is_wide=True)
+        )
 
     if tree.is_program(crate):
         add("program", partial(steps.run, crate), seconds + BUILD_SECONDS)

@@ -67,7 +67,9 @@ fn free() {}
 """
 
 
-@pytest.mark.parametrize(("function", "owner"), [("set", "Bounds"), ("triangle", "IdsTriangles"), ("free", ""), ("none", "")])
+@pytest.mark.parametrize(
+    ("function", "owner"), [("set", "Bounds"), ("triangle", "IdsTriangles"), ("free", ""), ("none", "")]
+)
 def test_what_a_check_names_in_front_of_a_method(function: str, owner: str) -> None:
     assert owner_of(METHODS, function) == owner
 
@@ -80,7 +82,9 @@ def test_what_a_check_names_in_front_of_a_method(function: str, owner: str) -> N
     ("fn canvas::canvas::Canvas::resolve: not proved\nfn canvas::view::Canvas::resolve: proved\n", ""),
 ])
 def test_what_a_check_says_of_a_method_whose_type_is_elsewhere(said: str, verdict: str) -> None:
-    assert Edit("colours.resolve.is_wrong.edit", "", "src/colours.rt", "resolve", "Canvas").verdict("canvas", said) == verdict
+    assert Edit(
+        "colours.resolve.is_wrong.edit", "", "src/colours.rt", "resolve", "Canvas"
+    ).verdict("canvas", said) == verdict
 
 
 class Counting(Toolchain):
@@ -144,7 +148,8 @@ def test_one_that_changes_a_clause_is_tried_by_itself(tree: SmallTree) -> None:
 
 
 @pytest.mark.parametrize("number, seconds, sizes", [
-    (50, 5.0, [17, 17, 16]), (24, 5.0, [24]), (22, 50.0, [6, 6, 5, 5]), (2, 400.0, [1, 1]), (1, 900.0, [1]), (0, 0.0, []),
+    (50, 5.0, [17, 17, 16]), (24, 5.0, [24]), (22, 50.0, [6, 6, 5, 5]), (2, 400.0, [1, 1]), (1, 900.0, [1]),
+    (0, 0.0, []),
 ])
 def test_batches_share_the_edits(number: int, seconds: float, sizes: list[int]) -> None:
     names = [f"lib.f{k}.edit" for k in range(number)]

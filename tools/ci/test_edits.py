@@ -23,7 +23,9 @@ def all_as_tried(tree: SmallTree) -> tried.Record:
     """A record of all edits of the tree as it is."""
     of = sums(tree)
     return {
-        crate: tried.Entry(of.of_crate(crate), {name: tried.Tried(of.of_edit(crate, name), 1) for name in of.tree.edits(crate)})
+        crate: tried.Entry(
+            of.of_crate(crate), {name: tried.Tried(of.of_edit(crate, name), 1) for name in of.tree.edits(crate)}
+        )
         for crate in of.tree.uses if of.tree.edits(crate)
     }
 
@@ -93,7 +95,9 @@ def test_text_with_slashes_is_no_comment() -> None:
     ("pub const", "pub fn next() {} pub const", None),
     ("pub const fn", "//     n + 1\npub const fn", "2 times in src/lib.rt, and not once"),
 ])
-def test_edits_that_cannot_be_applied_are_named_in_every_crate(tree: SmallTree, old: str, new: str, why: str | None) -> None:
+def test_edits_that_cannot_be_applied_are_named_in_every_crate(
+    tree: SmallTree, old: str, new: str, why: str | None
+) -> None:
     record = all_as_tried(tree)
     tree.change("crates/low/src/lib.rt", old, new)
     faults = edits.make_plan(sums(tree), record, 0).faults

@@ -1,4 +1,5 @@
-"""Tests of `make prove` on a tree of small crates, with a program that stands for rt: what turns it red, and what it leaves."""
+"""Tests of `make prove` on a tree of small crates, with a program that stands for rt: what turns it red,
+and what it leaves."""
 
 from __future__ import annotations
 
@@ -19,7 +20,9 @@ class Proved:
     """A run over a tree: its counts, and what it printed."""
 
     def __init__(self, tree: SmallTree, capsys: pytest.CaptureFixture[str], *crates: str, **how: Any) -> None:
-        usual: dict[str, Any] = {"all": False, "anew": False, "base": None, "processors": 2, "rt": tree.rt, "top": tree.top}
+        usual: dict[str, Any] = {
+            "all": False, "anew": False, "base": None, "processors": 2, "rt": tree.rt, "top": tree.top
+        }
         self.counts = prove.prove(argparse.Namespace(**{**usual, "crates": crates, **how}))
         self.said = capsys.readouterr().out
 
@@ -143,10 +146,15 @@ def test_all_finds_an_edit_that_is_not_due_and_proved(
 def test_what_rt_ci_passed_is_not_proved_again(tree: SmallTree, capsys: pytest.CaptureFixture[str]) -> None:
     ran = Proved(tree, capsys, all=True)
     assert ran.counts == Counts(2 + FUNCTIONS), ran.said
-    assert "proof: " not in ran.said and set(tried.read_file(os.path.join(tree.top, tried.REFUSED))) == {"low", "high", "apart"}
+    assert (
+        "proof: " not in ran.said
+        and set(tried.read_file(os.path.join(tree.top, tried.REFUSED))) == {"low", "high", "apart"}
+    )
 
 
-def test_a_definition_below_that_is_weakened_makes_edits_due(tree: SmallTree, capsys: pytest.CaptureFixture[str]) -> None:
+def test_a_definition_below_that_is_weakened_makes_edits_due(
+    tree: SmallTree, capsys: pytest.CaptureFixture[str]
+) -> None:
     base = believed(tree)
     tree.change("crates/low/specs/Next.antt", "1 ≤ 2", "1 ≤ 3")
     tree.change("crates/low/must-fail/lib.next.adds_two.edit", "WRONG", "")
@@ -161,7 +169,9 @@ def test_crates_by_name_try_all_of_their_edits(tree: SmallTree, capsys: pytest.C
     assert "apart" not in ran.said
 
 
-def test_programs_are_left_for_the_checks(tree: SmallTree, capsys: pytest.CaptureFixture[str], monkeypatch: pytest.MonkeyPatch) -> None:
+def test_programs_are_left_for_the_checks(
+    tree: SmallTree, capsys: pytest.CaptureFixture[str], monkeypatch: pytest.MonkeyPatch
+) -> None:
     monkeypatch.setattr(prove, "PROGRAMS", {"app": "application"})
     Proved(tree, capsys)
     assert os.listdir(os.path.join(tree.top, "bin")) == ["application"]

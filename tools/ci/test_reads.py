@@ -21,11 +21,14 @@ pub fn step(n: u32) -> u32
 }
 """
 FILES = {
-    "crates/low/src/lib.rt": "mod far;\nmod hidden;\nmod more;\nmod near;\n\npub use far::Far;\npub use near::{jump as leap, step};\n",
+    "crates/low/src/lib.rt": "mod far;\nmod hidden;\nmod more;\nmod near;\n\npub use far::Far;\npub "
+    "use near::{jump as leap, step};\n",
     "crates/low/src/near.rt": STEP,
     "crates/low/src/hidden.rt": "pub(crate) fn inside(n: u32) -> u32 {\n    n\n}\n",
-    "crates/low/src/far.rt": "ghost use Rattle.low.specs.Away.{IsAway};\n\npub struct Far {\n    ghost away: { IsAway },\n}\n",
-    "crates/low/src/more.rt": "use super::far::Far;\n\nimpl Far {\n    pub fn more(&self) -> u32 {\n        1\n    }\n}\n",
+    "crates/low/src/far.rt": "ghost use Rattle.low.specs.Away.{IsAway};\n\npub struct Far {\n  "
+    "  ghost away: { IsAway },\n}\n",
+    "crates/low/src/more.rt": "use super::far::Far;\n\nimpl Far {\n    pub fn more(&self) -> "
+    "u32 {\n        1\n    }\n}\n",
     "crates/low/specs/Near.antt": "use Rattle.low.specs.Basis.{IsBase}\npub IsNear : Type 0\n  base : IsBase\n",
     "crates/low/specs/Basis.antt": "pub IsBase : Type 0\n",
     "crates/low/specs/Away.antt": "pub IsAway : Type 0\n",

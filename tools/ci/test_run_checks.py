@@ -20,7 +20,8 @@ from tools.places import TOP, text_of
 
 def check(text: str, name: str = "a-check", **more: object) -> Check:
     """A check that runs this text of Python."""
-    return Check(name=name, about="", command=shlex.join((sys.executable, "-c", text)), seconds=1, **more)  # type: ignore[arg-type]
+    command = shlex.join((sys.executable, "-c", text))
+    return Check(name=name, about="", command=command, seconds=1, **more)  # type: ignore[arg-type]
 
 
 PASSES = check("print('all is well')")
@@ -49,10 +50,14 @@ def test_counts(tmp_path: Path, capsys: pytest.CaptureFixture[str], text: str, c
 
 
 def test_what_is_missing_is_named(tmp_path: Path, capsys: pytest.CaptureFixture[str]) -> None:
-    tested = CheckRun(tmp_path, capsys, check("raise SystemExit(1)", needs=("no_such_compiler", "python:no_such_module")), PASSES)
+    tested = CheckRun(
+        tmp_path, capsys, check("raise SystemExit(1)", needs=("no_such_compiler", "python:no_such_module")), PASSES
+    )
     assert tested.counts == Counts(1, 0, 1)
     assert "skipped: a-check: there is no no_such_compiler and no python:no_such_module" in tested.said
-    said = CheckRun(tmp_path, capsys, check("print('skipped  a part: there is no Dask\\n3 passed, 0 failed, 1 skipped')")).said
+    said = CheckRun(
+        tmp_path, capsys, check("print('skipped  a part: there is no Dask\\n3 passed, 0 failed, 1 skipped')")
+    ).said
     assert "skipped: a-check: skipped  a part: there is no Dask" in said
 
 
@@ -90,7 +95,9 @@ def test_what_a_check_runs_is_built_before(tmp_path: Path, capsys: pytest.Captur
 
 def test_a_build_that_fails_fails_its_checks_alone(tmp_path: Path, capsys: pytest.CaptureFixture[str]) -> None:
     (tmp_path / "Makefile").write_text(MAKEFILE.format("false"), encoding="utf-8")
-    tested = CheckRun(tmp_path, capsys, check("pass", runs=("library",)), check("pass", name="other", runs=("program",)), PASSES)
+    tested = CheckRun(
+        tmp_path, capsys, check("pass", runs=("library",)), check("pass", name="other", runs=("program",)), PASSES
+    )
     assert tested.counts == Counts(2, 2)
     assert "FAILED build of library" in tested.said
 
@@ -138,8 +145,13 @@ def test_a_goal_is_counted_by_its_last_line(tmp_path: Path, lines: str, counts: 
     assert both.run("goal", str(tmp_path)) == counts
 
 
-def test_the_sum_stands_alone_at_the_end(tmp_path: Path, capsys: pytest.CaptureFixture[str], monkeypatch: pytest.MonkeyPatch) -> None:
-    (tmp_path / "Makefile").write_text("one:\n\t@echo '3 passed, 0 failed, 1 skipped'\nother:\n\t@echo '1 passed, 1 failed'; exit 1\n", encoding="utf-8")
+def test_the_sum_stands_alone_at_the_end(
+    tmp_path: Path, capsys: pytest.CaptureFixture[str], monkeypatch: pytest.MonkeyPatch
+) -> None:
+    (tmp_path / "Makefile").write_text(
+        "one:\n\t@echo '3 passed, 0 failed, 1 skipped'\nother:\n\t@echo '1 passed, 1 failed'; exit 1\n",
+        encoding="utf-8",
+    )
     monkeypatch.setattr(both, "TOP", str(tmp_path))
     monkeypatch.setattr(sys, "argv", ["both", "one", "other"])
     assert both.main() == 1

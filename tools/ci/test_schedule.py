@@ -27,14 +27,21 @@ def noting(seen: list[int]) -> Callable[[int], Outcome]:
 
 
 def test_the_longest_chain_is_first() -> None:
-    tasks = [Task("short", passes, seconds=5), Task("low", passes, seconds=2), Task("high", passes, ("low",), seconds=4)]
+    tasks = [
+        Task("short", passes, seconds=5), Task("low", passes, seconds=2), Task("high", passes, ("low",), seconds=4)
+    ]
     assert [ended.task.name for ended in run(tasks)] == ["low", "short", "high"]
 
 
 def test_what_needs_a_failed_task_is_not_run() -> None:
-    tasks = [Task("low", lambda _: Outcome(False)), Task("high", passes, ("low",)), Task("top", passes, ("high",)), Task("apart", passes)]
+    tasks = [
+        Task("low", lambda _: Outcome(False)), Task("high", passes, ("low",)), Task("top", passes, ("high",)),
+        Task("apart", passes),
+    ]
     ended = {it.task.name: it.outcome for it in run(tasks)}
-    assert {name: outcome.has_passed for name, outcome in ended.items()} == {"low": False, "high": False, "top": False, "apart": True}
+    assert {name: outcome.has_passed for name, outcome in ended.items()} == {
+        "low": False, "high": False, "top": False, "apart": True
+    }
     assert ended["top"].remark == "not run, since this failed: high"
 
 
@@ -62,5 +69,8 @@ def test_a_wide_task_takes_the_processors_that_are_left() -> None:
     run([Task("wide", noting(alone), is_wide=True)], processors=4)
     assert alone == [4]
     beside: list[int] = []
-    run([Task("wide", noting(beside), is_wide=True, seconds=9), Task("one", passes), Task("other", passes)], processors=4)
+    run(
+        [Task("wide", noting(beside), is_wide=True, seconds=9), Task("one", passes), Task("other", passes)],
+        processors=4,
+    )
     assert beside == [2]

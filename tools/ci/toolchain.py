@@ -49,8 +49,8 @@ def run(
     command: Sequence[str], folder: str, seconds: float, environment: Mapping[str, str] | None = None,
     stdin: IO[bytes] | None = None, stdout: IO[bytes] | None = None,
 ) -> Ran:
-    """Runs a command in a folder for at most these seconds. What it prints is returned, but standard output only if no file
-    is given for it."""
+    """Runs a command in a folder for at most these seconds. What it prints is returned, but standard output only if no
+    file is given for it."""
     if STOPPING.is_set():
         return Ran(None, "", 0.0)
     late = threading.Event()

@@ -50,7 +50,10 @@ def written(record: Record) -> str:
     """The text of a record, with a line for each edit, so that changes of several branches can be joined."""
     crates = []
     for crate, entry in sorted(record.items()):
-        edits = [f"   {json.dumps(name)}: {json.dumps([it.checksum, it.seconds])}" for name, it in sorted(entry.edits.items())]
+        edits = [
+            f"   {json.dumps(name)}: {json.dumps([it.checksum, it.seconds])}"
+            for name, it in sorted(entry.edits.items())
+        ]
         head = f" {json.dumps(crate)}: {{\n  \"checksum\": {json.dumps(entry.checksum)},\n  \"edits\": {{\n"
         crates.append(head + ",\n".join(edits) + "\n  }\n }")
     return "{\n" + ",\n".join(crates) + "\n}\n"
@@ -136,7 +139,8 @@ def merged(old: Record, new: Record, crates: Mapping[str, str], edits: Mapping[s
 
 
 def record(top: str, crates: Mapping[str, str], edits: Mapping[str, Mapping[str, str]]) -> int:
-    """Adds what the last run saw refused to the record, as far as that is the tree as it is now. Returns an exit status."""
+    """Adds what the last run saw refused to the record, as far as that is the tree as it is now.
+    Returns an exit status."""
     path, refused = (os.path.join(top, name) for name in (RECORD, REFUSED))
     if not os.path.isfile(refused):
         print(f"there is no {REFUSED}: run make prove first")

@@ -27,12 +27,14 @@ FORBIDDEN = {
 OF_TESTS = ("hides", "may-abort")
 HANDLES = re.compile(r"Handles allowed: (none|[A-Za-z]+(?:, [A-Za-z]+)*)\.")
 # A closure is left out, and so is a function inside another, which has the same kind of name.
-EMPTY = re.compile(r"^(?:warning: no call of `(?![^`]*::fn::)|note: the search for empty contracts did not end).*", re.MULTILINE)
+EMPTY = re.compile(
+    r"^(?:warning: no call of `(?![^`]*::fn::)|note: the search for empty contracts did not end).*", re.MULTILINE
+)
 # What a program calls of the system that only a handle gives.
 CALLS = {
     "Threads": r"pthread_create|thrd_create",
-    "Net": r"epoll_\w+|eventfd|socket|socketpair|bind|connect|listen|accept4?|getaddrinfo|getnameinfo|gethostby\w+|send(?:to|msg)?"
-    r"|recv(?:from|msg)?",
+    "Net": r"epoll_\w+|eventfd|socket|socketpair|bind|connect|listen|accept4?|getaddrinfo|getnameinfo|gethostby\w+"
+    r"|send(?:to|msg)?|recv(?:from|msg)?",
     "Processes": r"posix_spawn\w*|v?fork|clone3?|execv\w*|execl\w*|fexecve|system|popen|waitpid|waitid|wait[34]?",
 }
 

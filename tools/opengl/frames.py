@@ -156,7 +156,8 @@ class Frames:
         self.library.glClear(gl.COLOR_BUFFER_BIT | gl.DEPTH_BUFFER_BIT)
 
     def resolve(self) -> None:
-        """Writes red, green, blue and alpha of the resolved pixels to `pixels`, row 0 first, and waits for the driver."""
+        """Writes red, green, blue and alpha of the resolved pixels to `pixels`, row 0 first, and waits
+        for the driver."""
         library, box = self.library, (0, 0, self.width, self.height)
         library.glDisable(gl.SCISSOR_TEST)
         library.glColorMask(1, 1, 1, 1)

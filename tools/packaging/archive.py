@@ -1,9 +1,11 @@
 """Builds the archives of the library for C over the libraries that were proved before, so that nothing is proved twice.
 
-    python3 -m tools.packaging.archive trirast_c|canvas_c|trirast_cli x86-64-v2|x86-64-v3|aarch64|wasm64 -o PATH [--rt rt]
+    python3 -m tools.packaging.archive trirast_c|canvas_c|trirast_cli x86-64-v2|x86-64-v3|aarch64|wasm64 -o PATH
+        [--rt rt]
 
-`make library` and `make web` run this for a processor for which `rt lib` has not built, since `rt lib` has one place for its archive.
-Of the program it builds the object file, without what the toolchain brings in C for x86-64 alone: `make install` links it.
+`make library` and `make web` run this for a processor for which `rt lib` has not built, since `rt lib` has one place
+for its archive. Of the program it builds the object file, without what the toolchain brings in C for x86-64 alone:
+`make install` links it.
 """
 
 from __future__ import annotations
@@ -41,7 +43,8 @@ def search_flags(folders: Iterable[str]) -> list[str]:
 
 
 def build_command(top: str, kit: str, uses: Uses, crate: str, archive: str, more: Sequence[str] = ()) -> list[str]:
-    """The command that builds an archive, in the crate's folder. `kit` is the toolchain's folder, `more` further flags."""
+    """The command that builds an archive, in the crate's folder. `kit` is the toolchain's folder,
+    `more` further flags."""
     rlibs = os.path.join(kit, "rlibs")
     command = [os.path.join(kit, "bin", "rattle"), "build", "--crate-name", crate]
     command += ["src/main.rt"] if crate == PROGRAM else ["--crate-type", "staticlib", "src/lib.rt"]
@@ -69,7 +72,9 @@ def main() -> int:
     parser.add_argument("-o", dest="archive", required=True, metavar="PATH", help="where the archive goes")
     parser.add_argument("--rt", default="rt", help="the toolchain's command (default rt)")
     options = parser.parse_args()
-    return 0 if run(TOP, options.rt, options.crate, os.path.abspath(options.archive), PROCESSORS[options.processor]) else 1
+    return (
+        0 if run(TOP, options.rt, options.crate, os.path.abspath(options.archive), PROCESSORS[options.processor]) else 1
+    )
 
 
 if __name__ == "__main__":

@@ -1,4 +1,5 @@
-"""CMake's find_package over an installation: both targets, versions that do and do not serve, and a prefix that was moved."""
+"""CMake's find_package over an installation: both targets, versions that do and do not serve, and a
+prefix that was moved."""
 
 from __future__ import annotations
 

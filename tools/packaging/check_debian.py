@@ -61,7 +61,9 @@ def stanza(package: str) -> str:
     done = subprocess.run([need("dpkg-query"), "--status", package], capture_output=True, text=True)
     if done.returncode:
         raise MissingError(f"package {package}")
-    return re.sub(r"^(Depends|Pre-Depends|Recommends|Suggests|Conffiles):.*\n(?: .*\n)*", "", done.stdout, flags=re.MULTILINE)
+    return re.sub(
+        r"^(Depends|Pre-Depends|Recommends|Suggests|Conffiles):.*\n(?: .*\n)*", "", done.stdout, flags=re.MULTILINE
+    )
 
 
 def dpkg(*arguments: str) -> str:
@@ -90,11 +92,15 @@ def installed() -> list[str]:
 
 
 def check_program() -> str:
-    """The installed program draws each example as the one that was proved and built, by the build for the processor's level."""
+    """The installed program draws each example as the one that was proved and built, by the build for the
+    processor's level."""
     program = os.path.join(ROOT, "usr", "bin", "trirast")
     for path in LISTS:
         text = places.bytes_of(path)
-        must(run([program], input=text, env=clean_environment()) == drawn_by_program(text).output, f"other bytes for {path}")
+        must(
+            run([program], input=text, env=clean_environment()) == drawn_by_program(text).output,
+            f"other bytes for {path}",
+        )
     taken, due = build_taken(program), build_in(os.path.join(ROOT, "usr", "lib", "trirast"), has_level())
     must(os.path.realpath(taken) == due, f"{taken} was loaded")
     return f"{len(LISTS)} pictures"
@@ -104,7 +110,9 @@ def check_program_in_c() -> None:
     """A program finds the library by pkg-config and is linked with it, the shared and the static one."""
     for kind, more in (("shared", ()), ("static", ("-static",))):
         configuration = os.path.join(LIBRARIES, "pkgconfig")
-        where = clean_environment(PKG_CONFIG_LIBDIR=configuration, PKG_CONFIG_SYSROOT_DIR=ROOT, LD_LIBRARY_PATH=LIBRARIES)
+        where = clean_environment(
+            PKG_CONFIG_LIBDIR=configuration, PKG_CONFIG_SYSROOT_DIR=ROOT, LD_LIBRARY_PATH=LIBRARIES
+        )
         flags = run([need("pkg-config"), "--cflags", "--libs", "trirast"], env=where).decode().split()
         program = check_in_c(os.path.join(OUT, f"debian-{kind}"), [*more, *flags], where)
         if kind == "shared":
@@ -116,14 +124,18 @@ def check_levels() -> str:
     """The loader takes the library of the processor's level by itself. Returns the level."""
     program, where = os.path.join(OUT, "debian-shared", "program"), clean_environment(LD_LIBRARY_PATH=LIBRARIES)
     taken = [line for line in run([need("ldd"), program], env=where).decode().splitlines() if "libtrirast" in line]
-    must((f"/{LEVEL}/" in taken[0]) == has_level(), f"{taken[0].strip()}, and the processor has the level: {has_level()}")
+    must(
+        (f"/{LEVEL}/" in taken[0]) == has_level(), f"{taken[0].strip()}, and the processor has the level: {has_level()}"
+    )
     return LEVEL if has_level() else "x86-64-v2"
 
 
 def check_page() -> None:
     """The manual page is there and is read without a warning."""
     page = os.path.join(ROOT, "usr", "share", "man", "man1", "trirast.1.gz")
-    command, environment = [need("man"), "--warnings", "--local-file", page], clean_environment(LC_ALL="C.UTF-8", MANWIDTH="80")
+    command, environment = (
+        [need("man"), "--warnings", "--local-file", page], clean_environment(LC_ALL="C.UTF-8", MANWIDTH="80")
+    )
     done = subprocess.run(command, env=environment, capture_output=True, text=True)
     must(done.returncode == 0 and not done.stderr and "draw a list of triangles" in done.stdout, done.stderr[-600:])
 
@@ -140,7 +152,9 @@ def check_removal() -> None:
 
 
 def cases() -> Iterator[Case]:
-    built, installed, in_c = "Debian: the packages build, twice the same", "Debian: dpkg installs them in a folder", "Debian: a program in C"
+    built, installed, in_c = (
+        "Debian: the packages build, twice the same", "Debian: dpkg installs them in a folder", "Debian: a program in C"
+    )
     yield case(built, check_build)
     yield case("Debian: what the packages depend on", check_dependencies, needs=built)
     yield case("Debian: lintian finds no error", check_lintian, needs=built)

@@ -1,4 +1,5 @@
-"""The installed program, from a folder that was moved: it answers as bin/trirast does, by the build for the processor's level."""
+"""The installed program, from a folder that was moved: it answers as bin/trirast does, by the build for the
+processor's level."""
 
 from __future__ import annotations
 
@@ -48,7 +49,10 @@ def check_exports() -> None:
 def check_draws(program: str, **more: str) -> None:
     for path in LISTS:
         text = places.bytes_of(path)
-        must(run([program], input=text, env=clean_environment(**more)) == drawn_by_program(text).output, f"other bytes for {path}")
+        must(
+            run([program], input=text, env=clean_environment(**more)) == drawn_by_program(text).output,
+            f"other bytes for {path}",
+        )
 
 
 def check_second_level() -> None:
@@ -84,7 +88,10 @@ def by_qemu(processor: str, *flags: str) -> tuple[int, bytes, list[str]]:
     command = [need(QEMU), "-cpu", processor, "-strace", *flags, PROGRAM]
     text = places.bytes_of(EXAMPLES, "triangle.json")
     done = subprocess.run(command, input=text, capture_output=True, env=clean_environment(), timeout=MAX_SECONDS)
-    return done.returncode, done.stdout, re.findall(r'openat\(.*"(.*/program\.so)".* = \d', done.stderr.decode(errors="replace"))
+    return (
+        done.returncode, done.stdout,
+        re.findall(r'openat\(.*"(.*/program\.so)".* = \d', done.stderr.decode(errors="replace")),
+    )
 
 
 def check_processors() -> None:
@@ -93,7 +100,9 @@ def check_processors() -> None:
     for processor, is_second in ((OF_FIRST_LEVEL, False), (OF_SECOND_LEVEL, True)):
         status, picture, opened = by_qemu(processor)
         must((status, picture) == (0, wanted), f"{processor}: status {status}, or other bytes")
-        must([os.path.realpath(path) for path in opened] == [build_in(BUILDS, is_second)], f"{processor} opened {opened}")
+        must(
+            [os.path.realpath(path) for path in opened] == [build_in(BUILDS, is_second)], f"{processor} opened {opened}"
+        )
     forced = ("-E", f"LD_LIBRARY_PATH={os.path.dirname(build_in(BUILDS, True))}")
     status, picture, opened = by_qemu(OF_FIRST_LEVEL, *forced)
     must(opened == [build_in(BUILDS, True)], f"{opened} were opened")

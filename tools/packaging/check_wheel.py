@@ -1,4 +1,5 @@
-"""The wheels: an installation by pip into a fresh environment without an index, pictures drawn there, and the one for ARM64."""
+"""The wheels: an installation by pip into a fresh environment without an index, pictures drawn there, and
+the one for ARM64."""
 
 from __future__ import annotations
 
@@ -19,7 +20,8 @@ from tools.checks.library import arm64
 from tools.checks.library.commands import drawn_by_program, make, need, run
 from tools.packaging import listing, wheel
 from tools.packaging.checking import (
-    LISTS, OUT, WITHOUT_LEVEL, check_documented, check_library_sizes, clean_environment, picture_of_the_page, program_of_the_page,
+    LISTS, OUT, WITHOUT_LEVEL, check_documented, check_library_sizes, clean_environment, picture_of_the_page,
+    program_of_the_page,
 )
 from tools.packaging.common import make_anew, release, write
 from tools.places import INCLUDE, LEVEL
@@ -31,7 +33,8 @@ import hashlib, json, sys, trirast
 pictures = [trirast.draw(text, threads=4) for text in json.load(sys.stdin)]
 sums = [hashlib.sha256(picture.header + picture.bytes).hexdigest() for picture in pictures]
 maps = [line.split()[-1] for line in open("/proc/self/maps") if "libtrirast" in line]
-print(json.dumps({"sums": sums, "libraries": sorted(set(maps)), "version": trirast.__version__, "at": trirast.__file__}))
+libraries = sorted(set(maps))
+print(json.dumps({"sums": sums, "libraries": libraries, "version": trirast.__version__, "at": trirast.__file__}))
 """
 # Loads the library that its argument names as ctypes does, and calls it.
 LOADS = """\
@@ -77,10 +80,16 @@ def check_metadata(processor: str) -> str:
     extras = project["optional-dependencies"]
     must(sorted(found.get_all("Provides-Extra", [])) == sorted(extras), f"the extras {found.get_all('Provides-Extra')}")
     needs = {(extra, need.replace(" ", "")) for extra, all_needs in extras.items() for need in all_needs}
-    written = [re.fullmatch(r"""(.*?) *; *extra *== *['"](.*)['"]""", line) for line in found.get_all("Requires-Dist", ())]
+    written = [
+        re.fullmatch(r"""(.*?) *; *extra *== *['"](.*)['"]""", line) for line in found.get_all("Requires-Dist", ())
+    ]
     got = {(each[2], re.sub("[ ()]", "", each[1])) for each in written if each}
     must(got == needs and None not in written, f"{sorted(got ^ needs)} in one of the wheel and pyproject.toml alone")
-    must(form.get_all("Tag") == [f"py3-none-{tag}" for tag in wheel.tags(processor)] and form["Root-Is-Purelib"] == "false", f"{form}")
+    must(
+        form.get_all("Tag") == [f"py3-none-{tag}" for tag in wheel.tags(processor)]
+        and form["Root-Is-Purelib"] == "false",
+        f"{form}",
+    )
     return f"{len(extras)} extras"
 
 
@@ -102,7 +111,10 @@ def drawn_there(**more: str) -> tuple[str, ...]:
     command = [os.path.join(ENVIRONMENT, "bin", "python"), "-c", PROGRAM]
     given = json.dumps([text.decode() for text in texts]).encode()
     answer = json.loads(run(command, input=given, cwd=OUT, env=clean_environment(**more)))
-    must(answer["version"] == release() and answer["at"].startswith(ENVIRONMENT), f"{answer['version']} at {answer['at']}")
+    must(
+        answer["version"] == release() and answer["at"].startswith(ENVIRONMENT),
+        f"{answer['version']} at {answer['at']}",
+    )
     for path, text, found in zip(LISTS, texts, answer["sums"]):
         must(found == hashlib.sha256(drawn_by_program(text).output).hexdigest(), f"other bytes for {path}")
     return tuple(answer["libraries"])
@@ -153,7 +165,9 @@ def build_for_arm64(name: str, text: str, *libraries: str) -> str:
 
 
 def cases() -> Iterator[Case]:
-    built, installed, for_arm64 = "wheel: x86-64, built twice the same", "wheel: pip installs it", "wheel: ARM64, built twice the same"
+    built, installed, for_arm64 = (
+        "wheel: x86-64, built twice the same", "wheel: pip installs it", "wheel: ARM64, built twice the same"
+    )
     yield case(built, check_build, "x86_64")
     yield case(installed, check_install, needs=built)
     yield case("wheel: import trirast draws", check_draws, needs=installed)

@@ -1,4 +1,5 @@
-"""What the checks of all packages share: what the program draws, and programs in C that are built outside of the repository."""
+"""What the checks of all packages share: what the program draws, and programs in C that are built outside
+of the repository."""
 
 from __future__ import annotations
 
@@ -44,7 +45,8 @@ def picture_of_the_page() -> bytes:
 
 
 def check_in_c(folder: str, flags: list[str], environment: Mapping[str, str], compiler: str = "gcc") -> str:
-    """Builds the program of the page in a folder, by these flags alone, and compares what it writes. Returns its path."""
+    """Builds the program of the page in a folder, by these flags alone, and compares what it writes.
+    Returns its path."""
     os.makedirs(folder, exist_ok=True)
     source, program = os.path.join(folder, "program.c"), os.path.join(folder, "program")
     with open(source, "w", encoding="ascii") as file:
@@ -58,7 +60,10 @@ def check_documented(title: str, files: Mapping[str, int]) -> None:
     """packaging/FILES.md lists the files of a package below this title, and their sizes within a tenth or 2 KB."""
     listed = listing.listed(title)
     advice = "python3 -m tools.packaging.listing writes the lists"
-    must(sorted(listed) == sorted(files), f"{sorted(listed.keys() ^ files.keys())} in one of page and package alone; {advice}")
+    must(
+        sorted(listed) == sorted(files),
+        f"{sorted(listed.keys() ^ files.keys())} in one of page and package alone; {advice}",
+    )
     others = [name for name, size in files.items() if abs(1000 * listed[name] - size) > max(2000, size // 10)]
     must(not others, f"{others} have other sizes; {advice}")
 
@@ -75,12 +80,14 @@ def has_level() -> bool:
 
 
 def build_in(folder: str, is_second_level: bool) -> str:
-    """Where an installation has the build of the program for a level: in this folder, or in the one that the loader knows."""
+    """Where an installation has the build of the program for a level: in this folder, or in the one that
+    the loader knows."""
     return os.path.join(folder, *(("glibc-hwcaps", LEVEL) if is_second_level else ()), "program.so")
 
 
 def build_taken(program: str, **more: str) -> str:
-    """Starts a program, and ends it by a signal while it waits for its list. Returns the build of which the kernel had pages there."""
+    """Starts a program, and ends it by a signal while it waits for its list. Returns the build of which the
+    kernel had pages there."""
     environment, latest = clean_environment(**more), time.monotonic() + LOADED_AFTER
     with subprocess.Popen([program], stdin=subprocess.PIPE, stdout=subprocess.DEVNULL, env=environment) as child:
         taken: list[str] = []

@@ -22,7 +22,8 @@ def release() -> str:
 
 
 def release_time() -> int:
-    """The seconds since 1970 that packages are dated with: SOURCE_DATE_EPOCH, else the last commit's, else VERSION's own."""
+    """The seconds since 1970 that packages are dated with: SOURCE_DATE_EPOCH, else the last commit's,
+    else VERSION's own."""
     given = os.environ.get("SOURCE_DATE_EPOCH")
     if given:
         return int(given)

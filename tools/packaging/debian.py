@@ -1,9 +1,10 @@
-"""Builds the Debian packages of packaging/debian/control in dist/: the program, the shared library, and what a program links.
+"""Builds the Debian packages of packaging/debian/control in dist/: the program, the shared library, and
+what a program links.
 
     python3 -m tools.packaging.debian
 
-`make deb` builds the program and the library first. What a package depends on is read from its files by dpkg-shlibdeps. It
-needs dpkg-dev and binutils. Two runs over the same files give the same bytes.
+`make deb` builds the program and the library first. What a package depends on is read from its files by dpkg-shlibdeps.
+It needs dpkg-dev and binutils. Two runs over the same files give the same bytes.
 """
 
 from __future__ import annotations
@@ -39,7 +40,9 @@ DOCUMENTS = {
     "libtrirast-dev": ("library.md",),
 }
 # The loader's cache has to learn of the library.
-MEMBERS = {"libtrirast2": {"triggers": "activate-noawait ldconfig\n", "shlibs": "libtrirast 2 libtrirast2 (>= {release})\n"}}
+MEMBERS = {
+    "libtrirast2": {"triggers": "activate-noawait ldconfig\n", "shlibs": "libtrirast 2 libtrirast2 (>= {release})\n"}
+}
 
 
 def version() -> str:
@@ -100,7 +103,10 @@ def put_control(package: str, work: str, folder: str) -> None:
         write(os.path.join(folder, "DEBIAN", name), text.format(release=release()).encode())
     names = [name for name in files_below(folder) if not name.startswith("DEBIAN/")]
     paths = [(name, os.path.join(folder, name)) for name in names]
-    sums = [f"{hashlib.md5(places.bytes_of(path)).hexdigest()}  {name}\n" for name, path in paths if not os.path.islink(path)]
+    sums = [
+        f"{hashlib.md5(places.bytes_of(path)).hexdigest()}  {name}\n"
+        for name, path in paths if not os.path.islink(path)
+    ]
     write(os.path.join(folder, "DEBIAN", "md5sums"), "".join(sums).encode())
 
 

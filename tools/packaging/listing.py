@@ -73,7 +73,9 @@ def listed(title: str) -> dict[str, int]:
 def main() -> int:
     page = places.text_of(PAGE)
     lists = {DEBIAN_TITLE: debian_files()}
-    lists.update({wheel_title(name): wheel_files(name) for name in wheel.PROCESSORS if os.path.exists(wheel.path_of(name))})
+    lists.update(
+        {wheel_title(name): wheel_files(name) for name in wheel.PROCESSORS if os.path.exists(wheel.path_of(name))}
+    )
     for title, files in lists.items():
         page = page.replace(f"## {title}\n\n{part_of(page, title)}", f"## {title}\n\n{table(files)}")
     with open(PAGE, "w", encoding="utf-8") as file:

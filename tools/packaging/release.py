@@ -2,8 +2,8 @@
 
     python3 -m tools.packaging.release
 
-`make release` builds the packages first. The sources are those of the last commit. It needs git. SHA256SUMS has the form that
-`sha256sum -c` reads.
+`make release` builds the packages first. The sources are those of the last commit. It needs git. SHA256SUMS has the
+form that `sha256sum -c` reads.
 """
 
 from __future__ import annotations

@@ -15,7 +15,11 @@ from tools.packaging.checking import OUT
 from tools.packaging.common import make_anew
 from tools.places import PROGRAM, is_built
 
-CASES = [case for subject in (check_debian, check_installed, check_wheel, check_cmake, check_release) for case in subject.cases()]
+CASES = [
+    case
+    for subject in (check_debian, check_installed, check_wheel, check_cmake, check_release)
+    for case in subject.cases()
+]
 
 
 @pytest.fixture(scope="module", autouse=True)

@@ -2,9 +2,9 @@
 
     python3 -m tools.packaging.wheel x86_64|aarch64 ..
 
-`make wheel` builds the libraries first. setuptools builds a wheel of a copy of python/ in which the library lies, by what
-python/pyproject.toml says. Two runs over the same files give the same bytes. It needs readelf, and setuptools and wheel (Debian's
-python3-setuptools and python3-wheel) of the Python that runs it or of /usr/bin/python3.
+`make wheel` builds the libraries first. setuptools builds a wheel of a copy of python/ in which the library lies, by
+what python/pyproject.toml says. Two runs over the same files give the same bytes. It needs readelf, and setuptools and
+wheel (Debian's python3-setuptools and python3-wheel) of the Python that runs it or of /usr/bin/python3.
 """
 
 from __future__ import annotations
@@ -18,13 +18,15 @@ import sys
 from dataclasses import dataclass
 
 from tools.checks.library.commands import python_with
-from tools.packaging.common import DIST, OUT, PROGRAM_MODE, files_below, make_anew, put, release, release_time, run, write
+from tools.packaging.common import (
+    DIST, OUT, PROGRAM_MODE, files_below, make_anew, put, release, release_time, run, write
+)
 from tools.places import LIB, PYTHON_SOURCES, TOP
 
 SHARED = "libtrirast.so.2"
 LEVEL = "x86-64-v3"
-# The folder of the library in the package, and what Python loads there: `make library` makes it. It holds nothing, and the loader
-# takes the library that it needs from the folder itself or from the one of the processor's level.
+# The folder of the library in the package, and what Python loads there: `make library` makes it. It holds nothing, and
+# the loader takes the library that it needs from the folder itself or from the one of the processor's level.
 FOLDER, LOADED = "lib", "load.so"
 # The oldest glibc on which the wheels run, as their names say: it is that of the tags manylinux2014.
 GLIBC = (2, 17)

@@ -27,9 +27,9 @@ FACTORS: dict[str, Factor] = {
 }
 # Their numbers in Direct3D 11.
 FACTOR_NUMBERS = {
-    "zero": 1, "one": 2, "source_color": 3, "inverse_source_color": 4, "source_alpha": 5, "inverse_source_alpha": 6, "stored_alpha": 7,
-    "inverse_stored_alpha": 8, "stored_color": 9, "inverse_stored_color": 10, "source_alpha_saturated": 11, "constant": 14,
-    "inverse_constant": 15,
+    "zero": 1, "one": 2, "source_color": 3, "inverse_source_color": 4, "source_alpha": 5, "inverse_source_alpha": 6,
+    "stored_alpha": 7, "inverse_stored_alpha": 8, "stored_color": 9, "inverse_stored_color": 10,
+    "source_alpha_saturated": 11, "constant": 14, "inverse_constant": 15,
 }
 # The factors that are others in the equation of alpha.
 ALPHA_FACTORS: dict[str, Factor] = {"source_alpha_saturated": lambda s, a, d, e, k: 255}

@@ -1,10 +1,11 @@
-// Draws what it reads on canvases by the calls of trirast.h, for tools/reference/canvas_in_c.py: a number of threads, each of which clears
-// and draws tile rows of its own.
+// Draws what it reads on canvases by the calls of trirast.h, for tools/reference/canvas_in_c.py: a number of threads,
+// each of which clears and draws tile rows of its own.
 //
-// A request is integers of 32 bits: width, height, samples, channels and origin of a canvas; red, green, blue, alpha and depth to which it is
-// cleared; the number of threads; 1 for ids, or 0 for colours; the number of batches. Then of each batch its first id, the number of its draws,
-// vertices and indices, and these: 23 numbers of a draw, 7 of a vertex. The answer is a status, of 32 bits, and if it is 0 the pixels with alpha,
-// as they are stored and with colours divided by alpha, and of each sample the colours with alpha, the ids and the depths.
+// A request is integers of 32 bits: width, height, samples, channels and origin of a canvas; red, green, blue, alpha
+// and depth to which it is cleared; the number of threads; 1 for ids, or 0 for colours; the number of batches. Then of
+// each batch its first id, the number of its draws, vertices and indices, and these: 23 numbers of a draw, 7 of a
+// vertex. The answer is a status, of 32 bits, and if it is 0 the pixels with alpha, as they are stored and with colours
+// divided by alpha, and of each sample the colours with alpha, the ids and the depths.
 #include <pthread.h>
 #include <stdint.h>
 #include <stdio.h>
@@ -53,7 +54,8 @@ static trirast_draw read_draw(void) {
     draw.vertex_count = (size_t)number(), draw.index_count = (size_t)number();
     draw.topology = byte(), draw.cull = byte(), draw.depth_test = byte(), draw.depth_write = byte(), draw.keep = byte();
     draw.skip_samples = (uint16_t)number(), draw.scissor_enable = byte();
-    draw.scissor_left = number(), draw.scissor_top = number(), draw.scissor_right = number(), draw.scissor_bottom = number();
+    draw.scissor_left = number(), draw.scissor_top = number(), draw.scissor_right = number(),
+        draw.scissor_bottom = number();
     draw.blend.color_source = byte(), draw.blend.color_stored = byte(), draw.blend.color_operation = byte();
     draw.blend.alpha_source = byte(), draw.blend.alpha_stored = byte(), draw.blend.alpha_operation = byte();
     for (int k = 0; k < 4; k++) draw.blend.constant[k] = byte();
@@ -143,7 +145,8 @@ static void answer(const trirast_canvas *canvas) {
     for (uint32_t s = 0; s < canvas->samples; s++) {
         if (trirast_canvas_colors(canvas, s, TRIRAST_FORMAT_RGBA8, bytes, 4 * pixels, 0)) exit(2);
         write_all(bytes, 4, pixels);
-        if (trirast_canvas_ids(canvas, s, ids, pixels, 0) || trirast_canvas_depths(canvas, s, depths, pixels, 0)) exit(2);
+        if (trirast_canvas_ids(canvas, s, ids, pixels, 0) || trirast_canvas_depths(canvas, s, depths, pixels, 0))
+            exit(2);
         write_all(ids, sizeof *ids, pixels), write_all(depths, sizeof *depths, pixels);
     }
     free(bytes), free(ids), free(depths);
@@ -151,7 +154,8 @@ static void answer(const trirast_canvas *canvas) {
 
 static void serve(uint32_t width) {
     request asked = {.canvas = {.width = width}};
-    asked.canvas.height = (uint32_t)number(), asked.canvas.samples = (uint32_t)number(), asked.canvas.channels = (uint32_t)number();
+    asked.canvas.height = (uint32_t)number(), asked.canvas.samples = (uint32_t)number(),
+        asked.canvas.channels = (uint32_t)number();
     asked.canvas.origin_x = number(), asked.canvas.origin_y = number();
     asked.clear.red = byte(), asked.clear.green = byte(), asked.clear.blue = byte(), asked.clear.alpha = byte();
     asked.clear.depth = (uint16_t)number();

@@ -67,11 +67,11 @@ def read(count: int) -> bytes:
 
 
 def drawn(
-    scene: DrawList, batches: Sequence[Sequence[Draw]], counts: Sequence[int], size: tuple[int, int], origin: tuple[int, int],
-    threads: int, clear: Sequence[int], by_ids: bool,
+    scene: DrawList, batches: Sequence[Sequence[Draw]], counts: Sequence[int], size: tuple[int, int],
+    origin: tuple[int, int], threads: int, clear: Sequence[int], by_ids: bool,
 ) -> tuple[bytes, bytes, list[bytes], list[list[int]], list[list[int]]]:
-    """The pixels of a canvas with alpha, their colours as they are stored and divided by alpha, and for each sample index the colours with
-    alpha, the ids and the depths. `counts` are the triangles of each batch."""
+    """The pixels of a canvas with alpha, their colours as they are stored and divided by alpha, and for each sample
+    index the colours with alpha, the ids and the depths. `counts` are the triangles of each batch."""
     samples, channels = scene.get("samples", 1), 4 if "clear_alpha" in scene else 3
     numbers = [*size, samples, channels, *origin, *clear, threads, int(by_ids), len(batches)]
     before = 0

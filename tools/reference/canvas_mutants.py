@@ -32,8 +32,8 @@ FAILED = "(depth, old[3]):\n        return old"
 FAILED_WITH_ALPHA = "(depth, old[3]):\n        return old[:4] + tuple([value(6)] if len(old) > 4 else [])"
 MEAN = "out.append((sum(sample[channel] for sample in pixel) + count // 2) // count)"
 
-# The mutants: the name of the mistake, the numbers of samples that can show it, the text of the rule in tools/reference/renderer.py, and what
-# stands in its place.
+# The mutants: the name of the mistake, the numbers of samples that can show it, the text of the rule in
+# tools/reference/renderer.py, and what stands in its place.
 MUTANTS: list[tuple[str, Sequence[int], str, str]] = [
     ("two samples in each other's place", (2,), "((4, 4), (-4, -4))", "((-4, -4), (4, 4))"),
     ("two samples on the other diagonal", (2,), "((4, 4), (-4, -4))", "((4, -4), (-4, 4))"),
@@ -49,24 +49,51 @@ MUTANTS: list[tuple[str, Sequence[int], str, str]] = [
     ("the sample on the upper border moved into the pixel", (16,), "(-7, -8)", "(-7, -7)"),
     ("sixteen samples mirrored", (16,), "128 + 16 * y)", "128 + 16 * (-y if count == 16 else y))"),
     ("the second four samples of eight left out", (8,), PATTERN, "enumerate(SAMPLES[scene.samples][:4])"),
-    ("the first four samples for the others", (8, 16), PATTERN, "enumerate(SAMPLES[scene.samples][:4] * (scene.samples // 4))"),
-    ("the mask of the first four samples for the others", (8, 16), MASKED, "if triangle.state.sample_mask >> s % 4 & 1]"),
+    (
+        "the first four samples for the others", (8, 16), PATTERN,
+        "enumerate(SAMPLES[scene.samples][:4] * (scene.samples // 4))",
+    ),
+    (
+        "the mask of the first four samples for the others", (8, 16), MASKED,
+        "if triangle.state.sample_mask >> s % 4 & 1]",
+    ),
     ("bit 8 of a mask taken as bit 0", (16,), MASKED, "if triangle.state.sample_mask >> s % 8 & 1]"),
     ("a mask of four bits", (8, 16), MASKED, "if triangle.state.sample_mask % 16 >> s & 1]"),
-    ("a mask with bits of no sample drawn nowhere", (1, 2, 4, 8), MASKED, f"if {MASK} < 1 << scene.samples and {MASK} >> s & 1]"),
+    (
+        "a mask with bits of no sample drawn nowhere", (1, 2, 4, 8), MASKED,
+        f"if {MASK} < 1 << scene.samples and {MASK} >> s & 1]",
+    ),
     ("means rounded down", (2, 8, 16), MEAN, MEAN.replace(" + count // 2", "")),
     ("halves rounded down", (2, 8, 16), MEAN, MEAN.replace("count // 2", "(count - 1) // 2")),
-    ("the mean of sixteen samples by eight", (16,), MEAN, "out.append(min(255, sum(sample[channel] for sample in pixel) // 8))"),
-    ("the mean of the first four samples", (8, 16), MEAN, "out.append((sum(sample[channel] for sample in pixel[:4]) + 2) // 4)"),
+    (
+        "the mean of sixteen samples by eight", (16,), MEAN,
+        "out.append(min(255, sum(sample[channel] for sample in pixel) // 8))",
+    ),
+    (
+        "the mean of the first four samples", (8, 16), MEAN,
+        "out.append((sum(sample[channel] for sample in pixel[:4]) + 2) // 4)",
+    ),
     ("stored alpha taken as 0 without alpha", (1, 4), "OPAQUE = 255", "OPAQUE = 0"),
-    ("the new alpha read by colours", (1, 4), "stored_alpha = old[4] if len(old) > 4 else OPAQUE", "stored_alpha = value(6) if len(old) > 4 else OPAQUE"),
+    (
+        "the new alpha read by colours", (1, 4), "stored_alpha = old[4] if len(old) > 4 else OPAQUE",
+        "stored_alpha = value(6) if len(old) > 4 else OPAQUE",
+    ),
     ("alpha written that is kept", (1, 4), "if len(old) > 4 and state.write[3]:", "if len(old) > 4:"),
-    ("keep taken for write at alpha", (1, 4), "if len(old) > 4 and state.write[3]:", "if len(old) > 4 and not state.write[3]:"),
+    (
+        "keep taken for write at alpha", (1, 4), "if len(old) > 4 and state.write[3]:",
+        "if len(old) > 4 and not state.write[3]:",
+    ),
     ("alpha never written", (1, 4), "if len(old) > 4 and state.write[3]:", "if False:"),
     ("alpha stored where the depth test failed", (1, 4), FAILED, FAILED_WITH_ALPHA),
     ("the clear's alpha dropped", (1, 4), "[scene.clear] *", "[scene.clear[:4] + (0,) * (len(scene.clear) - 4)] *"),
-    ("positions seen from a window's corner", (1, 2, 4, 8, 16), POSITION, "p = (256 * (i - scene.origin[0]) + ox, 256 * j + oy)"),
-    ("a scissor seen from a window's corner", (1, 2, 4, 8, 16), SCISSOR, f"(edge + scene.origin[k % 2] for k, edge in enumerate({SCISSOR}))"),
+    (
+        "positions seen from a window's corner", (1, 2, 4, 8, 16), POSITION,
+        "p = (256 * (i - scene.origin[0]) + ox, 256 * j + oy)",
+    ),
+    (
+        "a scissor seen from a window's corner", (1, 2, 4, 8, 16), SCISSOR,
+        f"(edge + scene.origin[k % 2] for k, edge in enumerate({SCISSOR}))",
+    ),
 ]
 
 
@@ -81,10 +108,19 @@ BLENDING: list[tuple[str, str, str]] = [
     ("the upper clamp left out", "min(max(q, 0), 255)", "max(q, 0) % 256"),
     ("the lower clamp left out", "min(max(q, 0), 255)", "min(q % 256 if q < 0 else q, 255)"),
     ("the alpha of the constant for its channels", "equation.constant[channel]", "equation.constant[3]"),
-    ("red and blue of the constant in each other's place", "equation.constant[channel]", "equation.constant[2 - channel]"),
+    (
+        "red and blue of the constant in each other's place", "equation.constant[channel]",
+        "equation.constant[2 - channel]",
+    ),
     ("the inverse of the constant forgotten", "k: 255 - k,", "k: k,"),
-    ("the new colour subtracted from the stored one", '"subtract": lambda f, g: f - g', '"subtract": lambda f, g: g - f'),
-    ("the difference without a sign", '"reverse_subtract": lambda f, g: g - f', '"reverse_subtract": lambda f, g: abs(g - f)'),
+    (
+        "the new colour subtracted from the stored one", '"subtract": lambda f, g: f - g',
+        '"subtract": lambda f, g: g - f',
+    ),
+    (
+        "the difference without a sign", '"reverse_subtract": lambda f, g: g - f',
+        '"reverse_subtract": lambda f, g: abs(g - f)',
+    ),
     ("the lesser for the greater", '"max": max', '"max": min'),
     ("min with factors", "ENDS[operation](s, d)", "ENDS[operation](s, d) * equation.constant[channel] // 255"),
     ("a saturated alpha that is not", "min(a, 255 - e)", "a"),
@@ -104,7 +140,8 @@ BLENDING: list[tuple[str, str, str]] = [
 
 
 class Canvases:
-    """What the library makes of each generated list, which it is asked for once: every second list at a window of the screen."""
+    """What the library makes of each generated list, which it is asked for once: every second list at a
+    window of the screen."""
 
     def __init__(self, seed: int) -> None:
         self.seed = seed
@@ -157,7 +194,9 @@ def try_mutants(lists: int, seed: int) -> int:
 
 
 def main() -> int:
-    parser = argparse.ArgumentParser(description="Shows that the comparison with canvases finds each of the wrong rules.")
+    parser = argparse.ArgumentParser(
+        description="Shows that the comparison with canvases finds each of the wrong rules."
+    )
     parser.add_argument("--lists", type=int, default=LISTS, help=f"number of lists (default {LISTS})")
     parser.add_argument("--seed", type=int, default=1, help="of the lists (default 1)")
     options = parser.parse_args()

@@ -2,10 +2,10 @@
 
     python3 -m tools.reference.compare [--lists 1000] [--refused 1000] [--seed 1] [--program bin/trirast]
 
-Each list of tools/reference/generated_lists.py is drawn with every tile size and several numbers of workers, and every byte is compared
-with the reference. A few lists at the ends of their ranges come first, and those of tools/reference/bound_triangles.py. Broken lists follow,
-with one mistake or more: of these the line on standard error, the status and the empty output are compared. Exit status 1 on any
-difference; the list is then left in out/compare/.
+Each list of tools/reference/generated_lists.py is drawn with every tile size and several numbers of workers, and every
+byte is compared with the reference. A few lists at the ends of their ranges come first, and those of
+tools/reference/bound_triangles.py. Broken lists follow, with one mistake or more: of these the line on standard error,
+the status and the empty output are compared. Exit status 1 on any difference; the list is then left in out/compare/.
 """
 
 from __future__ import annotations
@@ -39,7 +39,8 @@ class Comparison:
         return answers.drawn(self.program, text, ["--tile", str(tile), "--workers", str(workers)])
 
     def compare(self, text: bytes, name: str, choices: Iterable[tuple[int, int]]) -> None:
-        """Compares the answers to a list with each of these tile sizes and numbers of workers, up to the first that differs."""
+        """Compares the answers to a list with each of these tile sizes and numbers of workers, up to the
+        first that differs."""
         expected = answers.expected(text)
         for tile, workers in choices:
             found = self.run(text, tile, workers)
@@ -64,7 +65,8 @@ class Comparison:
 
     def summary(self, lists: int, broken: int) -> str:
         return (
-            f"{lists} lists and {broken} broken ones, {self.runs} runs; {self.pixels} pixels, {self.drawn} of them unlike the "
+            f"{lists} lists and {broken} broken ones, {self.runs} runs; {self.pixels} pixels, "
+            f"{self.drawn} of them unlike the "
             f"last pixel; {self.refused} refused with the right line; {self.differences} differences"
         )
 

@@ -3,13 +3,13 @@
     python3 -m tools.reference.compare_canvas [--lists 1000] [--seed 1] [--samples 1 2 4 8 16]
 
 Each list of tools/reference/generated_lists.py has one of these numbers of samples a pixel, alpha or none, masks of 16
-bits and any blend equations (tools/reference/blending.py). It is split at random into batches, one triangle a batch among them, and
-drawn on a canvas by some threads, with and without a window, by the Python package and by a program in C. Some batches
-have no indices, but the vertices of each triangle in their order, and those in C have vertices with strides. Every
-pixel, with colours as they are stored and divided by alpha, and of every sample the colour, alpha, the depth and the id
-of the last triangle that passes there, is compared with the reference's; with one or four samples, and no other
-blending than a list has, every pixel and depth also with the program's. Exit status 1 on any difference; the list is
-then left in out/compare/.
+bits and any blend equations (tools/reference/blending.py). It is split at random into batches, one triangle a batch
+among them, and drawn on a canvas by some threads, with and without a window, by the Python package and by a program in
+C. Some batches have no indices, but the vertices of each triangle in their order, and those in C have vertices with
+strides. Every pixel, with colours as they are stored and divided by alpha, and of every sample the colour, alpha, the
+depth and the id of the last triangle that passes there, is compared with the reference's; with one or four samples, and
+no other blending than a list has, every pixel and depth also with the program's. Exit status 1 on any difference; the
+list is then left in out/compare/.
 """
 
 from __future__ import annotations
@@ -73,7 +73,8 @@ def count_of(batch: list[Draw]) -> int:
 
 
 def an_origin(pick: random.Random, scene: DrawList) -> tuple[int, int]:
-    """A place for a window at which each vertex that an index names stays in the guard band, also one of a strip without triangles."""
+    """A place for a window at which each vertex that an index names stays in the guard band, also one of a strip
+    without triangles."""
     found = []
     for axis, pixels in enumerate((scene["width"], scene["height"])):
         used = [draw["vertices"][k][axis] for draw in scene["draws"] for k in indices_of(draw)] or [0]
@@ -90,8 +91,8 @@ class Difference(Exception):
 
 
 class Readings(NamedTuple):
-    """The pixels of a picture with alpha, their colours as they are stored and divided by alpha, and for each sample index the
-    colours with alpha, the ids and the depths of all pixels."""
+    """The pixels of a picture with alpha, their colours as they are stored and divided by alpha, and for each sample
+    index the colours with alpha, the ids and the depths of all pixels."""
 
     pixels: bytes
     straight: bytes
@@ -101,7 +102,8 @@ class Readings(NamedTuple):
 
 
 def drawn(
-    scene: DrawList, batches: list[list[Draw]], size: tuple[int, int], origin: tuple[int, int], threads: int, by_ids: bool = False
+    scene: DrawList, batches: list[list[Draw]], size: tuple[int, int], origin: tuple[int, int], threads: int,
+    by_ids: bool = False,
 ) -> Any:
     """A canvas of this size at this origin, on which the batches of a list are drawn."""
     import trirast
@@ -145,7 +147,8 @@ def of_canvas(canvas: Any, threads: int) -> Readings:
 
 
 def in_c(
-    scene: DrawList, batches: list[list[Draw]], size: tuple[int, int], origin: tuple[int, int], threads: int, by_ids: bool = False
+    scene: DrawList, batches: list[list[Draw]], size: tuple[int, int], origin: tuple[int, int], threads: int,
+    by_ids: bool = False,
 ) -> Readings:
     """The same canvas by the calls of C."""
     clear = (*cleared_to(scene, by_ids), scene.get("clear_depth", 65535))
@@ -177,7 +180,9 @@ def with_ids(scene: renderer.Scene) -> renderer.Scene:
         colour = (number % 256, number // 256 % 256, number // 65536, 255)
         # Alpha may be kept.
         state = replace(triangle.state, write=(True, True, True, *triangle.state.write[3:]), blend="none")
-        triangles.append(replace(triangle, vertices=tuple(vertex[:3] + colour for vertex in triangle.vertices), state=state))
+        triangles.append(
+            replace(triangle, vertices=tuple(vertex[:3] + colour for vertex in triangle.vertices), state=state)
+        )
     return replace(scene, triangles=tuple(triangles), clear=(*WHITE, *scene.clear[3:]))
 
 
@@ -204,7 +209,9 @@ def compare_readings(what: str, found: Readings, wanted: Readings) -> int:
 def file_of(scene: DrawList, output: str) -> bytes:
     """The pixels of the program's file."""
     listed = {key: value for key, value in scene.items() if key != "clear_alpha"}
-    answer = answers.drawn(PROGRAM, encode({**listed, "draws": list(map(of_list, scene["draws"])), "output": output}), [])
+    answer = answers.drawn(
+        PROGRAM, encode({**listed, "draws": list(map(of_list, scene["draws"])), "output": output}), []
+    )
     if answer.status != 0:
         raise Difference(f"the program refuses the list: {answer}")
     return picture_file.decode(answer.output).pixel_data
@@ -216,7 +223,10 @@ def of_list(draw: Draw) -> Draw:
     return {**draw, "sample_mask": draw.get("sample_mask", 15) & 15, **write}
 
 
-def same(what: str, wanted: bytes, found: bytes, size: tuple[int, int], part: tuple[int, int], origin: tuple[int, int], unit: int) -> int:
+def same(
+    what: str, wanted: bytes, found: bytes, size: tuple[int, int], part: tuple[int, int], origin: tuple[int, int],
+    unit: int,
+) -> int:
     """Compares the pixels of a canvas of the size `part` that lie in the picture of this size. Returns their number."""
     compared = 0
     for j in range(part[1]):
@@ -264,7 +274,9 @@ def compare(scene: DrawList, pick: random.Random) -> int:
         canvas = drawn(scene, batches, part, origin, pick.randint(1, 4))
         found, wanted = of_canvas(canvas, pick.randint(1, 3)), of_reference(renderer, seen)
         compared += compare_readings(f"a canvas at {origin}", found, wanted)
-        compared += compare_readings(f"a canvas in C at {origin}", in_c(scene, batches, part, origin, pick.randint(1, 9)), wanted)
+        compared += compare_readings(
+            f"a canvas in C at {origin}", in_c(scene, batches, part, origin, pick.randint(1, 9)), wanted
+        )
         if read.samples in renderer.LIST.counts and is_of_list(scene):
             compared += compare_with_program(scene, canvas)
         wanted = of_reference(renderer, with_ids(seen))
@@ -294,10 +306,14 @@ def compare_lists(lists: int, seed: int, counts: list[int]) -> int:
 
 
 def run_with_package(module: str) -> int | None:
-    """Runs a module again in an environment in which the package is found. Returns its status, or `None` if this is that run."""
+    """Runs a module again in an environment in which the package is found. Returns its status, or `None` if
+    this is that run."""
     if "TRIRAST_CANVAS_COMPARED" in os.environ:
         return None
-    if not is_built(PROGRAM, made_by="make compare-canvas") or not is_built(SHARED_LIBRARY, made_by="make compare-canvas"):
+    if (
+        not is_built(PROGRAM, made_by="make compare-canvas")
+        or not is_built(SHARED_LIBRARY, made_by="make compare-canvas")
+    ):
         return 1
     environment = {**os.environ, **PACKAGE_ENVIRONMENT, "TRIRAST_CANVAS_COMPARED": "1"}
     return subprocess.run([sys.executable, "-m", module, *sys.argv[1:]], env=environment, cwd=TOP).returncode
@@ -308,7 +324,9 @@ def main() -> int:
     parser.add_argument("--lists", type=int, default=LISTS, help=f"number of lists (default {LISTS})")
     parser.add_argument("--seed", type=int, default=1, help="of the lists and the batches (default 1)")
     counts = renderer.CANVAS.counts
-    parser.add_argument("--samples", type=int, nargs="+", choices=counts, default=counts, help="samples of a pixel, list after list")
+    parser.add_argument(
+        "--samples", type=int, nargs="+", choices=counts, default=counts, help="samples of a pixel, list after list"
+    )
     options = parser.parse_args()
     status = run_with_package("tools.reference.compare_canvas")
     return compare_lists(options.lists, options.seed, list(options.samples)) if status is None else status

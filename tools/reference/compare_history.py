@@ -1,18 +1,23 @@
-"""Compares the histories that `trirast_why` prints with the reference's, reason by reason, and their ends with the picture.
+"""Compares the histories that `trirast_why` prints with the reference's, reason by reason, and their
+ends with the picture.
 
-    python3 -m tools.reference.compare_history [--lists 500] [--samples 20] [--counted 500] [--seed 1] [--why ..] [--program ..]
+    python3 -m tools.reference.compare_history [--lists 500] [--samples 20] [--counted 500] [--seed 1]
+        [--why ..] [--program ..]
 
-For each list of tools/reference/generated_lists.py some samples are asked for, by pixels that are near its vertices or anywhere. Of each the JSON
-value is compared with that of tools/reference/sample_history.py: each event of each triangle, its reasons, its fragment, and the sample
-before and after it. Then the events that are printed without --all are those of triangles that cover the sample; the table has the
-edge functions that the reference computes; the end is the pixel of the picture that the program draws; and
-docs/history.schema.json accepts the value, if Python's jsonschema is there.
+For each list of tools/reference/generated_lists.py some samples are asked for, by pixels that are near its vertices
+or anywhere. Of each the JSON value is compared with that of tools/reference/sample_history.py: each event of each
+triangle, its reasons, its fragment, and the sample before and after it. Then the events that are printed without
+--all are those of triangles that cover the sample; the table has the edge functions that the reference computes; the
+end is the pixel of the picture that the program draws; and docs/history.schema.json accepts the value, if Python's
+jsonschema is there.
 
-Of a list with few samples and triangles together, the counts of up to three triangles are compared too: how many samples the triangle
-covers, how many it changes, and how many still show it. The reference follows each sample of the picture.
+Of a list with few samples and triangles together, the counts of up to three triangles are compared too: how
+many samples the triangle covers, how many it changes, and how many still show it. The reference follows each
+sample of the picture.
 
-Pixels outside of the picture, triangles that there are not, numbers that are none and lists with a mistake are refused as by the
-program. Exit status 1 on any difference. The last line is `N passed, M failed`, over the samples, the counts and the refusals.
+Pixels outside of the picture, triangles that there are not, numbers that are none and lists with a mistake are
+refused as by the program. Exit status 1 on any difference. The last line is `N passed, M failed`, over the samples,
+the counts and the refusals.
 """
 
 from __future__ import annotations
@@ -52,7 +57,8 @@ def called(why: str, text: bytes, *arguments: str) -> "subprocess.CompletedProce
 
 
 def validator() -> Optional[Callable[[Value], None]]:
-    """A check of a value by the schema, or none if the package is missing. It raises an exception at a value that is refused."""
+    """A check of a value by the schema, or none if the package is missing. It raises an exception at a
+    value that is refused."""
     try:
         import jsonschema
     except ImportError:
@@ -124,7 +130,9 @@ class Comparison:
         """How the events of covering triangles, the whole pixel, or the table differ, or `None`."""
         pixel, chosen = f"{x},{y}", ("--sample", str(s))
         covering: Value = json.loads(called(self.why, text, pixel, *chosen, "--json").stdout)
-        whole["samples"][0]["events"] = [event for event in whole["samples"][0]["events"] if event["fragment"] is not None]
+        whole["samples"][0]["events"] = [
+            event for event in whole["samples"][0]["events"] if event["fragment"] is not None
+        ]
         if covering != whole:
             return f"{pixel} sample {s}, without --all: {first_difference(covering, whole)}"
         all_samples: Value = json.loads(called(self.why, text, pixel, "--json").stdout)
@@ -190,9 +198,14 @@ class Comparison:
         """Pixels outside of a picture of 2 by 2 pixels, bad numbers, and lists with a mistake."""
         for word in ("2,0", "0,2", "4096,0", "-1,0", "0", "0,", ",0", "x,0", "0,0,0", "1.0,0", "", "4294967296,0"):
             self.refuse(text, "pixel", (word,), 2, REFUSAL)
-        for words in (("0,0", "--sample", "1"), ("0,0", "--sample", "x"), ("0,0", "--sample"), ("0,0", "--tile", "8"), (), ("0,0", "1,1")):
+        for words in (
+            ("0,0", "--sample", "1"), ("0,0", "--sample", "x"), ("0,0", "--sample"), ("0,0", "--tile", "8"), (),
+            ("0,0", "1,1"),
+        ):
             self.refuse(text, "arguments", words, 2, REFUSAL)
-        for words in (("0,0",), ("0",), ("x,0",), ("0,-1",), (), ("0,0", "1,1"), ("0,0", "--all"), ("0,0", "--sample", "0")):
+        for words in (
+            ("0,0",), ("0",), ("x,0",), ("0,-1",), (), ("0,0", "1,1"), ("0,0", "--all"), ("0,0", "--sample", "0")
+        ):
             self.refuse(text, "triangle", ("--triangle", *words), 2, REFUSAL)
         usage = called(self.why, b"", "--help")
         self.refusals += 1
@@ -212,7 +225,10 @@ class Comparison:
 
 def counts_table(value: Value) -> str:
     """The text of a triangle's counts."""
-    counts = [f"  {name:<9} {value[key]:>8} samples" for name, key in (("covers", "covered"), ("changes", "changed"), ("shown by", "shown"))]
+    counts = [
+        f"  {name:<9} {value[key]:>8} samples"
+        for name, key in (("covers", "covered"), ("changes", "changed"), ("shown by", "shown"))
+    ]
     return "\n".join([f"draw {value['draw']} triangle {value['triangle']}", *counts]) + " in the end\n"
 
 
@@ -231,7 +247,9 @@ def main() -> int:
     parser = argparse.ArgumentParser(description="Compares histories with the reference's.")
     parser.add_argument("--lists", type=int, default=LISTS, help=f"number of lists (default {LISTS})")
     parser.add_argument("--samples", type=int, default=SAMPLES, help=f"of each list (default {SAMPLES})")
-    parser.add_argument("--counted", type=int, default=COUNTED, help=f"number of lists whose samples are counted (default {COUNTED})")
+    parser.add_argument(
+        "--counted", type=int, default=COUNTED, help=f"number of lists whose samples are counted (default {COUNTED})"
+    )
     parser.add_argument("--seed", type=int, default=1, help="of the lists (default 1)")
     parser.add_argument("--why", default=WHY_PROGRAM, help="default bin/trirast_why")
     parser.add_argument("--program", default=PROGRAM, help="default bin/trirast")
@@ -242,7 +260,9 @@ def main() -> int:
     comparison.compare_refusals(b'{"width":2,"height":2,"draws":[]}', options.seed, options.lists)
     for k in range(options.lists):
         text = generated_lists.accepted_text(options.seed, k)
-        comparison.compare(text, f"history-{options.seed}-{k}", random.Random(f"history {options.seed} {k}"), options.samples)
+        comparison.compare(
+            text, f"history-{options.seed}-{k}", random.Random(f"history {options.seed} {k}"), options.samples
+        )
     for k in range(options.counted):
         text = generated_lists.accepted_text(options.seed, k)
         comparison.compare_counts(text, f"history-{options.seed}-{k}", random.Random(f"counts {options.seed} {k}"))
@@ -250,8 +270,13 @@ def main() -> int:
         comparison.differences.append(name)
         print(f"no sample shows {name}")
     schema = "the schema accepts each" if comparison.validate else "no schema was tried: needs python3-jsonschema"
-    print(f"{comparison.samples} samples, {comparison.events} events: {dict(comparison.seen)}; {comparison.refusals} refusals; {schema}")
-    print(f"{comparison.triangles} triangles counted, {comparison.hidden} of them hidden in part or whole by later ones")
+    print(
+        f"{comparison.samples} samples, {comparison.events} events: {dict(comparison.seen)}; "
+        f"{comparison.refusals} refusals; {schema}"
+    )
+    print(
+        f"{comparison.triangles} triangles counted, {comparison.hidden} of them hidden in part or whole by later ones"
+    )
     done, failed = comparison.samples + comparison.refusals + comparison.triangles, len(comparison.differences)
     print(Counts(max(0, done - failed), failed))
     return 1 if failed else 0

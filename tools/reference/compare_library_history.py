@@ -1,13 +1,15 @@
-"""Compares the histories that the library writes with those that `trirast_why` prints, and their edges with the reference's.
+"""Compares the histories that the library writes with those that `trirast_why` prints, and their edges
+with the reference's.
 
     python3 -m tools.reference.compare_library_history [--lists 500] [--samples 20] [--counted 500] [--seed 1]
 
-The lists and the samples are those of tools/reference/compare_history.py, which compares the program's with the reference's. Of each sample
-trirast_list_history is called for all triangles and for those that cover the sample, by arrays that are large enough, too small and empty.
-Each event has to be the one that the program prints as JSON, the array is unchanged behind the last one, and the edge functions, the
-doubled area and what is written are the reference's. Then trirast.why of the Python package has to be the program's value, and
-trirast_list_triangle_samples to have the program's counts. Samples and triangles that are not there and lists with a mistake are refused, and
-nothing is written. Exit status 1 on any difference; the list is then left in out/compare/.
+The lists and the samples are those of tools/reference/compare_history.py, which compares the program's with the
+reference's. Of each sample trirast_list_history is called for all triangles and for those that cover the sample, by
+arrays that are large enough, too small and empty. Each event has to be the one that the program prints as JSON, the
+array is unchanged behind the last one, and the edge functions, the doubled area and what is written are the
+reference's. Then trirast.why of the Python package has to be the program's value, and trirast_list_triangle_samples to
+have the program's counts. Samples and triangles that are not there and lists with a mistake are refused, and nothing is
+written. Exit status 1 on any difference; the list is then left in out/compare/.
 """
 
 from __future__ import annotations
@@ -23,7 +25,9 @@ from typing import Any, Iterable
 
 from tools import answers
 from tools.reference import generated_lists, renderer, sample_history
-from tools.reference.compare_history import COUNTED, LISTS, MAX_EVENTS, MAX_TRIANGLES, SAMPLES, called, first_difference, pixels_of
+from tools.reference.compare_history import (
+    COUNTED, LISTS, MAX_EVENTS, MAX_TRIANGLES, SAMPLES, called, first_difference, pixels_of
+)
 from tools.counts import Counts
 from tools.checks.library.commands import PACKAGE_ENVIRONMENT
 from tools.places import PROGRAM, SHARED_LIBRARY, TOP, WHY_PROGRAM, is_built
@@ -142,7 +146,10 @@ def by_reference(scene: renderer.Scene, sample: tuple[int, int, int], is_all: bo
 
 def by_library(events: Iterable[Any]) -> list[list[int]]:
     """The same of the library's events."""
-    edges = ("doubled_area", "edge_ab", "edge_bc", "edge_ca", "number", "failure_ab", "failure_bc", "failure_ca", "writes", "covered")
+    edges = (
+        "doubled_area", "edge_ab", "edge_bc", "edge_ca", "number", "failure_ab", "failure_bc", "failure_ca", "writes",
+        "covered",
+    )
     return [[getattr(event, name) for name in edges] for event in events]
 
 
@@ -156,7 +163,9 @@ class Comparison:
         self.library = library
         self.samples = self.events = self.triangles = self.refusals = self.differences = 0
 
-    def compare_events(self, text: bytes, scene: renderer.Scene, sample: tuple[int, int, int], is_all: bool, pick: random.Random) -> None:
+    def compare_events(
+        self, text: bytes, scene: renderer.Scene, sample: tuple[int, int, int], is_all: bool, pick: random.Random
+    ) -> None:
         """Compares a sample's history by arrays of several sizes."""
         x, y, s = sample
         wanted = printed(text, f"{x},{y}", "--sample", str(s), *(["--all"] if is_all else []))["samples"][0]
@@ -168,17 +177,22 @@ class Comparison:
             written = min(capacity, count)
             must_equal("the number of events", (again.event_count, bytes(again)), (count, bytes(info)))
             must_equal("an array", bytes(events)[: written * size] == bytes(whole)[: written * size], True)
-            must_equal("the array behind the events", bytes(events)[written * size :], MARK * size * (capacity + 1 - written))
+            must_equal(
+                "the array behind the events", bytes(events)[written * size :], MARK * size * (capacity + 1 - written)
+            )
         made = self.library.history
         found = made.SampleHistory(
-            s, (info.x, info.y), made.stored_of(info.begin), tuple(map(made.event_of, whole[:count])), made.stored_of(info.end)
+            s, (info.x, info.y), made.stored_of(info.begin), tuple(map(made.event_of, whole[:count])),
+            made.stored_of(info.end),
         )
         must_equal(f"sample {sample}", sample_value(found), wanted)
         must_equal("the picture", (info.samples, info.output), (scene.samples, int(scene.output == "depth")))
         must_equal(f"edges at {sample}", by_library(whole[:count]), by_reference(scene, sample, is_all))
         self.events += count
 
-    def compare_sample(self, text: bytes, scene: renderer.Scene, sample: tuple[int, int, int], pick: random.Random) -> None:
+    def compare_sample(
+        self, text: bytes, scene: renderer.Scene, sample: tuple[int, int, int], pick: random.Random
+    ) -> None:
         import trirast
 
         x, y, s = sample
@@ -201,7 +215,9 @@ class Comparison:
         ):
             must_equal(f"the status of {sample}", self.library.refused(text, sample)[0], status)
             self.refusals += 1
-        for place in ((len(value["draws"]), 0), (0, len(scene.triangles)), (18446744073709551615, 18446744073709551615)):
+        for place in (
+            (len(value["draws"]), 0), (0, len(scene.triangles)), (18446744073709551615, 18446744073709551615)
+        ):
             must_equal(f"the status of triangle {place}", self.library.refused_counts(text, place)[0], BAD_TRIANGLE)
             self.refusals += 1
 
@@ -245,9 +261,14 @@ def compare_lists(lists: int, samples: int, counted: int, seed: int) -> int:
         comparison.attempt(generated_lists.broken_text(seed, k), f"{name}-broken", comparison.compare_broken)
     for k in range(counted):
         text = generated_lists.accepted_text(seed, k)
-        comparison.attempt(text, f"library-counts-{seed}-{k}", comparison.compare_counts, random.Random(f"counts {seed} {k}"))
+        comparison.attempt(
+            text, f"library-counts-{seed}-{k}", comparison.compare_counts, random.Random(f"counts {seed} {k}")
+        )
     done = comparison.samples + comparison.refusals + comparison.triangles
-    print(f"{comparison.samples} samples, {comparison.events} events, {comparison.triangles} triangles, {comparison.refusals} refusals")
+    print(
+        f"{comparison.samples} samples, {comparison.events} events, {comparison.triangles} triangles, "
+        f"{comparison.refusals} refusals"
+    )
     print(Counts(done, comparison.differences), flush=True)
     return 1 if comparison.differences or not comparison.events else 0
 
@@ -256,7 +277,9 @@ def main() -> int:
     parser = argparse.ArgumentParser(description="Compares the library's histories with the program's.")
     parser.add_argument("--lists", type=int, default=LISTS, help=f"number of lists (default {LISTS})")
     parser.add_argument("--samples", type=int, default=SAMPLES, help=f"of each list (default {SAMPLES})")
-    parser.add_argument("--counted", type=int, default=COUNTED, help=f"number of lists whose samples are counted (default {COUNTED})")
+    parser.add_argument(
+        "--counted", type=int, default=COUNTED, help=f"number of lists whose samples are counted (default {COUNTED})"
+    )
     parser.add_argument("--seed", type=int, default=1, help="of the lists (default 1)")
     options = parser.parse_args()
     if not is_built(PROGRAM, WHY_PROGRAM, SHARED_LIBRARY, made_by="make compare-history"):

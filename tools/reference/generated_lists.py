@@ -1,9 +1,9 @@
-"""Generated draw lists by which the program is compared with the reference renderer, and others for canvases, which may have more
-samples. A seed gives the same lists each time.
+"""Generated draw lists by which the program is compared with the reference renderer, and others for canvases, which may
+have more samples. A seed gives the same lists each time.
 
 The lists are small and look for trouble: triangles without area, slivers, edges and corners on sample positions, shared
-edges, ends of the guard band, every state, both sample counts, scissors past the picture. `tools/reference/test_compare.py` shows
-what they cover.
+edges, ends of the guard band, every state, both sample counts, scissors past the picture.
+`tools/reference/test_compare.py` shows what they cover.
 """
 
 from __future__ import annotations
@@ -25,7 +25,8 @@ MAX_SAMPLES = 4 * MAX_PIXELS
 
 
 def a_size(pick: random.Random, max_pixels: int = MAX_PIXELS) -> tuple[int, int]:
-    """A width and a height: often a few pixels, sometimes past a tile's side or at the end, never many pixels together."""
+    """A width and a height: often a few pixels, sometimes past a tile's side or at the end, never many
+    pixels together."""
     if pick.random() < 0.03:
         return pick.choice(((4096, 1), (1, 4096)))
     while True:
@@ -138,7 +139,8 @@ def some_indices(pick: random.Random, vertices: list[Vertex]) -> list[int]:
 
 
 def add_a_quad(pick: random.Random, vertices: list[Vertex]) -> None:
-    """Appends the corners of a parallelogram, whose sides begin and end where the vertices do, if it is a quad in the band."""
+    """Appends the corners of a parallelogram, whose sides begin and end where the vertices do, if it is a
+    quad in the band."""
     (ax, ay), (bx, by), (dx, dy) = (pick.choice(vertices)[:2] for _ in range(3))
     corners = [(ax, ay), (bx, by), (bx + dx - ax, by + dy - ay), (dx, dy)]
     if all(LOW <= z <= HIGH for corner in corners for z in corner) and renderer.is_strictly_convex(corners):
@@ -226,8 +228,8 @@ def a_list(pick: random.Random) -> DrawList:
 
 
 def a_canvas_list(pick: random.Random, samples: int, has_alpha: bool) -> DrawList:
-    """What is drawn on a canvas with so many samples a pixel, as a list: its masks have 16 bits. With alpha it has one to which it is
-    cleared."""
+    """What is drawn on a canvas with so many samples a pixel, as a list: its masks have 16 bits. With alpha it has one
+    to which it is cleared."""
     width, height = a_size(pick, MAX_SAMPLES // max(samples, 4))
     listed = list_of(pick, width, height, samples, renderer.CANVAS)
     if has_alpha:
@@ -323,7 +325,8 @@ def a_dented_quad(pick: random.Random) -> list[Vertex]:
 
 
 def with_wrong_faces(pick: random.Random, draw: Draw) -> Draw:
-    """A draw with quads of any four vertices, convex or not, or with more than one list of faces, or without vertices."""
+    """A draw with quads of any four vertices, convex or not, or with more than one list of faces, or
+    without vertices."""
     vertices = draw["vertices"]
     changed = {key: element for key, element in draw.items() if key not in renderer.FACE_KEYS}
     kind = pick.random()

@@ -2,9 +2,10 @@
 
     python3 -m tools.reference.mutants [--lists 300] [--refused 600] [--seed 1] [--program bin/trirast]
 
-The wrong rules are planted in the reference renderer one at a time, and for each some list of tools/reference/generated_lists.py must get
-another answer than the program's. The program answers each list once, with one tile size and one worker, since the rules are
-what is tried here. Exit status 1 if no list finds a mutant, or if the reference as it stands differs.
+The wrong rules are planted in the reference renderer one at a time, and for each some list of
+tools/reference/generated_lists.py must get another answer than the program's. The program answers each list once, with
+one tile size and one worker, since the rules are what is tried here. Exit status 1 if no list finds a mutant, or if the
+reference as it stands differs.
 """
 
 from __future__ import annotations
@@ -19,7 +20,8 @@ from tools.reference import compare, generated_lists, renderer
 from tools.answers import Answer
 from tools.places import is_built, text_of
 
-# The mutants: the name of the mistake, the text of the rule in tools/reference/renderer.py, and what stands in its place.
+# The mutants: the name of the mistake, the text of the rule in tools/reference/renderer.py, and what
+# stands in its place.
 MUTANTS = [
     ("a sample pattern mirrored", "(-2, -6), (6, -2), (-6, 2), (2, 6)", "(2, -6), (-6, -2), (6, 2), (-2, 6)"),
     ("two samples in each other's place", "(-2, -6), (6, -2)", "(6, -2), (-2, -6)"),
@@ -37,8 +39,14 @@ MUTANTS = [
     ("depths stored without depth writes", "if state.depth_write:", "if True:"),
     ("depths never stored", "if state.depth_write:", "if False:"),
     ("blending rounded down", "(255 - alpha) + 127) // 255", "(255 - alpha)) // 255"),
-    ("the stored colour over the new one", "(source * alpha + stored * (255 - alpha)", "(stored * alpha + source * (255 - alpha)"),
-    ("the alpha of one vertex", "over(source, value(6), old[channel])", "over(source, triangle.vertices[0][6], old[channel])"),
+    (
+        "the stored colour over the new one", "(source * alpha + stored * (255 - alpha)",
+        "(stored * alpha + source * (255 - alpha)",
+    ),
+    (
+        "the alpha of one vertex", "over(source, value(6), old[channel])",
+        "over(source, triangle.vertices[0][6], old[channel])",
+    ),
     (
         "values rounded to nearest",
         "zip(weights, triangle.vertices)) // size",
@@ -50,14 +58,26 @@ MUTANTS = [
         "weights = (abs(at_b), abs(at_a), abs(at_c))",
     ),
     ("the resolve rounded down", "for sample in pixel) + count // 2) // count", "for sample in pixel)) // count"),
-    ("three of four samples resolved", "for sample in pixel) + count // 2) // count", "for sample in pixel[:3]) + pixel[0][channel] + 2) // 4"),
-    ("a scissor one pixel too wide", "min(x + scene.width, right, max(xs) + 1)", "min(x + scene.width, right + 1, max(xs) + 1)"),
+    (
+        "three of four samples resolved", "for sample in pixel) + count // 2) // count",
+        "for sample in pixel[:3]) + pixel[0][channel] + 2) // 4",
+    ),
+    (
+        "a scissor one pixel too wide", "min(x + scene.width, right, max(xs) + 1)",
+        "min(x + scene.width, right + 1, max(xs) + 1)",
+    ),
     ("a scissor one pixel too low", "range(max(y, top, min(ys))", "range(max(y, top + 1, min(ys))"),
     ("the last column of a triangle left out", "right, max(xs) + 1)", "right, max(xs))"),
     ("the sample mask passed over", "if triangle.state.sample_mask >> s & 1]", "]"),
     ("the sample mask turned", "sample_mask >> s & 1", "sample_mask >> (3 - s) & 1"),
-    ("triangles from the last to the first", "for triangle in scene.triangles:", "for triangle in reversed(scene.triangles):"),
-    ("a repeated triangle drawn once", "for triangle in scene.triangles:", "for triangle in dict.fromkeys(scene.triangles):"),
+    (
+        "triangles from the last to the first", "for triangle in scene.triangles:",
+        "for triangle in reversed(scene.triangles):",
+    ),
+    (
+        "a repeated triangle drawn once", "for triangle in scene.triangles:",
+        "for triangle in dict.fromkeys(scene.triangles):",
+    ),
     ("odd triangles of a strip not turned", "[a, c, b] if number % 2 else [a, b, c]", "[a, b, c]"),
     ("the other half of a quad as its second half", "[[a, b, c], [c, d, a]]", "[[a, b, c], [b, c, d]]"),
     ("quads convex in one direction alone", " or all(area < 0 for area in areas)", ""),
@@ -69,14 +89,26 @@ MUTANTS = [
         "for sample in samples[scene.samples - 1 :: scene.samples]",
     ),
     ("the least significant byte first", 'to_bytes(2, "big")', 'to_bytes(2, "little")'),
-    ("an index equal to the count accepted", "check_whole(index, 0, len(vertices) - 1,", "check_whole(index, 0, len(vertices),"),
+    (
+        "an index equal to the count accepted", "check_whole(index, 0, len(vertices) - 1,",
+        "check_whole(index, 0, len(vertices),",
+    ),
     ("the guard band one unit wider", "BAND = (-8_388_608, 8_388_607)", "BAND = (-8_388_608, 8_388_608)"),
     ("a bad index reported as out of range", "len(vertices) - 1, draw, BAD_INDEX)", "len(vertices) - 1, draw)"),
-    ("an index under zero accepted", "check_whole(index, 0, len(vertices) - 1,", "check_whole(index, -1, len(vertices) - 1,"),
+    (
+        "an index under zero accepted", "check_whole(index, 0, len(vertices) - 1,",
+        "check_whole(index, -1, len(vertices) - 1,",
+    ),
     ("a dent in a quad passed over", "if not is_strictly_convex(", "if False and not is_strictly_convex("),
-    ("three corners on a line accepted", "return all(area > 0 for area in areas) or", "return all(area >= 0 for area in areas) or"),
+    (
+        "three corners on a line accepted", "return all(area > 0 for area in areas) or",
+        "return all(area >= 0 for area in areas) or",
+    ),
     ("depths of vertices rounded to bytes", "return position + (depth,)", "return position + (depth // 256 * 256,)"),
-    ("coverage by the centre at four samples", "p = (256 * i + ox, 256 * j + oy)", "p = (256 * i + 128, 256 * j + 128)"),
+    (
+        "coverage by the centre at four samples", "p = (256 * i + ox, 256 * j + oy)",
+        "p = (256 * i + 128, 256 * j + 128)",
+    ),
     (
         "two lists reported before a missing key",
         '    check_keys(value, DRAW_KEYS, ("vertices",), draw)\n    named =',
@@ -131,7 +163,8 @@ class Answers:
         return self.known[k]
 
     def first_difference(self, rules: Any) -> int | None:
-        """The number of the first list to which the program's answer is not that of these rules; `None` if there is none."""
+        """The number of the first list to which the program's answer is not that of these rules; `None`
+        if there is none."""
         for k in range(self.lists + self.broken):
             text, found = self.known_answer(k)
             if answer(rules, text) != found:

@@ -62,8 +62,8 @@ DEPTH_TESTS: dict[str, Callable[[int, int], bool]] = {
     "always": lambda new, old: True,
 }
 
-# How far right of a pixel's centre and below it its samples lie, in 1/16 pixel: one in the centre, and else the standard patterns of
-# Direct3D 11.
+# How far right of a pixel's centre and below it its samples lie, in 1/16 pixel: one in the centre, and else the
+# standard patterns of Direct3D 11.
 PATTERNS: dict[int, tuple[Point, ...]] = {
     1: ((0, 0),),
     2: ((4, 4), (-4, -4)),
@@ -109,7 +109,8 @@ class Limits:
     has_equations: bool
 
 
-# Those of a draw list, and those of a canvas, which a list's value describes as well. A canvas may begin left of the screen or above it.
+# Those of a draw list, and those of a canvas, which a list's value describes as well. A canvas may begin left of
+# the screen or above it.
 LIST = Limits((1, 4), 15, (0, 4096), 3, TOP_KEYS, False)
 CANVAS = Limits(tuple(PATTERNS), 65535, (-(2**31), 2**31 - 1), 4, CANVAS_KEYS, True)
 
@@ -314,7 +315,9 @@ def read_state(value: Any, draw: int, limits: Limits) -> State:
         blend=read_blend(value.get("blend", "none"), draw, limits),
         write=read_write(value, draw, limits),
         sample_mask=check_whole(value.get("sample_mask", limits.mask), 0, limits.mask, draw),
-        scissor=check_wholes(value["scissor"], 4, *limits.edges, draw) if "scissor" in value else 2 * limits.edges[:1] + 2 * limits.edges[1:],
+        scissor=check_wholes(
+            value["scissor"], 4, *limits.edges, draw
+        ) if "scissor" in value else 2 * limits.edges[:1] + 2 * limits.edges[1:],
     )
 
 
@@ -467,8 +470,8 @@ def resolve(samples: list[Sample], count: int, channels: Sequence[int] = RGB) ->
 
 
 def pixels(samples: list[Sample], count: int, layout: str) -> bytes:
-    """The bytes of the picture as a canvas writes them: the letters of the channels of a pixel in their order, and behind
-    them "_straight" if colours are divided by alpha. Alpha is 255 where none is stored."""
+    """The bytes of the picture as a canvas writes them: the letters of the channels of a pixel in their order, and
+    behind them "_straight" if colours are divided by alpha. Alpha is 255 where none is stored."""
     letters, _, kind = layout.partition("_")
     rgba = resolve([(*sample[:4], *(sample[4:] or (OPAQUE,))) for sample in samples], count, RGBA)
     out = bytearray()

@@ -1,10 +1,10 @@
-"""The history of a sample by the rules: what each triangle of a draw list does to it, and every reason why. And of each triangle how
-many samples it covers, changes and is shown by.
+"""The history of a sample by the rules: what each triangle of a draw list does to it, and every reason why. And of each
+triangle how many samples it covers, changes and is shown by.
 
     python3 -m tools.reference.sample_history X,Y [--sample S] < list.json
 
-It prints what `trirast_why X,Y --all --json` prints, as an equal JSON value. Like tools/reference/renderer.py it shares no code with the
-program, takes every triangle in draw order, and computes with exact integers.
+It prints what `trirast_why X,Y --all --json` prints, as an equal JSON value. Like tools/reference/renderer.py it shares
+no code with the program, takes every triangle in draw order, and computes with exact integers.
 """
 
 from __future__ import annotations
@@ -17,7 +17,9 @@ from typing import Any, Optional
 
 from tools import draw_list
 from tools.reference import renderer
-from tools.reference.renderer import DEPTH_TESTS, SAMPLES, Edge, Point, Sample, Scene, Triangle, is_culled, resolve, shade, side
+from tools.reference.renderer import (
+    DEPTH_TESTS, SAMPLES, Edge, Point, Sample, Scene, Triangle, is_culled, resolve, shade, side
+)
 
 # A value of JSON whose keys docs/history.schema.json names.
 Value = dict[str, Any]
@@ -35,7 +37,8 @@ class EdgeAt:
 
 
 def edge_at(a: Point, b: Point, third: Point, p: Point) -> EdgeAt:
-    """The edge ab. A triangle without area has no side on which it lies, so that it has no edge that a point is outside of."""
+    """The edge ab. A triangle without area has no side on which it lies, so that it has no edge that a
+    point is outside of."""
     value = side(a, b, p)
     if value * side(a, b, third) < 0:
         return EdgeAt(value, OUTSIDE)
@@ -93,7 +96,10 @@ def event_of(triangle: Triangle, place: Place, before: Sample) -> Event:
     area = side(a, b, c)
     edges = (edge_at(a, b, c, p), edge_at(b, c, a, p), edge_at(c, a, b, p))
     reasons = misses(triangle, area, edges, place)
-    covers = all(Edge(*corners).passes(edge.value) for corners, edge in zip(((a, b, c), (b, c, a), (c, a, b)), edges)) and area != 0
+    covers = (
+        all(Edge(*corners).passes(edge.value) for corners, edge in zip(((a, b, c), (b, c, a), (c, a, b)), edges))
+        and area != 0
+    )
     if not covers:
         return Event("missed", reasons, area, edges, None, before, before)
     weights = (abs(edges[1].value), abs(edges[2].value), abs(edges[0].value))
@@ -168,8 +174,8 @@ def history(text: bytes, column: int, row: int, sample: Optional[int] = None) ->
 
 
 def counts(text: bytes) -> list[Value]:
-    """The counts of each triangle: for each one what `trirast_why --triangle DRAW,NUMBER --json` prints. Each sample of the picture is
-    followed through all triangles."""
+    """The counts of each triangle: for each one what `trirast_why --triangle DRAW,NUMBER --json` prints. Each sample of
+    the picture is followed through all triangles."""
     scene, places = renderer.read(text), numbers_in_draws(json.loads(text))
     found = [{"draw": draw, "triangle": number, "covered": 0, "changed": 0, "shown": 0} for draw, number in places]
     for row in range(scene.height):

@@ -26,7 +26,8 @@ def shapes(count: int, pattern: tuple[Point, ...], left: int) -> Iterator[str]:
     for number, (right, down) in enumerate(pattern):
         x, y = left + SIDE // 2 + right * STEP, top + SIDE // 2 + down * STEP
         yield f'<circle cx="{x}" cy="{y}" r="{RADIUS}" fill="#c2410c"/>'
-        # Its number stands to the right of it, or near the right border to the left, and below a border on which it lies.
+        # Its number stands to the right of it, or near the right border to the left, and below a border
+        # on which it lies.
         place, anchor = (x - RADIUS - 2, "end") if right >= 6 else (x + RADIUS + 2, "start")
         yield f'<text x="{place}" y="{y + (13 if down == -8 else 4)}" text-anchor="{anchor}">{number}</text>'
 
@@ -35,7 +36,8 @@ def svg() -> str:
     """The text of the file."""
     width, height = GAP + len(PATTERNS) * (SIDE + GAP), 2 * GAP + HEAD + SIDE
     lines = [
-        f'<svg xmlns="http://www.w3.org/2000/svg" width="{width}" height="{height}" font-family="sans-serif" font-size="11" fill="#1a202c">',
+        f'<svg xmlns="http://www.w3.org/2000/svg" width="{width}" height="{height}" font-family="sans-serif" '
+        'font-size="11" fill="#1a202c">',
         '<rect width="100%" height="100%" fill="#ffffff"/>',
     ]
     for place, (count, pattern) in enumerate(PATTERNS.items()):

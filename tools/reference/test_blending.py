@@ -1,5 +1,6 @@
 #!/usr/bin/env python3
-"""Tests of the rule of blending by itself: worked values, rounding by rational numbers, and the equations with names."""
+"""Tests of the rule of blending by itself: worked values, rounding by rational numbers, and the
+equations with names."""
 
 from __future__ import annotations
 
@@ -34,7 +35,8 @@ class Blending(unittest.TestCase):
         saturated = Equation(alpha_source="source_alpha_saturated", alpha_stored="constant", constant=(0, 0, 0, 51))
         self.assertEqual(blended(saturated, ALPHA, 100, 100, 50, 50), 110)
         self.assertEqual(blended(Equation(alpha_operation="min"), ALPHA, 100, 100, 50, 50), 50)
-        # What alpha was stored, colours read: 200 by 50, 200 by the least of 100 and 205, 200 by the least of 100 and 5.
+        # What alpha was stored, colours read: 200 by 50, 200 by the least of 100 and 205, 200 by the
+        # least of 100 and 5.
         self.assertEqual(blended(Equation("stored_alpha"), 0, 200, 100, 50, 50), 39)
         self.assertEqual(blended(Equation("source_alpha_saturated"), 0, 200, 100, 50, 50), 78)
         self.assertEqual(blended(Equation("source_alpha_saturated"), 0, 200, 100, 50, 250), 4)
@@ -66,10 +68,14 @@ class Blending(unittest.TestCase):
     def test_is_the_nearest_integer(self) -> None:
         pick = random.Random(1)
         for _ in range(20000):
-            source, stored, operation = pick.choice(list(FACTORS)), pick.choice(list(FACTORS)), pick.choice(list(OPERATIONS))
+            source, stored, operation = (
+                pick.choice(list(FACTORS)), pick.choice(list(FACTORS)), pick.choice(list(OPERATIONS))
+            )
             s, a, d, e, k = (pick.randrange(256) for _ in range(5))
             f, g = (x * Fraction(FACTORS[factor](s, a, d, e, k), 255) for x, factor in ((s, source), (d, stored)))
-            exact = min(max({"add": f + g, "subtract": f - g, "reverse_subtract": g - f}[operation], Fraction(0)), Fraction(255))
+            exact = min(
+                max({"add": f + g, "subtract": f - g, "reverse_subtract": g - f}[operation], Fraction(0)), Fraction(255)
+            )
             found = blended(Equation(source, stored, operation, constant=(k,) * 4), 1, s, a, d, e)
             # 255 is odd, so nothing lies in the middle.
             self.assertLess(abs(found - exact), Fraction(1, 2))
@@ -77,7 +83,10 @@ class Blending(unittest.TestCase):
     def test_names_are_those_of_the_package(self) -> None:
         from trirast import _blend
 
-        self.assertEqual({name: tuple(each) for name, each in PRESETS.items()}, {name: tuple(each) for name, each in trirast.BLENDS.items()})
+        self.assertEqual(
+            {name: tuple(each) for name, each in PRESETS.items()},
+            {name: tuple(each) for name, each in trirast.BLENDS.items()},
+        )
         self.assertEqual((set(FACTORS), {*OPERATIONS, *ENDS}), (set(_blend.FACTORS), set(_blend.OPERATIONS)))
         self.assertEqual(Equation._fields, trirast.Blend._fields)
         self.assertEqual(tuple(blending.Equation()), tuple(trirast.Blend()))

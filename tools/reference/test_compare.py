@@ -1,4 +1,5 @@
-"""Tests of what the lists of tools/reference/generated_lists.py and tools/reference/bound_triangles.py cover, as `make compare` draws them.
+"""Tests of what the lists of tools/reference/generated_lists.py and tools/reference/bound_triangles.py cover, as
+`make compare` draws them.
 
     python3 -m pytest tools/reference/test_compare.py
 """
@@ -38,7 +39,11 @@ def named(key: str) -> set[str]:
 
 def samples_between(low: int, high: int, offsets: Sequence[int]) -> Iterator[int]:
     """The coordinates of samples above low and under high."""
-    return (256 * k + offset for k in range(low // 256, high // 256 + 1) for offset in offsets if low < 256 * k + offset < high)
+    return (
+        256 * k + offset
+        for k in range(low // 256, high // 256 + 1)
+        for offset in offsets if low < 256 * k + offset < high
+    )
 
 
 def has_sample_inside(a: Point, b: Point, count: int) -> bool:
@@ -139,7 +144,8 @@ class Ranges(unittest.TestCase):
 
 
 class Broken(unittest.TestCase):
-    """The errors of the broken lists. No list has too many of anything: tools/checks/fault_injection.py has such lists."""
+    """The errors of the broken lists. No list has too many of anything: tools/checks/fault_injection.py
+    has such lists."""
 
     def test_every_other_fault(self) -> None:
         found = set()
@@ -242,7 +248,9 @@ class Overdraw(unittest.TestCase):
             new = shade(triangle, weights, size, old)
             if old != cls.clear:
                 state = triangle.state
-                cls.met |= {("blend", state.blend), ("write", state.write), ("sample mask", cls.samples, state.sample_mask)}
+                cls.met |= {
+                    ("blend", state.blend), ("write", state.write), ("sample mask", cls.samples, state.sample_mask)
+                }
                 cls.met |= {("test", state.depth_test, new != old), ("stored", state.depth_write, new[3] != old[3])}
                 cls.met |= {("both", state.blend, state.depth_test)}
             return new

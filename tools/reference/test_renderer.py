@@ -192,7 +192,9 @@ class OnCanvases(unittest.TestCase):
         self.assertEqual(self.canvas_pixels(2, 3, cut, origin=(-1, 0)), [BLACK, WHITE, "80 80 80"])
 
     def test_limits(self) -> None:
-        for samples, mask, fault in ((3, 0, "5 OutOfRange"), (16, 65536, "5 OutOfRange in draw 0"), (16, 65535, None), (2, 16, None)):
+        for samples, mask, fault in (
+            (3, 0, "5 OutOfRange"), (16, 65536, "5 OutOfRange in draw 0"), (16, 65535, None), (2, 16, None)
+        ):
             text = json.dumps(scene(1, 1, draw(FIRST, sample_mask=mask), samples=samples)).encode()
             if fault is None:
                 self.assertEqual(renderer.read(text, renderer.CANVAS).samples, samples)
@@ -206,7 +208,10 @@ class Alpha(unittest.TestCase):
     """Alpha, which a canvas may store."""
 
     # Each sample of one pixel, and what stays of the pixel beside it.
-    WIDE = [vertex(0, 0, 0, (200, 100, 0), 128), vertex(512, 0, 0, (200, 100, 0), 128), vertex(0, 512, 0, (200, 100, 0), 128)]
+    WIDE = [
+        vertex(0, 0, 0, (200, 100, 0), 128), vertex(512, 0, 0, (200, 100, 0), 128),
+        vertex(0, 512, 0, (200, 100, 0), 128),
+    ]
 
     def samples_of(self, *draws: Draw, alpha: int | None = 0, samples: int = 1, **top: Any) -> list[renderer.Sample]:
         cleared = {} if alpha is None else {"clear_alpha": alpha}
@@ -234,10 +239,15 @@ class Alpha(unittest.TestCase):
         self.assertEqual(self.one(over, alpha=255), (100, 50, 0, 65535, 255))
 
     def test_colours_read_the_alpha_before(self) -> None:
-        equation = {"color_source": "stored_alpha", "color_stored": "zero", "alpha_source": "one", "alpha_stored": "zero"}
+        equation = {
+            "color_source": "stored_alpha", "color_stored": "zero", "alpha_source": "one", "alpha_stored": "zero"
+        }
         self.assertEqual(self.one(draw(self.WIDE, blend=equation), alpha=51), (40, 20, 0, 65535, 128))
         self.assertEqual(self.one(draw(self.WIDE, blend=equation), alpha=None), (200, 100, 0, 65535))
-        saturated = {"color_source": "source_alpha_saturated", "color_stored": "one", "alpha_source": "source_alpha_saturated", "alpha_stored": "one"}
+        saturated = {
+            "color_source": "source_alpha_saturated", "color_stored": "one", "alpha_source": "source_alpha_saturated",
+            "alpha_stored": "one",
+        }
         self.assertEqual(self.one(draw(self.WIDE, blend=saturated), alpha=204), (40, 20, 0, 65535, 255))
 
     def test_kept(self) -> None:

@@ -18,7 +18,8 @@ LIST, DIAGRAM = os.path.join("crates", "README.md"), os.path.join("docs", "archi
 HEAD = """\
 # The crates
 
-By layers, lowest first. A crate stands on crates of earlier lines alone, and on the toolchain's. A library has `src/lib.rt`, a program
+By layers, lowest first. A crate stands on crates of earlier lines alone, and on the toolchain's. A library has \
+`src/lib.rt`, a program
 `src/main.rt`. `python3 -m tools.sources.layers` writes this page; the words are those of `crates.txt`.
 """
 
@@ -66,7 +67,9 @@ def listing() -> str:
     """The text of crates/README.md."""
     parts = [HEAD]
     for layer in layers():
-        rows = [f"| `{one.name}` | {one.does} | {', '.join(f'`{use}`' for use in one.uses)} |\n" for one in layer.crates]
+        rows = [
+            f"| `{one.name}` | {one.does} | {', '.join(f'`{use}`' for use in one.uses)} |\n" for one in layer.crates
+        ]
         table = "| Crate | What it does | Stands on |\n|---|---|---|\n" + "".join(rows)
         parts.append(f"## {layer.name}\n\n{layer.about[0].upper()}{layer.about[1:]}\n\n{table}")
     return "\n".join(parts)

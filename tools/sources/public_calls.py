@@ -1,6 +1,7 @@
 """The public calls of the product's crates, as their sources give them, and those that a table's cell names.
 
-A call is written `Owner::name`: the owner is a type or a trait that the crate's root gives out, or the crate of a free function.
+A call is written `Owner::name`: the owner is a type or a trait that the crate's root gives out, or the
+crate of a free function.
 """
 
 from __future__ import annotations
@@ -14,7 +15,9 @@ from tools.sources.layers import product
 from tools.sources.rattle import functions_in
 
 # The libraries that the programs and the library for C are made of.
-CRATES = tuple(crate for crate in product() if os.path.isfile(os.path.join(places.TOP, "crates", crate, "src", "lib.rt")))
+CRATES = tuple(
+    crate for crate in product() if os.path.isfile(os.path.join(places.TOP, "crates", crate, "src", "lib.rt"))
+)
 
 
 def given_out(root: str) -> set[str]:
@@ -37,7 +40,9 @@ def calls_of(crate: str) -> dict[str, str]:
     folder = os.path.join("crates", crate)
     public = given_out(places.text_of(folder, "src", "lib.rt"))
     paths = places.files(folder, "src", "**", "*.rt")
-    return {call: os.path.relpath(path, folder) for path in paths for call in calls_in(places.text_of(path), crate, public)}
+    return {
+        call: os.path.relpath(path, folder) for path in paths for call in calls_in(places.text_of(path), crate, public)
+    }
 
 
 def public_calls() -> set[str]:
@@ -46,8 +51,8 @@ def public_calls() -> set[str]:
 
 
 def named_calls(cell: str, public: set[str]) -> set[str]:
-    """Of the public calls those that a cell names: before the colon of each part, behind which its clauses stand. The owner may be
-    left out if it is that of the call before, or if no other crate has a free function of the name."""
+    """Of the public calls those that a cell names: before the colon of each part, behind which its clauses stand. The
+    owner may be left out if it is that of the call before, or if no other crate has a free function of the name."""
     found: set[str] = set()
     owner = ""
     for part in re.sub(r"\(.*?\)", "", cell).split(";"):

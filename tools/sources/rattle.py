@@ -1,4 +1,5 @@
-"""What a source in Rattle has: the functions of a .rt file, and the definitions of a .antt file. Both are laid out by `rt fmt`."""
+"""What a source in Rattle has: the functions of a .rt file, and the definitions of a .antt file. Both are
+laid out by `rt fmt`."""
 
 from __future__ import annotations
 
@@ -17,7 +18,8 @@ SEPARATOR = "-- ----"
 
 @dataclass(frozen=True)
 class Function:
-    """A function: its type or trait if it has one, whether callers see it, and its head and clauses without comments and layout."""
+    """A function: its type or trait if it has one, whether callers see it, and its head and clauses without
+    comments and layout."""
 
     owner: str
     name: str
@@ -65,13 +67,15 @@ def functions_in(text: str) -> Iterator[Function]:
             kind = owner = ""
         elif found:
             is_public = len(found["indent"]) <= 4 and (kind == "trait" or bool(found["public"]) and kind != "for")
-            yield Function(owner if found["indent"] else "", found["name"], is_public, head_of(lines[number:], found["indent"]))
+            yield Function(
+                owner if found["indent"] else "", found["name"], is_public, head_of(lines[number:], found["indent"])
+            )
 
 
 @dataclass(frozen=True)
 class Defined:
-    """A public definition: its name, its comment as one line, and its code up to the next blank line. Also both as they stand, with
-    the number of their first line."""
+    """A public definition: its name, its comment as one line, and its code up to the next blank line. Also both as they
+    stand, with the number of their first line."""
 
     name: str
     comment: str

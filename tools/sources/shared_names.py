@@ -1,8 +1,10 @@
-"""Prints each name of a definition that stands in the specs/ of more than one crate, with these crates, and how many there are.
+"""Prints each name of a definition that stands in the specs/ of more than one crate, with these crates,
+and how many there are.
 
     python3 -m tools.sources.shared_names
 
-A definition that means the same in two crates stands in the lower one. If two mean different things, each has its subject in its name.
+A definition that means the same in two crates stands in the lower one. If two mean different things, each has its
+subject in its name.
 """
 
 from __future__ import annotations

@@ -2,9 +2,10 @@
 
     python3 -m tools.sources.statement [--check]
 
-With --check it writes nothing, compares the page with the sources, and exits with status 1 if they differ. statement_sources.py
-reads the sources; statement_text.py has the words by hand. It fails if a definition stands in no group or before one that it
-uses, if a name is explained nowhere, or if a group or a line of the glossary has lost its use.
+With --check it writes nothing, compares the page with the sources, and exits with status 1 if they differ.
+statement_sources.py reads the sources; statement_text.py has the words by hand. It fails if a definition
+stands in no group or before one that it uses, if a name is explained nowhere, or if a group or a line of the
+glossary has lost its use.
 """
 
 from __future__ import annotations
@@ -74,7 +75,10 @@ def pages_definitions() -> tuple[list[tuple[Group, list[Definition]]], set[Name]
     for one in ours.values():
         members[group_of(one.name).title].append(one)
     groups = [(group, in_reading_order(group, members[group.title])) for group in GROUPS]
-    return [(group, found + [one for one in counting if one.name.place in group.places]) for group, found in groups], others
+    return (
+        [(group, found + [one for one in counting if one.name.place in group.places]) for group, found in groups],
+        others,
+    )
 
 
 def check_order(groups: list[tuple[Group, list[Definition]]]) -> None:

@@ -1,8 +1,8 @@
 """The definitions that a contract rests on, as the sources have them: what statement.py prints.
 
-A definition of a .antt file is a paragraph, as rattle.py reads it. A type of a .rt file is its text without attributes, and its
-`impl Model` where it has one. Every word of each must be known: a name of the file or of a `use` line, a variable, or a word of
-the language. Any other word is `Unclear`, so nothing is left out in silence.
+A definition of a .antt file is a paragraph, as rattle.py reads it. A type of a .rt file is its text without attributes,
+and its `impl Model` where it has one. Every word of each must be known: a name of the file or of a `use` line, a
+variable, or a word of the language. Any other word is `Unclear`, so nothing is left out in silence.
 """
 
 from __future__ import annotations
@@ -73,7 +73,9 @@ class Scope:
             raise Unclear(f"{word} is {name} and {self.names[word]}")
 
     def find(self, word: str) -> Name | None:
-        return self.names.get(word) or next((name for known, name in self.names.items() if word in known.split("◌")), None)
+        return (
+            self.names.get(word) or next((name for known, name in self.names.items() if word in known.split("◌")), None)
+        )
 
 
 @lru_cache(maxsize=None)
@@ -158,8 +160,8 @@ def binders(words: list[str]) -> Iterator[str]:
 
 
 def names_in(words: list[str], scope: Scope, variables: set[str]) -> Iterator[Name]:
-    """What the words mean. Those of `variables` mean nothing else. A variable that the words bind themselves and that is a name
-    here too is taken for the name: rather a definition too many than one too few."""
+    """What the words mean. Those of `variables` mean nothing else. A variable that the words bind themselves and that
+    is a name here too is taken for the name: rather a definition too many than one too few."""
     bound = set(binders(words))
     for at, word in enumerate(words):
         before, after = (words[at - 1] if at else ""), (words[at + 1] if at + 1 < len(words) else "")
@@ -203,8 +205,8 @@ def constructors_of(code: list[str]) -> list[str]:
 
 
 def parts_of(code: list[str], word: str) -> Iterator[tuple[list[str], list[str]]]:
-    """A definition as its signature and equations, or as its one part: of each the tokens of a head, whose variables hold in all of
-    the part, and those of the rest."""
+    """A definition as its signature and equations, or as its one part: of each the tokens of a head, whose variables
+    hold in all of the part, and those of the rest."""
     starts = [0] + [at for at, line in enumerate(code) if at and line[0] not in " }"] + [len(code)]
     for begin, end in zip(starts, starts[1:]):
         words = tokens("\n".join(code[begin:end]))
@@ -226,7 +228,9 @@ def uses_of(code: list[str], word: str, scope: Scope) -> set[Name]:
         else:
             # The variables of an equation's patterns: what is no constructor, nor a name of the toolchain.
             names = {part: scope.find(part) for part in head[1:] if WORD.fullmatch(part)}
-            variables = {part for part, name in names.items() if not name or name.is_ours and part not in scope.constructors}
+            variables = {
+                part for part, name in names.items() if not name or name.is_ours and part not in scope.constructors
+            }
         found.update(names_in(head, scope, variables))
         found.update(names_in(rest, scope, variables))
     return found
@@ -323,7 +327,9 @@ def type_of(path: str, word: str) -> Definition:
     start = next(at for at, line in enumerate(lines) if re.match(rf"{DECLARES}{word}\b", line))
     code, model, scope = block(lines, start, "}"), model_of(lines, word), rust_scope(path)
     declared = "\n".join(code)
-    inside = re.sub(r"^\s*[A-Z]\w*", "", declared.split("{", 1)[1], flags=re.MULTILINE) if " enum " in declared else declared
+    inside = (
+        re.sub(r"^\s*[A-Z]\w*", "", declared.split("{", 1)[1], flags=re.MULTILINE) if " enum " in declared else declared
+    )
     parameters = set(re.findall(r"<(\w+)>", lines[start]))
     uses = set(rust_names(re.sub(rf"(struct|enum) {word}\b", "", inside), scope, parameters))
     for term in re.findall(r"ghost \w+ = \{(.*)\};", "\n".join(model)):
@@ -339,7 +345,8 @@ def clauses_in(text: str) -> Iterator[str]:
 
 
 def contract_of(path: str, word: str) -> Definition:
-    """A function of a .rt file: its comment, head and clauses, without the body. One of an `impl` has that line above it."""
+    """A function of a .rt file: its comment, head and clauses, without the body. One of an `impl` has
+    that line above it."""
     lines = text_of(path).split("\n")
     starts = [at for at, line in enumerate(lines) if re.match(rf"\s*pub fn {word}\b", line)]
     if len(starts) != 1:

@@ -1,4 +1,5 @@
-"""What docs/statement.md says by hand: its beginning, what stands before each group of definitions, and the glossary."""
+"""What docs/statement.md says by hand: its beginning, what stands before each group of definitions, and
+the glossary."""
 
 from __future__ import annotations
 
@@ -21,43 +22,47 @@ COUNTING = tuple(("crates/picture_file/src/counted.rt", call) for call in ("new"
 BEGINNING = """\
 # What is proved
 
-This page has the theorem about `trirast::run`, the call that reads a draw list and writes its picture. It has every definition of this
-repository that the theorem rests on, in reading order. So its reader needs neither the code nor the proofs of that call.
+This page has the theorem about `trirast::run`, the call that reads a draw list and writes its picture. It has every
+definition of this repository that the theorem rests on, in reading order. So its reader needs neither the code nor the
+proofs of that call.
 
-The page covers `trirast::run` only. [proofs.md](proofs.md) has the promises of all other calls, each with the clauses that carry it:
-[the program](proofs.md#the-program), [the library for C](proofs.md#the-library), [a canvas](proofs.md#a-canvas). Their definitions stand
-in `crates/*/specs`.
+The page covers `trirast::run` only. [proofs.md](proofs.md) has the promises of all other calls, each with the clauses
+that carry it: [the program](proofs.md#the-program), [the library for C](proofs.md#the-library),
+[a canvas](proofs.md#a-canvas). Their definitions stand in `crates/*/specs`.
 
-The [Glossary](#glossary) explains each symbol and each name of the toolchain, as `negsuc` and `R.remaining`. The [Index](#index) says which
-section defines a name of this repository, as `Counted`.
+The [Glossary](#glossary) explains each symbol and each name of the toolchain, as `negsuc` and `R.remaining`. The
+[Index](#index) says which section defines a name of this repository, as `Counted`.
 
-All of it takes an afternoon. Ten definitions carry the picture, and half an hour reads them: `PassesEdge` and `Covers` (which samples a
-triangle has), `IsValueAt` (depth and colour there), `Passes` and `IsMerged` (depth test and new colour), `Draws` (one triangle at one sample),
-`Ends` (all of them), `IsResolved` (a pixel), `IsPicture` (the bytes) and `Denotes` (which list the input is). The rest is what these are made of.
+All of it takes an afternoon. Ten definitions carry the picture, and half an hour reads them: `PassesEdge` and `Covers`
+(which samples a triangle has), `IsValueAt` (depth and colour there), `Passes` and `IsMerged` (depth test and new
+colour), `Draws` (one triangle at one sample), `Ends` (all of them), `IsResolved` (a pixel), `IsPicture` (the bytes) and
+`Denotes` (which list the input is). The rest is what these are made of.
 
 `python3 -m tools.sources.statement` makes the page from the sources, and CI compares the two.
 """
 
 HOW_TO_READ = """\
-- `requires` is what the caller promises. `ensures` is what holds when the call returns. `x.old` is the value behind a reference
-  as the call begins, `x.new` the value at the return, and `result` what is returned.
-- `f a b` is `f` of `a` and `b`. A definition with arguments that ends in `Type 0` is a statement, and one without them, as
-  `Checks`, is a type. A definition by cases has a line for each case.
-- A record of values, as `Covers` of four positions, is a statement too: all its fields hold. A field that is a value, as
-  `pub file : List ℕ`, says that there is one, and later fields speak of it. Any other record, as `Position`, is data.
-- `P × Q` is both, `P ⊎ Q` at least one, `P → Q` if P then Q, and `¬ P` not P. `⊥` never holds, and `Unit {0}` always does.
-- `(x : T) → P` is P for each x, `(x : T) × P` is P for some x, and `λ x. e` is the function that takes x to e. A parameter in
-  braces, as `{X : Type 0}`, is left out where the definition is used.
-- Numbers have no bound. An unsigned integer of Rust is an `ℕ` in its range, a signed one a `ℤ`, and an array or a `Vec` a list.
-  A struct with an `impl Model` is in clauses what its `view` says, and its `invariant` always holds.
-- `∷` binds tighter than `++`, and `×` tighter than `⊎`. `abbrev` and `unfoldable` tell the prover when to unfold a definition,
-  and change nothing in its meaning.
+- `requires` is what the caller promises. `ensures` is what holds when the call returns. `x.old` is the value behind a
+  reference as the call begins, `x.new` the value at the return, and `result` what is returned.
+- `f a b` is `f` of `a` and `b`. A definition with arguments that ends in `Type 0` is a statement, and one without them,
+  as `Checks`, is a type. A definition by cases has a line for each case.
+- A record of values, as `Covers` of four positions, is a statement too: all its fields hold. A field that is a
+  value, as `pub file : List ℕ`, says that there is one, and later fields speak of it. Any other record, as
+  `Position`, is data.
+- `P × Q` is both, `P ⊎ Q` at least one, `P → Q` if P then Q, and `¬ P` not P. `⊥` never holds, and
+  `Unit {0}` always does.
+- `(x : T) → P` is P for each x, `(x : T) × P` is P for some x, and `λ x. e` is the function that takes x to e. A
+  parameter in braces, as `{X : Type 0}`, is left out where the definition is used.
+- Numbers have no bound. An unsigned integer of Rust is an `ℕ` in its range, a signed one a `ℤ`, and an array or a `Vec`
+  a list. A struct with an `impl Model` is in clauses what its `view` says, and its `invariant` always holds.
+- `∷` binds tighter than `++`, and `×` tighter than `⊎`. `abbrev` and `unfoldable` tell the prover when to unfold a
+  definition, and change nothing in its meaning.
 """
 
 THEOREM_TEXT = """\
-If a run returns `Ok`, the input's bytes denote a draw list, and what was written is the file of that list's picture. If it
-returns an error, `Explains` says what was read and written by then. `EndsAs`, the last definition of this page, is both. Its
-arguments are these:
+If a run returns `Ok`, the input's bytes denote a draw list, and what was written is the file of that list's picture. If
+it returns an error, `Explains` says what was read and written by then. `EndsAs`, the last definition of this page, is
+both. Its arguments are these:
 
 | Argument | In the theorem | Meaning |
 |---|---|---|
@@ -70,11 +75,13 @@ arguments are these:
 | `ReadHasFailed` | `input.old.failures < input.new.failures` | a call of the reader failed in the run |
 | `WriteHasFailed` | `output.old.failures < output.new.failures` | a call of the writer failed in the run |
 
-`left` and `held` are known of readers and writers that make their bytes known, as those over memory do. Of others, as standard input and
-output, they are `None`, and the theorem then leaves their bytes open. That those report their bytes as memory does is the first of the
-[premises](proofs.md#premises). What is trusted stands in [proofs.md](proofs.md#trusted) too. That a run ever ends is not proved.
+`left` and `held` are known of readers and writers that make their bytes known, as those over memory do. Of others, as
+standard input and output, they are `None`, and the theorem then leaves their bytes open. That those report their bytes
+as memory does is the first of the [premises](proofs.md#premises). What is trusted stands in
+[proofs.md](proofs.md#trusted) too. That a run ever ends is not proved.
 
-The rest of the page begins with what a sample is and ends with `EndsAs`. Each definition uses only what stands before it.
+The rest of the page begins with what a sample is and ends with `EndsAs`. Each definition uses only what
+stands before it.
 """
 
 GLOSSARY_TEXT = """\
@@ -84,9 +91,11 @@ What the page uses of the toolchain's crates, in one line each. What counts is t
 GROUPS = (
     Group(
         "Positions and samples",
-        "x runs to the right and y downwards, in 1/256 pixel. A pixel has one sample in its centre, or several in a standard "
+        "x runs to the right and y downwards, in 1/256 pixel. A pixel has one sample in its "
+        "centre, or several in a standard "
         "pattern; a draw list has one or four. Each coordinate of a vertex lies in the guard band.",
-        "Direct3D 11, positions with 8 fractional bits, pixel centres and the standard patterns; the guard band is this project's "
+        "Direct3D 11, positions with 8 fractional bits, pixel centres and the standard patterns; "
+        "the guard band is this project's "
         "limit.",
         (
             "crates/grid/specs/Position.antt",
@@ -97,21 +106,24 @@ GROUPS = (
     ),
     Group(
         "Edges and the top-left rule",
-        "The edge function is zero on an edge's line, and has opposite signs on its two sides. A point on the line passes only if "
+        "The edge function is zero on an edge's line, and has opposite signs on its two sides. A "
+        "point on the line passes only if "
         "the edge is a top edge or a left edge.",
         "Pineda 1988 for the edge function, with the sign reversed; Direct3D 11, triangle rasterization rules.",
         ("crates/grid/specs/Edge.antt",),
     ),
     Group(
         "Coverage",
-        "A triangle covers a point if its area is not zero and the point passes the top-left rule at all three edges. The rule is "
+        "A triangle covers a point if its area is not zero and the point passes the top-left rule "
+        "at all three edges. The rule is "
         "one for both orientations.",
         "Direct3D 11, triangle rasterization rules.",
         ("crates/grid/specs/Triangle.antt", "crates/grid/src/triangle.rt"),
     ),
     Group(
         "Culling and scissor",
-        "A triangle is front-facing if its vertices run clockwise on the screen, so that its doubled area is positive. Culling drops "
+        "A triangle is front-facing if its vertices run clockwise on the screen, so that its doubled "
+        "area is positive. Culling drops "
         "front-facing triangles, back-facing triangles, or none. The scissor is a rectangle of pixels.",
         "Direct3D 11, `D3D11_CULL_MODE` with clockwise triangles in front, and the scissor test.",
         (
@@ -123,9 +135,11 @@ GROUPS = (
     ),
     Group(
         "Values at a covered sample",
-        "A depth or a channel at a sample is the mean of the three vertices' values, weighted by the edge functions of the opposite "
+        "A depth or a channel at a sample is the mean of the three vertices' values, weighted by the "
+        "edge functions of the opposite "
         "edges. The exact mean is rounded down, which two bounds say.",
-        "the weights are the barycentric coordinates that the edge functions of Pineda 1988 give; rounding down is this project's rule.",
+        "the weights are the barycentric coordinates that the edge functions of Pineda 1988 give; "
+        "rounding down is this project's rule.",
         ("crates/shade/specs/Quotient.antt", "crates/shade/specs/Value.antt"),
     ),
     Group(
@@ -136,10 +150,14 @@ GROUPS = (
     ),
     Group(
         "New colour",
-        "A channel that is written is blended by an equation of two factors and an operation, rounded once to the nearest integer and "
-        "clamped. A draw list has two. With `none_blend` the channel becomes the source's. With `over_blend` it becomes the source over "
-        "the stored channel by the source's alpha, as `shade::lists_are_blended` promises. A channel that is not written is unchanged.",
-        "Direct3D 11, `D3D11_BLEND` and `D3D11_BLEND_OP`; Porter and Duff 1984, source over an opaque destination; the rounding is this "
+        "A channel that is written is blended by an equation of two factors and an operation, rounded "
+        "once to the nearest integer and "
+        "clamped. A draw list has two. With `none_blend` the channel becomes the source's. With "
+        "`over_blend` it becomes the source over "
+        "the stored channel by the source's alpha, as `shade::lists_are_blended` promises. A channel "
+        "that is not written is unchanged.",
+        "Direct3D 11, `D3D11_BLEND` and `D3D11_BLEND_OP`; Porter and Duff 1984, source over an opaque "
+        "destination; the rounding is this "
         "project's rule.",
         (
             "crates/shade/src/operands.rt",
@@ -152,9 +170,12 @@ GROUPS = (
     ),
     Group(
         "A sample after one triangle",
-        "A triangle meets a sample if it is not culled, covers the sample's position, and neither scissor nor sample mask leaves the "
-        "sample out. A sample that it meets takes its depth test, write mask and blending. Any other sample is unchanged.",
-        "Direct3D 11: culling, scissor and coverage of the rasterizer; sample mask, depth test, write mask and blending of the output "
+        "A triangle meets a sample if it is not culled, covers the sample's position, and neither "
+        "scissor nor sample mask leaves the "
+        "sample out. A sample that it meets takes its depth test, write mask and blending. Any "
+        "other sample is unchanged.",
+        "Direct3D 11: culling, scissor and coverage of the rasterizer; sample mask, depth test, write "
+        "mask and blending of the output "
         "merger.",
         (
             "crates/shade/src/sample.rt",
@@ -178,28 +199,32 @@ GROUPS = (
     ),
     Group(
         "The picture",
-        "A scene is what a picture is drawn of. The picture has the bytes of its pixels, row by row from the top. A pixel is the "
+        "A scene is what a picture is drawn of. The picture has the bytes of its pixels, row by "
+        "row from the top. A pixel is the "
         "resolved colour, or the depth of the pixel's sample 0.",
         "the order of a depth's two bytes is that of Netpbm's pgm(5); that sample 0 is shown is this project's rule.",
         ("crates/model/src/output.rt", "crates/model/specs/Scene.antt", "crates/model/specs/Picture.antt"),
     ),
     Group(
         "The picture's file",
-        "A picture of colours is a binary PPM file, and a picture of depths is a binary PGM file. Each has one spelling: the header, "
+        "A picture of colours is a binary PPM file, and a picture of depths is a binary PGM file. Each "
+        "has one spelling: the header, "
         "and then the rows.",
         "Netpbm's ppm(5) and pgm(5), one spelling of each.",
         ("crates/picture_file/specs/File.antt",),
     ),
     Group(
         "Parts of a JSON value",
-        "These look into a JSON value: what stands under a key or at an index, and the integer, string, boolean or array that it is. "
+        "These look into a JSON value: what stands under a key or at an index, and the integer, "
+        "string, boolean or array that it is. "
         "Which bytes are JSON, and of which value, is what `serde_json` says.",
         "RFC 8259 for JSON; the keys and words are this project's format.",
         ("crates/model/specs/Json.antt", "crates/model/specs/Keys.antt"),
     ),
     Group(
         "Primitives and their triangles",
-        "A draw has a triangle list, a triangle strip or a list of strictly convex quads, over its own vertices. The scene has all "
+        "A draw has a triangle list, a triangle strip or a list of strictly convex quads, over its "
+        "own vertices. The scene has all "
         "their triangles in draw order, each with its draw's state.",
         "Vulkan 1.3 for the order of a strip's indices; quads are this project's own.",
         (
@@ -211,27 +236,34 @@ GROUPS = (
     ),
     Group(
         "Which bytes denote a draw list",
-        "These say, key by key, which JSON value is which part of a draw list. They have its ranges, its limits and the defaults of "
+        "These say, key by key, which JSON value is which part of a draw list. They have its ranges, "
+        "its limits and the defaults of "
         "absent keys. `Denotes` says which scene the bytes stand for.",
         "this project's format, in words in `docs/draw-list.md`.",
         ("crates/model/specs/Denotes.antt",),
     ),
     Group(
         "The first error",
-        "All checks of an input stand in one list, in a fixed order. An input that fails one has the error of the first that fails.",
+        "All checks of an input stand in one list, in a fixed order. An input that fails one has the "
+        "error of the first that fails.",
         "this project's format, in words in `docs/draw-list.md`.",
         ("crates/model/src/fault.rt", "crates/model/specs/FirstFault.antt", "crates/model/specs/Checks.antt"),
     ),
     Group(
         "Readers and writers",
-        "A run reads and writes through `Counted`, which counts the calls that failed. Its `read`, `write` and `flush` are all that "
+        "A run reads and writes through `Counted`, which counts the calls that failed. Its `read`, "
+        "`write` and `flush` are all that "
         "raise the count, so their contracts stand here too.",
         "`Read` and `Write` of Rust's standard library; counting is this project's own.",
-        ("crates/picture_file/specs/Device.antt", "crates/picture_file/specs/Counted.antt", "crates/picture_file/src/counted.rt"),
+        (
+            "crates/picture_file/specs/Device.antt", "crates/picture_file/specs/Counted.antt",
+            "crates/picture_file/src/counted.rt",
+        ),
     ),
     Group(
         "What a run does",
-        "The input's bytes are those that the reader gave up to its end. What was written is the whole file, or as much of its "
+        "The input's bytes are those that the reader gave up to its end. What was written is the "
+        "whole file, or as much of its "
         "beginning as the error says. What a device does not make known (`None`) is left open.",
         "this project's own.",
         (
@@ -315,7 +347,10 @@ GLOSSARY: dict[str, tuple[tuple[str, str, str], ...]] = {
         ("unwrap_or", "unwrap_or o d", "the value of o, and d if there is none"),
         ("option_map", "option_map f o", "f of the value of o, and `None` if there is none"),
         ("option_map_or", "option_map_or f o d", "f of the value of o, and d if there is none"),
-        ("option_and_then", "option_and_then f o", "what f, which may give none, gives for the value of o; `None` if o has none"),
+        (
+            "option_and_then", "option_and_then f o",
+            "what f, which may give none, gives for the value of o; `None` if o has none",
+        ),
         ("Result", "Result T E", "`Ok` with a value of T, or `Err` with an error of E"),
         ("Ok", "Ok x", "the call succeeded, with x"),
         ("Err", "Err e", "the call failed, with e"),
@@ -333,9 +368,13 @@ GLOSSARY: dict[str, tuple[tuple[str, str, str], ...]] = {
         (
             "ReadConsumes",
             "ReadConsumes old new r buffer",
-            "at `Ok n` the buffer's first n bytes are consumed, and n is 0 only at the end or for an empty buffer; at `Err` nothing is",
+            "at `Ok n` the buffer's first n bytes are consumed, and n is 0 only at the end or for an "
+            "empty buffer; at `Err` nothing is",
         ),
-        ("WriteAppends", "WriteAppends old new r buffer", "at `Ok n` the buffer's first n bytes are appended; at `Err` nothing is"),
+        (
+            "WriteAppends", "WriteAppends old new r buffer",
+            "at `Ok n` the buffer's first n bytes are appended; at `Err` nothing is",
+        ),
         ("Read", "R: Read", "a reader of Rust's standard library"),
         ("Write", "W: Write", "a writer of Rust's standard library"),
         ("Threads", "Rt: Threads", "what starts threads"),
@@ -367,7 +406,8 @@ GLOSSARY: dict[str, tuple[tuple[str, str, str], ...]] = {
         (
             "as_integer",
             "as_integer n",
-            "the integer that n is, if it is one; what has a fraction or an exponent, `-0` and what is outside 64 bits is none",
+            "the integer that n is, if it is one; what has a fraction or an exponent, `-0` and "
+            "what is outside 64 bits is none",
         ),
         ("as_str", "as_str d", "the bytes of the string that d is, if it is one"),
         ("as_array", "as_array d", "the elements of the array that d is, if it is one"),

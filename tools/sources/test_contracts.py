@@ -1,5 +1,6 @@
 #!/usr/bin/env python3
-"""Tests of `tools.contracts`: a contract that was only laid out anew is the same, and one of which a word changed is not.
+"""Tests of `tools.contracts`: a contract that was only laid out anew is the same, and one of which a
+word changed is not.
 
     python3 -m pytest tools/sources/test_contracts.py
 """
@@ -28,7 +29,9 @@ class Contracts(unittest.TestCase):
         self.assertEqual(flat("record {\n  wide = 1;\n  high = 2;\n}"), flat("record { wide = 1; high = 2 }"))
 
     def test_words_count(self) -> None:
-        for old, new in (("→", "×"), ("point by", "by point"), ("value", "size"), ("u32", "u16"), ("n result", "result")):
+        for old, new in (
+            ("→", "×"), ("point by", "by point"), ("value", "size"), ("u32", "u16"), ("n result", "result")
+        ):
             self.assertFalse(is_same(SHORT, BROKEN.replace(old, new)), f"{new} for {old}")
 
     def test_brackets_count(self) -> None:

@@ -1,6 +1,7 @@
 #!/usr/bin/env python3
-"""Tests of the must-fail edits: that each can be applied to the sources, is named for a function that it changes, that the table of
-wrong bodies in docs/tested.md names edits and tests that are there, and that it names each public function without an edit.
+"""Tests of the must-fail edits: that each can be applied to the sources, is named for a function that it changes, that
+the table of wrong bodies in docs/tested.md names edits and tests that are there, and that it names each public
+function without an edit.
 
     python3 -m pytest tools/sources/test_edits.py
 """
@@ -17,8 +18,8 @@ from tools.places import TOP, text_of
 from tools.sources.public_calls import CRATES, calls_of
 from tools.sources.rattle import functions_in
 
-# The rows of the table of wrong bodies, and the edits and tests that they name: a wrong body that was named once stays named. Raise them
-# with each new row or name.
+# The rows of the table of wrong bodies, and the edits and tests that they name: a wrong body that was named once stays
+# named. Raise them with each new row or name.
 ROWS, NAMES = 98, 346
 
 
@@ -41,8 +42,8 @@ def pairs_of(edit: str) -> list[tuple[str, str, str]]:
 
 
 def tests() -> set[str]:
-    """The tests of all crates, as crate::function, those of the whole program in Python, as acceptance::function without `test_`, and the
-    calls that have worked values, as worked_values::call and worked_lists::call."""
+    """The tests of all crates, as crate::function, those of the whole program in Python, as acceptance::function
+    without `test_`, and the calls that have worked values, as worked_values::call and worked_lists::call."""
     found: set[str] = set()
     for path in places.files("tests", "acceptance", "*.py"):
         found.update(f"acceptance::{name}" for name in re.findall(r"^def test_(\w+)", text_of(path), re.MULTILINE))
@@ -99,8 +100,13 @@ class WrongBodies(unittest.TestCase):
 
 
 def with_edit(is_by_file: bool) -> set[tuple[str, str]]:
-    """The public functions, as crate and call, for which an edit of their crate is named, or one that changes their own file."""
-    named = {(edit.split("/")[0], edit.split(".")[-2], path if is_by_file else "") for edit in edits() for path, _old, _new in pairs_of(edit)}
+    """The public functions, as crate and call, for which an edit of their crate is named, or one that
+    changes their own file."""
+    named = {
+        (edit.split("/")[0], edit.split(".")[-2], path if is_by_file else "")
+        for edit in edits()
+        for path, _old, _new in pairs_of(edit)
+    }
     calls = [(crate, call, path if is_by_file else "") for crate in CRATES for call, path in calls_of(crate).items()]
     return {(crate, call) for crate, call, path in calls if (crate, call.split("::")[1], path) in named}
 
@@ -115,11 +121,18 @@ def said_to_have_none() -> set[tuple[str, str]]:
 class PublicFunctions(unittest.TestCase):
     def test_have_an_edit_or_are_said_to_have_none(self) -> None:
         every = {(crate, call) for crate in CRATES for call in calls_of(crate)}
-        self.assertEqual(every - with_edit(is_by_file=False) - said_to_have_none(), set(), "a public function without an edit")
+        self.assertEqual(
+            every - with_edit(is_by_file=False) - said_to_have_none(), set(), "a public function without an edit"
+        )
         self.assertEqual(said_to_have_none() - every, set(), "no public function")
         self.assertEqual(said_to_have_none() & with_edit(is_by_file=True), set(), "a public function that has an edit")
 
     def test_a_clause_with_a_record_is_read_whole(self) -> None:
-        text = "pub fn f() -> R\n    ensures { result ≡ record {\n      a = 1;\n    } }\n    ensures last { A }\n{\n    g()\n}\n"
+        text = (
+            "pub fn f() -> R\n    ensures { result ≡ record {\n      a = 1;\n    } }\n    "
+            "ensures last { A }\n{\n    g()\n}\n"
+        )
         (call,) = functions_in(text)
-        self.assertEqual(call.text.split("\n")[1:], ["ensures { result ≡ record {", "a = 1;", "} }", "ensures last { A }"])
+        self.assertEqual(
+            call.text.split("\n")[1:], ["ensures { result ≡ record {", "a = 1;", "} }", "ensures last { A }"]
+        )

@@ -1,6 +1,7 @@
 #!/usr/bin/env python3
-"""Tests that the header, the Rust bindings, the Python package, the page for browsers, the schema of results and the second renderer have
-the numbers of samples of crates/grid, and that header, package and page have the second renderer's sample positions.
+"""Tests that the header, the Rust bindings, the Python package, the page for browsers, the schema of results and the
+second renderer have the numbers of samples of crates/grid, and that header, package and page have the second
+renderer's sample positions.
 
     python3 -m pytest tools/sources/test_samples.py
 """
@@ -32,7 +33,9 @@ class Samples(unittest.TestCase):
     words = re.sub(r", (\d+)$", r" or \1", ", ".join(map(str, PATTERNS)))
 
     def test_crates(self) -> None:
-        numbers = re.findall(r"^ +(\d+) => Some\(SampleCount::", text_of("crates", "grid", "src", "sample_count.rt"), re.MULTILINE)
+        numbers = re.findall(
+            r"^ +(\d+) => Some\(SampleCount::", text_of("crates", "grid", "src", "sample_count.rt"), re.MULTILINE
+        )
         self.assertEqual(list(map(int, numbers)), list(PATTERNS))
 
     def test_header(self) -> None:
@@ -40,12 +43,17 @@ class Samples(unittest.TestCase):
         found = re.findall(r'#define TRIRAST_SAMPLE_COUNTS "(.*)"|/\* samples of a pixel: (.*); 0 for 1 \*/', text)
         self.assertEqual(list(map("".join, found)), 2 * [self.words])
         rows = re.findall(r"\{(\d+), \{(.*?)\}\}", between(text, "#define TRIRAST_SAMPLE_PATTERNS", "\n\n"), re.DOTALL)
-        patterns = [(int(count), tuple((int(x), int(y)) for x, y in re.findall(r"(-?\d+), (-?\d+)", row))) for count, row in rows]
+        patterns = [
+            (int(count), tuple((int(x), int(y)) for x, y in re.findall(r"(-?\d+), (-?\d+)", row)))
+            for count, row in rows
+        ]
         self.assertEqual(patterns, list(PATTERNS.items()))
 
     def test_rust(self) -> None:
         text = text_of("bindings", "rust", "trirast", "src", "canvas.rs")
-        found = re.findall(r'const SAMPLE_COUNTS: &str = "(.*)";|in the standard patterns of Direct3D 11: (.*?)\.', text)
+        found = re.findall(
+            r'const SAMPLE_COUNTS: &str = "(.*)";|in the standard patterns of Direct3D 11: (.*?)\.', text
+        )
         self.assertEqual(list(map("".join, found)), 2 * [self.words])
 
     def test_python(self) -> None:

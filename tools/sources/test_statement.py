@@ -68,7 +68,9 @@ class Page(unittest.TestCase):
     def defined(self) -> set[tuple[str, str]]:
         found: set[tuple[str, str]] = set()
         for path, block in self.blocks:
-            heads = re.findall(r"^(?:abbrev |unfoldable )?pub (?:record |data |struct |enum |)(\w+)", block, re.MULTILINE)
+            heads = re.findall(
+                r"^(?:abbrev |unfoldable )?pub (?:record |data |struct |enum |)(\w+)", block, re.MULTILINE
+            )
             cases = re.findall(r"^  (\w+) :", block, re.MULTILINE)
             found.update((path, word) for word in heads + cases)
         return found
@@ -185,7 +187,9 @@ class Reading(unittest.TestCase):
             ours, others = sources.rests_on([sources.definitions_of("crates/a/specs/A.antt")["near"]])
             self.assertEqual([name.word for name in ours], ["far", "farthest"])
             self.assertEqual(others, set())
-        for lacking, said in (({"b/specs/B.antt": middle}, "is not there"), ({"b/specs/B.antt": "\n"}, "no definition far")):
+        for lacking, said in (
+            ({"b/specs/B.antt": middle}, "is not there"), ({"b/specs/B.antt": "\n"}, "no definition far")
+        ):
             with repository({"a/specs/A.antt": upper, **lacking}):
                 near = sources.definitions_of("crates/a/specs/A.antt")["near"]
                 self.assertRaisesRegex(Unclear, said, sources.rests_on, [near])

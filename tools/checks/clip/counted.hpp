@@ -120,7 +120,8 @@ inline void add_cut(const std::vector<trirast_clip_position> &positions, const s
                     Off &found) {
     trirast_clipping view;
     begin_under_test(&clip, &view);
-    const long double guard = view.planes[TRIRAST_CLIPPING_LEFT].factor, high = view.planes[TRIRAST_CLIPPING_TOP].factor;
+    const long double guard = view.planes[TRIRAST_CLIPPING_LEFT].factor,
+                      high = view.planes[TRIRAST_CLIPPING_TOP].factor;
     long double x = 0, y = 0, w = 0, size = 0, sum = 0;
     for (std::size_t c = 0; c < 3; c++) {
         const trirast_clip_position &p = positions[corners[c]];
@@ -136,7 +137,8 @@ inline void add_cut(const std::vector<trirast_clip_position> &positions, const s
     const long double w_off = std::max(std::fabs(w - w_found) - of_float, 0.0L) / error;
     const long double sum_off = std::fabs(sum - 1) / (9 * PLANES * UNIT);
     found.bound = std::max({found.bound, static_cast<double>(w_off), static_cast<double>(sum_off)});
-    const long double half[2] = {128.0L * clip.width, 128.0L * clip.height}, far[2] = {x / w * half[0], -(y / w) * half[1]};
+    const long double half[2] = {128.0L * clip.width, 128.0L * clip.height},
+                      far[2] = {x / w * half[0], -(y / w) * half[1]};
     const long double start[2] = {256.0L * clip.left, 256.0L * clip.top}, at[2] = {vertex.x + 0.0L, vertex.y + 0.0L};
     for (int k = 0; k < 2; k++) {
         const long double own = error / w * (half[k] + std::fabs(far[k]));
@@ -176,7 +178,8 @@ struct Total {
              const trirast_clip &clip, const trirast::Clipped &out) {
         const Off more = off(positions, indices, clip, out);
         pictures++, triangles += out.sources.size(), cuts += out.cuts.size(), folded += out.folded;
-        bound = std::max(bound, more.bound), place_off = std::max(place_off, more.place), parts_turned += more.parts_turned;
+        bound = std::max(bound, more.bound), place_off = std::max(place_off, more.place),
+        parts_turned += more.parts_turned;
         expect(std::is_sorted(out.sources.begin(), out.sources.end()), name, "triangles out of order");
     }
 

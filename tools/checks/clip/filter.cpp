@@ -1,5 +1,5 @@
-// The filter by trirast_clip.hpp. One result serves all tasks, as it would all frames. Tasks are clipped in 1 to 5 parts
-// by turns, the last part first.
+// The filter by trirast_clip.hpp. One result serves all tasks, as it would all frames. Tasks are clipped in 1 to 5
+// parts by turns, the last part first.
 #include "filter.h"
 #include "trirast_clip.hpp"
 

@@ -454,7 +454,8 @@ void odd_numbers() {
             }
         const trirast::Clipped out = clipped(clip, positions, {0, 1, 2});
         triangles += out.sources.size();
-        for (const std::uint32_t index : out.indices) expect(out.w[index] > 0, "odd numbers", "a w that is not positive");
+        for (const std::uint32_t index : out.indices)
+            expect(out.w[index] > 0, "odd numbers", "a w that is not positive");
     }
     std::printf("%zu triangles of positions of any bits\n", triangles);
     expect(triangles > 100, "odd numbers", "no triangle of positions of any bits is left");

@@ -37,7 +37,9 @@ def linked(compiler: str, name: str, *objects: str) -> str:
 
 def filter_by(compiler: str, language: str, *flags: str, include: str = INCLUDE) -> str:
     """Builds the filter, which clips what it reads. Returns its path."""
-    name = "-".join(["filter", language, compiler, *(flag.strip("-").replace("=", "-").replace(",", "-") for flag in flags)])
+    name = "-".join(
+        ["filter", language, compiler, *(flag.strip("-").replace("=", "-").replace(",", "-") for flag in flags)]
+    )
     return linked(compiler, name, compiled(compiler, f"filter.{language}", name, *flags, include=include), *flags)
 
 

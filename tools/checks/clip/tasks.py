@@ -1,5 +1,5 @@
-"""Triangles in clip space from a seed, as the filter reads them: meshes whose vertices are shared, coordinates of every size, on planes, odd
-numbers, and polygons so small that rounding folds them."""
+"""Triangles in clip space from a seed, as the filter reads them: meshes whose vertices are shared, coordinates of every
+size, on planes, odd numbers, and polygons so small that rounding folds them."""
 
 from __future__ import annotations
 
@@ -39,7 +39,8 @@ class Task(NamedTuple):
 
 
 def position(numbers: random.Random, seed: int, index: int) -> list[float]:
-    """x, y, z and w of a position; the first ones lie on a plane, and those of some seeds behind them are odd numbers."""
+    """x, y, z and w of a position; the first ones lie on a plane, and those of some seeds behind them
+    are odd numbers."""
     if seed % 4 == 2:
         # Of some 1/256 pixel round a corner of the viewport, at the near plane: polygons that rounding folds.
         w = numbers.uniform(0.5, 2)

@@ -1,9 +1,10 @@
-"""Clipping: no crack and no double sample, the same bytes by every compiler, in C, C++ and Python, and wrong edits of the headers.
+"""Clipping: no crack and no double sample, the same bytes by every compiler, in C, C++ and Python, and wrong
+edits of the headers.
 
     python3 -m pytest tools/checks/clip [-m 'long or not long']
 
-It needs gcc and g++. clang, numpy, and for ARM64 aarch64-linux-gnu-gcc and qemu-aarch64-static are used if they are there. What it builds is
-left in out/check-clip/.
+It needs gcc and g++. clang, numpy, and for ARM64 aarch64-linux-gnu-gcc and qemu-aarch64-static are used if they are
+there. What it builds is left in out/check-clip/.
 """
 
 from __future__ import annotations
@@ -31,7 +32,12 @@ V2, V3 = "-march=x86-64-v2", "-march=x86-64-v3"
 OFF, FAST = "-ffp-contract=off", "-ffp-contract=fast"
 # Compiler, language and flags of filters that have to write the same bytes.
 FILTERS = (
-    *((compiler, "c", level, fused, "-O2") for compiler in ("gcc", "clang") for level in (V2, V3) for fused in (OFF, FAST)),
+    *(
+        (compiler, "c", level, fused, "-O2")
+        for compiler in ("gcc", "clang")
+        for level in (V2, V3)
+        for fused in (OFF, FAST)
+    ),
     *((compiler, "cpp", V3, fused, "-O2") for compiler in ("g++", "clang++") for fused in (OFF, FAST)),
     ("gcc", "c", "-O0"), ("gcc", "c", "-O3", "-march=native"), ("clang", "c", "-O3", "-march=native"),
     ("gcc", "c", "-O1", *SANITIZERS), ("g++", "cpp", "-O1", *SANITIZERS),
@@ -48,14 +54,19 @@ def tests_of(name: str = "tests", *flags: str, include: str = INCLUDE) -> str:
     main = os.path.join(OUT, "main.o")
     if not os.path.exists(main):
         compiled("g++", "main.cpp", "main", "-O2", V2)
-    return linked("g++", name, main, compiled("gcc", "under_test.c", f"{name}-parts", "-O2", *flags, include=include), *flags)
+    return linked(
+        "g++", name, main, compiled("gcc", "under_test.c", f"{name}-parts", "-O2", *flags, include=include), *flags
+    )
 
 
 def check_tests(seeds: int) -> str:
     """Meshes are covered as they have to be. Returns what was counted."""
     status, text = failures([tests_of()], seeds)
     must(status == 0, text[-1500:])
-    counts = [sum(map(int, re.findall(rf"(\d+) {word}", text))) for word in ("cuts", "samples", "cracks", "doubles", "turned over")]
+    counts = [
+        sum(map(int, re.findall(rf"(\d+) {word}", text)))
+        for word in ("cuts", "samples", "cracks", "doubles", "turned over")
+    ]
     must(counts[2:4] == [0, 0], text[-1500:])
     return "{} cuts, {} samples, {} cracks, {} doubles, {} turned over".format(*counts)
 
@@ -125,7 +136,8 @@ NEAR, SIDES = ("zero", "minus_one"), ("guard_band", "viewport")
 for task in all_tasks():
     positions = np.frombuffer(task.positions, np.float32).reshape(-1, 4)
     found = trirast.clip(
-        positions, task.indices, task.viewport, near_plane=NEAR[task.near_plane], sides=SIDES[task.sides], depths=task.depths
+        positions, task.indices, task.viewport, near_plane=NEAR[task.near_plane], sides=SIDES[task.sides],
+        depths=task.depths,
     )
     counts = np.array([len(found.vertices), len(found.cuts), len(found.triangles), found.folded], np.uint32)
     for each in (counts, found.vertices, found.w, found.cuts, found.weights, found.triangles, found.sources):
@@ -160,11 +172,15 @@ def drawn_by_the_page(language: str) -> bytes:
 
 
 def check_page(language: str) -> None:
-    """The program of the page in a language draws the picture of that in C++: sky above, and a floor without a gap below."""
+    """The program of the page in a language draws the picture of that in C++: sky above, and a floor
+    without a gap below."""
     pixels = drawn_by_the_page("cpp")
     must(drawn_by_the_page(language) == pixels, "another picture")
     row, sky = 3 * 320, bytes((24, 24, 32))
-    must(pixels[:row] == 320 * sky and all(pixels[k + 1 : k + 3] != sky[1:] for k in range(179 * row, 180 * row, 3)), "no floor")
+    must(
+        pixels[:row] == 320 * sky and all(pixels[k + 1 : k + 3] != sky[1:] for k in range(179 * row, 180 * row, 3)),
+        "no floor",
+    )
 
 
 def check_example() -> str:
@@ -172,7 +188,9 @@ def check_example() -> str:
     found, line = picture.drawn()
     must(found == places.bytes_of(picture.PICTURE), "another picture than docs/clipping.png")
     page, counts = places.text_of(PAGE), re.findall(r"\d+", line)
-    of_page = re.findall(r"`examples/cpp/clip.cpp`: ([\d,]+) triangles go in and (\d+) come out, after cutting. Cuts made (\d+)", page)
+    of_page = re.findall(
+        r"`examples/cpp/clip.cpp`: ([\d,]+) triangles go in and (\d+) come out, after cutting. Cuts made (\d+)", page
+    )
     must([[each.replace(",", "") for each in found] for found in of_page] == [counts], f"{of_page}, and not {line}")
     return line.strip()
 

@@ -1,4 +1,5 @@
-"""The library and the program for ARM64, run by qemu: the test in C over both libraries, against the program for x86-64."""
+"""The library and the program for ARM64, run by qemu: the test in C over both libraries, against the
+program for x86-64."""
 
 from __future__ import annotations
 
@@ -17,11 +18,11 @@ LIBRARIES = os.path.join(LIB, "aarch64")
 FOR_ARM64 = os.path.join(os.path.dirname(PROGRAM), "aarch64", os.path.basename(PROGRAM))
 # Where Debian's cross compiler keeps the loader and the C library that a program for ARM64 needs.
 SYSTEM = "/usr/aarch64-linux-gnu"
-# The ways of the test, each with its manifest. `stack` is left out, since qemu keeps the stack of its own code there too, and
-# `odd`, which draws lists of 64 MiB. A way of another call joins here.
+# The ways of the test, each with its manifest. `stack` is left out, since qemu keeps the stack of its own code there
+# too, and `odd`, which draws lists of 64 MiB. A way of another call joins here.
 WAYS = (
-    ("pictures", "many.txt"), ("rows", "few.txt"), ("buffers", "few.txt"), ("refused", "all.txt"), ("messages", "all.txt"),
-    ("canvases", "many.txt"), ("histories", "few.txt"), ("threads", "many.txt"),
+    ("pictures", "many.txt"), ("rows", "few.txt"), ("buffers", "few.txt"), ("refused", "all.txt"),
+    ("messages", "all.txt"), ("canvases", "many.txt"), ("histories", "few.txt"), ("threads", "many.txt"),
 )
 # Of the generated lists, beside all examples.
 LISTS = 200
@@ -40,7 +41,8 @@ def build() -> None:
 
 
 def check_program() -> str:
-    """The program for ARM64 answers as the one for x86-64: by one worker and by four, a refused list, and arguments that are refused."""
+    """The program for ARM64 answers as the one for x86-64: by one worker and by four, a refused list, and arguments
+    that are refused."""
     make("ARCH=aarch64")
     run_there = ("-L", SYSTEM, FOR_ARM64)
     lists = read_lists("many.txt")
@@ -62,11 +64,20 @@ def cases(seed: int) -> Iterator[Case]:
     yield case(built, prepare, seed)
     for kind, flags in (("so", ("-D",)), ("a", ())):
         path = os.path.join(LIBRARIES, f"libtrirast.{kind}")
-        yield case(f"ARM64: libtrirast.{kind} shows the calls of the header alone", in_c.check_exports, path, *flags, tool=NM, needs=built)
-        yield case(f"ARM64: libtrirast.{kind} needs the heap and moves of memory alone", in_c.check_needs, path, *flags, tool=NM, needs=built)
+        yield case(
+            f"ARM64: libtrirast.{kind} shows the calls of the header alone", in_c.check_exports, path, *flags, tool=NM,
+            needs=built,
+        )
+        yield case(
+            f"ARM64: libtrirast.{kind} needs the heap and moves of memory alone", in_c.check_needs, path, *flags,
+            tool=NM, needs=built,
+        )
     for way, manifest in WAYS:
         program = [QEMU, os.path.join(OUT, "test_arm64_static")]
         yield case(f"ARM64: {way}", in_c.check_in_c, program, way, manifest, needs=built)
     yield case("ARM64: the program", check_program, needs=built)
     loader = [QEMU, "-L", SYSTEM, "-E", f"LD_LIBRARY_PATH={LIBRARIES}"]
-    yield case("ARM64, shared: pictures", in_c.check_in_c, [*loader, os.path.join(OUT, "test_arm64_shared")], "pictures", "few.txt", needs=built)
+    yield case(
+        "ARM64, shared: pictures", in_c.check_in_c, [*loader, os.path.join(OUT, "test_arm64_shared")], "pictures",
+        "few.txt", needs=built,
+    )

@@ -1,4 +1,5 @@
-"""The examples of canvases: the model that turns in a window, and the frames of draw lists; also under memcheck and drd."""
+"""The examples of canvases: the model that turns in a window, and the frames of draw lists; also under
+memcheck and drd."""
 
 from __future__ import annotations
 
@@ -23,7 +24,9 @@ RING = os.path.join(EXAMPLES, "python", "ring.obj")
 SPIN, FRAMES = os.path.join(OUT, "spin"), os.path.join(OUT, "canvas_frames")
 THREADS = 4
 # The lists of examples/ whose draws have triangles alone, as frames.cpp reads them.
-LISTS = ("blending", "four_samples", "gradient", "mesh", "one_sample", "scissor_and_masks", "seam", "top_left", "triangle")
+LISTS = (
+    "blending", "four_samples", "gradient", "mesh", "one_sample", "scissor_and_masks", "seam", "top_left", "triangle"
+)
 
 
 # ---- spin.c
@@ -42,7 +45,8 @@ def build_spin() -> None:
 
 
 def saved(name: str, *more: str) -> tuple[str, str]:
-    """Saves a frame without a window. Returns the paths of its list and of its picture, which is the program's, and what is printed."""
+    """Saves a frame without a window. Returns the paths of its list and of its picture, which is the program's,
+    and what is printed."""
     path = os.path.join(OUT, name)
     printed = run([SPIN, "--save", f"{path}.ppm", "--list", f"{path}.json", *more, RING]).decode()
     must_be_the_programs(f"{path}.json", f"{path}.ppm")
@@ -50,7 +54,8 @@ def saved(name: str, *more: str) -> tuple[str, str]:
 
 
 def check_spin() -> None:
-    """A frame has the bytes that the program draws of its list, by any number of threads, also with a picked triangle."""
+    """A frame has the bytes that the program draws of its list, by any number of threads, also with a
+    picked triangle."""
     build_spin()
     for threads in ("1", "4", "7"):
         saved(f"spin-{threads}", "--threads", threads, "--turn", "25")
@@ -71,7 +76,9 @@ def check_picks() -> str:
     for y in range(3, size[1], 13):
         for x in range(5, size[0], 17):
             id_there = wanted[y * size[0] + x]
-            line = f"triangle {id_there} at {x}, {y}" if id_there != compare_canvas.CLEARED else f"no triangle at {x}, {y}"
+            line = (
+                f"triangle {id_there} at {x}, {y}" if id_there != compare_canvas.CLEARED else f"no triangle at {x}, {y}"
+            )
             _, printed = saved("picked", "--size", *map(str, size), "--pick", str(x), str(y))
             must(printed == f"{line}\n", f"{printed.strip()}, where it is {line}")
             seen.add(id_there)
@@ -146,7 +153,13 @@ def check_watched(tool: str, example: str) -> None:
     elif example == "c/spin":
         build_spin()
         path = os.path.join(OUT, f"spin-{tool}")
-        must_be_silent(tool, [SPIN, "--threads", threads, "--pick", "320", "300", "--save", f"{path}.ppm", "--list", f"{path}.json", RING])
+        must_be_silent(
+            tool,
+            [
+                SPIN, "--threads", threads, "--pick", "320", "300", "--save", f"{path}.ppm", "--list", f"{path}.json",
+                RING,
+            ],
+        )
         must_be_the_programs(f"{path}.json", f"{path}.ppm")
     elif example == "cpp/canvas":
         must_be_silent(tool, [examples.build_cpp_canvas()])

@@ -18,7 +18,8 @@ static void make_stage(stage *made, const list_case *one) {
     made->batch = one->arrays.batch, made->clear = one->arrays.clear;
 }
 
-// What the program's file has of the rows of pixels from `top` on, taken from a canvas: 3 bytes a pixel, or 2 of a depth.
+// What the program's file has of the rows of pixels from `top` on, taken from a canvas: 3 bytes a
+// pixel, or 2 of a depth.
 static int shows_rows(const list_case *one, const trirast_canvas *canvas, uint32_t top, uint32_t bottom) {
     uint32_t width = one->info.width, rows = bottom - top;
     size_t unit = one->info.pixel_bytes, size = (size_t)rows * width * unit;
@@ -27,11 +28,13 @@ static int shows_rows(const list_case *one, const trirast_canvas *canvas, uint32
     if (!bytes) stop("out of memory", "a picture");
     int is_same;
     if (unit == 3) {
-        is_same = !trirast_canvas_resolve(canvas, TRIRAST_FORMAT_RGB8, bytes, size, 3 * (size_t)width) && !memcmp(bytes, wanted, size);
+        is_same = !trirast_canvas_resolve(canvas, TRIRAST_FORMAT_RGB8, bytes, size, 3 * (size_t)width) &&
+                  !memcmp(bytes, wanted, size);
     } else {
         uint16_t *depths = (uint16_t *)(void *)bytes;
         is_same = !trirast_canvas_depths(canvas, 0, depths, (size_t)rows * width, 0);
-        for (size_t k = 0; is_same && k < (size_t)rows * width; k++) is_same = depths[k] == 256 * wanted[2 * k] + wanted[2 * k + 1];
+        for (size_t k = 0; is_same && k < (size_t)rows * width; k++)
+            is_same = depths[k] == 256 * wanted[2 * k] + wanted[2 * k + 1];
     }
     free(bytes);
     return is_same;
@@ -62,7 +65,8 @@ void draw_on_canvas(const list_case *one) {
     make_stage(&made, one);
     size_t width = made.whole.width, size = 4 * width * made.whole.height;
     marked entries = mark(size);
-    int failed = trirast_canvas_clear(&made.whole, &made.clear) || trirast_canvas_draw(&made.whole, &made.batch, &error) ||
+    int failed = trirast_canvas_clear(&made.whole, &made.clear) ||
+                 trirast_canvas_draw(&made.whole, &made.batch, &error) ||
                  trirast_canvas_draw_ids(&made.whole, &made.batch, 0, &error) ||
                  trirast_canvas_resolve(&made.whole, TRIRAST_FORMAT_BGRA8, entries.bytes, size, 4 * width) ||
                  trirast_canvas_load(&made.whole, TRIRAST_FORMAT_RGBA8, entries.bytes, size, 4 * width) ||
@@ -103,7 +107,8 @@ static void compare_pieces(const list_case *one) {
     uint32_t rows = made.whole.end;
     for (uint32_t row = rows; row-- > 0;) draw_piece(&(share){one, &made, row, row + 1});
     draw_piece(&(share){one, &made, rows, rows});
-    expect(has_margins(&made) && shows_rows(one, &made.whole, 0, one->info.height), "%s: other pixels of the whole", one->name);
+    expect(has_margins(&made) && shows_rows(one, &made.whole, 0, one->info.height), "%s: other pixels of the whole",
+           one->name);
     free(made.memory.all);
 }
 
@@ -148,7 +153,8 @@ static void compare_ids_at(int32_t x, int32_t y) {
     marked ids = mark(4 * PIXELS), depths = mark(2 * PIXELS);
     const uint32_t *id = (const uint32_t *)(const void *)ids.bytes;
     if (!status) status = trirast_canvas_ids(&all.made.whole, 2, (uint32_t *)(void *)ids.bytes, PIXELS, 0);
-    if (!status) status = trirast_canvas_depths(&all.made.whole, 2, (uint16_t *)(void *)depths.bytes, PIXELS, 2 * WIDTH);
+    if (!status)
+        status = trirast_canvas_depths(&all.made.whole, 2, (uint16_t *)(void *)depths.bytes, PIXELS, 2 * WIDTH);
     expect(!status, "status %u", status);
     for (int32_t j = 0; j < HEIGHT; j++)
         for (int32_t i = 0; i < WIDTH; i++) {
@@ -192,7 +198,8 @@ static void compare_alignments(void) {
         trirast_status status = trirast_canvas_clear(&canvas, NULL);
         if (!status) status = trirast_canvas_draw(&canvas, &all.made.batch, &error);
         if (!status) status = trirast_canvas_resolve(&canvas, TRIRAST_FORMAT_RGBA8, pixels[k > 0], size, 4 * WIDTH);
-        expect(!status && (k == 0 || !memcmp(pixels[0], pixels[1], size)), "offset %zu: status %u, or other pixels", offsets[k], status);
+        expect(!status && (k == 0 || !memcmp(pixels[0], pixels[1], size)), "offset %zu: status %u, or other pixels",
+               offsets[k], status);
     }
     free(pixels[0]), free(pixels[1]), free(memory), free(all.made.memory.all);
     report("a canvas whose memory is aligned to 2 shows the same pixels");
@@ -208,7 +215,8 @@ static void compare_loaded(void) {
     trirast_status status = trirast_canvas_clear(&all.made.whole, NULL);
     if (!status) status = trirast_canvas_load(&all.made.whole, TRIRAST_FORMAT_RGB8, from.bytes, size, stride);
     if (!status) status = trirast_canvas_resolve(&all.made.whole, TRIRAST_FORMAT_RGB8, to.bytes, size, stride);
-    if (!status) status = trirast_canvas_resolve(&all.made.whole, TRIRAST_FORMAT_BGRA8, other.bytes, 4 * PIXELS, 4 * WIDTH);
+    if (!status)
+        status = trirast_canvas_resolve(&all.made.whole, TRIRAST_FORMAT_BGRA8, other.bytes, 4 * PIXELS, 4 * WIDTH);
     expect(!status && holds_just(&to, from.bytes, size), "status %u, or other bytes", status);
     for (size_t k = 0; k < PIXELS; k++) {
         const uint8_t *rgb = from.bytes + k / WIDTH * stride + k % WIDTH * 3, *bgra = other.bytes + 4 * k;
@@ -242,7 +250,8 @@ static void compare_edges(void) {
     status = trirast_edges_at(&corners, vertices, sizeof *vertices, 2, many[0]);
     if (!status) status = trirast_edges_at(&corners, points, 0, 2, many[1]);
     for (int k = 0; k < 2; k++)
-        expect(!status && !memcmp(&many[k][0], &kept, sizeof kept) && !memcmp(&many[k][1], &inside, sizeof inside), "many points: status %u", status);
+        expect(!status && !memcmp(&many[k][0], &kept, sizeof kept) && !memcmp(&many[k][1], &inside, sizeof inside),
+               "many points: status %u", status);
     report("the edge functions of a triangle at a point and at many");
 }
 
@@ -265,16 +274,17 @@ static void compare_sizes(void) {
         expect(size_of(1, 1, samples, 0) == (is_count ? (1 + 65 * count) * 384 : 0), "one tile of %u samples", samples);
     }
     expect(size_of(65, 1, 1, 0) == 2 * 66 * 384 && size_of(1, 65, 1, 0) == 2 * 66 * 384, "two tiles");
-    expect(!size_of(0, 1, 1, 0) && !size_of(4097, 1, 1, 0) && !size_of(1, 0, 1, 0) && !size_of(1, 4097, 1, 0) && !size_of(1, 1, 1, 5) &&
-               !size_of(1, 1, 1, 1) && !size_of(1, 1, UINT32_MAX, 0),
+    expect(!size_of(0, 1, 1, 0) && !size_of(4097, 1, 1, 0) && !size_of(1, 0, 1, 0) && !size_of(1, 4097, 1, 0) &&
+               !size_of(1, 1, 1, 5) && !size_of(1, 1, 1, 1) && !size_of(1, 1, UINT32_MAX, 0),
            "none");
-    expect(tile_rows_of(1) == 1 && tile_rows_of(64) == 1 && tile_rows_of(65) == 2 && tile_rows_of(4096) == 64 && !tile_rows_of(0) &&
-               !tile_rows_of(4097),
+    expect(tile_rows_of(1) == 1 && tile_rows_of(64) == 1 && tile_rows_of(65) == 2 && tile_rows_of(4096) == 64 &&
+               !tile_rows_of(0) && !tile_rows_of(4097),
            "tile rows");
     report("the bytes and the tile rows of a canvas");
 }
 
-// The same triangles with sizes and strides that are named, with indices of 16 bits, and with vertices that are members of other structs.
+// The same triangles with sizes and strides that are named, with indices of 16 bits, and with vertices that are
+// members of other structs.
 static void compare_forms(void) {
     quad all;
     make_quad(&all);
@@ -303,23 +313,29 @@ static void compare_forms(void) {
     forms[3].draws = &alone, forms[3].draw_count = 1, forms[3].vertices = in_order, forms[3].vertex_count = 4;
     forms[3].indices = NULL, forms[3].index_count = 0;
     forms[4].vertices = &apart->vertex, forms[4].vertex_stride = sizeof *apart;
-    forms[5].vertices = far.bytes, forms[5].vertex_stride = TRIRAST_MAX_STRIDE, forms[5].indices = short_indices, forms[5].index_size = 2;
+    forms[5].vertices = far.bytes, forms[5].vertex_stride = TRIRAST_MAX_STRIDE, forms[5].indices = short_indices,
+        forms[5].index_size = 2;
     uint8_t *pixels[2] = {calloc(PIXELS, 3), calloc(PIXELS, 3)};
     if (!pixels[0] || !pixels[1]) stop("out of memory", "pixels");
     for (int k = 0; k < 6; k++) {
         trirast_status status = trirast_canvas_clear(&all.made.whole, NULL);
         trirast_status drawn_so = trirast_canvas_draw(&all.made.whole, &forms[k], NULL);
-        if (!status) status = trirast_canvas_resolve(&all.made.whole, TRIRAST_FORMAT_RGB8, pixels[k > 0], 3 * PIXELS, 0);
-        expect(!status && !drawn_so && (!k || !memcmp(pixels[0], pixels[1], 3 * PIXELS)), "form %d: status %u, or other pixels", k, drawn_so);
+        if (!status)
+            status = trirast_canvas_resolve(&all.made.whole, TRIRAST_FORMAT_RGB8, pixels[k > 0], 3 * PIXELS, 0);
+        expect(!status && !drawn_so && (!k || !memcmp(pixels[0], pixels[1], 3 * PIXELS)),
+               "form %d: status %u, or other pixels", k, drawn_so);
     }
     free(pixels[0]), free(pixels[1]), free(all.made.memory.all), free(far.all);
-    report("the same batch with its sizes named, with indices of 16 bits, without indices, and with other strides makes the same pixels");
+    report("the same batch with its sizes named, with indices of 16 bits, without indices, and with other strides "
+           "makes the same pixels");
 }
 
 // What a white pixel with alpha 128 over 10, 100, 200 becomes by each preset.
 static void compare_blends(void) {
-    const trirast_blend presets[] = {TRIRAST_BLEND_NONE, TRIRAST_BLEND_OVER, TRIRAST_BLEND_PREMULTIPLIED, TRIRAST_BLEND_ADD, TRIRAST_BLEND_MULTIPLY, TRIRAST_BLEND_KEEP};
-    const uint8_t wanted[][3] = {{255, 255, 255}, {133, 178, 228}, {255, 255, 255}, {138, 228, 255}, {10, 100, 200}, {10, 100, 200}};
+    const trirast_blend presets[] = {TRIRAST_BLEND_NONE, TRIRAST_BLEND_OVER,     TRIRAST_BLEND_PREMULTIPLIED,
+                                     TRIRAST_BLEND_ADD,  TRIRAST_BLEND_MULTIPLY, TRIRAST_BLEND_KEEP};
+    const uint8_t wanted[][3] = {{255, 255, 255}, {133, 178, 228}, {255, 255, 255},
+                                 {138, 228, 255}, {10, 100, 200},  {10, 100, 200}};
     const trirast_clear clear = {10, 100, 200, 0, 9, 0};
     for (int k = 0; k < 6; k++) {
         quad all;
@@ -330,7 +346,8 @@ static void compare_blends(void) {
         trirast_status status = trirast_canvas_clear(&all.made.whole, &clear);
         if (!status) status = trirast_canvas_draw(&all.made.whole, &all.made.batch, NULL);
         if (!status) status = trirast_canvas_resolve(&all.made.whole, TRIRAST_FORMAT_RGB8, pixels, sizeof pixels, 0);
-        expect(!status && !memcmp(pixels, wanted[k], 3), "preset %d: status %u: %d, %d, %d", k, status, pixels[0], pixels[1], pixels[2]);
+        expect(!status && !memcmp(pixels, wanted[k], 3), "preset %d: status %u: %d, %d, %d", k, status, pixels[0],
+               pixels[1], pixels[2]);
         free(all.made.memory.all);
     }
     report("each blend preset makes its colour");
@@ -359,9 +376,12 @@ static void compare_alpha(void) {
         trirast_status status = trirast_canvas_clear(canvas, &clear);
         if (!status) status = trirast_canvas_draw(canvas, &all.made.batch, NULL);
         if (!status) status = trirast_canvas_resolve(canvas, TRIRAST_FORMAT_RGBA8, rgba, sizeof rgba, 0);
-        if (!status) status = trirast_canvas_resolve(canvas, TRIRAST_FORMAT_RGBA8_STRAIGHT, straight, sizeof straight, 0);
-        expect(!status && !memcmp(rgba, cases[k].stored, 4), "alpha %zu: status %u: %d, %d, %d, %d", k, status, rgba[0], rgba[1], rgba[2], rgba[3]);
-        expect(!memcmp(straight, cases[k].straight, 4), "straight %zu: %d, %d, %d, %d", k, straight[0], straight[1], straight[2], straight[3]);
+        if (!status)
+            status = trirast_canvas_resolve(canvas, TRIRAST_FORMAT_RGBA8_STRAIGHT, straight, sizeof straight, 0);
+        expect(!status && !memcmp(rgba, cases[k].stored, 4), "alpha %zu: status %u: %d, %d, %d, %d", k, status, rgba[0],
+               rgba[1], rgba[2], rgba[3]);
+        expect(!memcmp(straight, cases[k].straight, 4), "straight %zu: %d, %d, %d, %d", k, straight[0], straight[1],
+               straight[2], straight[3]);
         status = trirast_canvas_load(canvas, TRIRAST_FORMAT_RGBA8, rgba, sizeof rgba, 0);
         if (!status) status = trirast_canvas_resolve(canvas, TRIRAST_FORMAT_RGBA8, again, sizeof again, 0);
         expect(!status && !memcmp(rgba, again, sizeof rgba), "a picture with alpha is loaded as it was written");

@@ -1,5 +1,5 @@
-// Calls the functions of trirast.hpp, and prints a line for each thing that was compared: "ok WHAT" or "failed WHAT". Exit status 1 if
-// one failed. tools/checks/library/in_c.py builds and runs it.
+// Calls the functions of trirast.hpp, and prints a line for each thing that was compared: "ok WHAT" or "failed WHAT".
+// Exit status 1 if one failed. tools/checks/library/in_c.py builds and runs it.
 #include <algorithm>
 #include <array>
 #include <cstdio>
@@ -56,14 +56,16 @@ static void compare_pictures() {
     threads.draw(CORNERS, TRIANGLE, {}, 3);
     const std::vector<std::uint8_t> pixels = whole.pixels();
     const std::array<std::uint8_t, 3> first = {9, 8, 7};
-    report(std::equal(first.begin(), first.end(), pixels.begin()) && pixels.back() == 255, "a triangle is drawn, and what is beside it stays");
+    report(std::equal(first.begin(), first.end(), pixels.begin()) && pixels.back() == 255,
+           "a triangle is drawn, and what is beside it stays");
     report(pixels == split.pixels(), "three parts of a canvas make the picture of the whole");
     report(pixels == threads.pixels(), "so do three threads");
     report(split.split(100).size() == 4 && split.split(0).empty(), "a canvas has at most as many parts as tile rows");
     TileRows last = whole.rows(3, 4);
     report(last.height() == 8 && last.top() == 192 && last.width() == 100, "the rows of pixels of the last tile row");
     const std::vector<std::uint8_t> below = last.pixels();
-    report(std::equal(below.begin(), below.end(), pixels.end() - static_cast<std::ptrdiff_t>(below.size())), "its pixels are the last ones");
+    report(std::equal(below.begin(), below.end(), pixels.end() - static_cast<std::ptrdiff_t>(below.size())),
+           "its pixels are the last ones");
     whole.load(TRIRAST_FORMAT_RGB8, pixels, 300);
     report(whole.pixels() == pixels, "a picture is loaded");
 }
@@ -91,10 +93,12 @@ static void compare_entries() {
     Canvas window({100, 200, 4, false, {-50, 0}});
     window.clear(WHITE);
     window.draw(CORNERS, TRIANGLE);
-    report(window.pixels(TRIRAST_FORMAT_BGRA8)[0] == 255 && window.pixels(TRIRAST_FORMAT_BGRA8)[4 * 50] == 7, "a canvas is a window");
+    report(window.pixels(TRIRAST_FORMAT_BGRA8)[0] == 255 && window.pixels(TRIRAST_FORMAT_BGRA8)[4 * 50] == 7,
+           "a canvas is a window");
     Canvas stored = cleared();
     stored.store(1, TRIRAST_FORMAT_RGB8, std::vector<std::uint8_t>(3 * 100 * 200, 5));
-    report(stored.colors(1, TRIRAST_FORMAT_RGB8) == std::vector<std::uint8_t>(3 * 100 * 200, 5) && stored.colors(0)[0] == 255 &&
+    report(stored.colors(1, TRIRAST_FORMAT_RGB8) == std::vector<std::uint8_t>(3 * 100 * 200, 5) &&
+               stored.colors(0)[0] == 255 &&
                throws(TRIRAST_STATUS_BAD_SAMPLE, [&] { stored.colors(4); }, "0 to 3, and not 4"),
            "the colours of one sample are stored and read");
     std::vector<std::uint16_t> apart(101 * 200, 77);
@@ -141,7 +145,8 @@ static void compare_indices() {
     report(is_same, "vertices are read where they lie in other structs");
     Canvas canvas = cleared();
     canvas.draw(std::vector<Derived>{}), canvas.draw({std::vector<Holder>{}, &Holder::vertex});
-    canvas.draw(CORNERS, std::vector<std::uint16_t>{}), canvas.draw({}, {}), canvas.draw({}, std::vector<std::uint32_t>{}), canvas.draw({});
+    canvas.draw(CORNERS, std::vector<std::uint16_t>{}), canvas.draw({}, {}),
+        canvas.draw({}, std::vector<std::uint32_t>{}), canvas.draw({});
     report(canvas.pixels() == cleared().pixels(), "empty arrays draw nothing");
     const trirast_draw draws[2] = {};
     trirast_batch batch = {};
@@ -159,7 +164,8 @@ static void compare_states() {
         Canvas canvas({8, 8});
         canvas.clear({100, 20, 250});
         std::array<trirast_vertex, 3> corners = CORNERS;
-        for (trirast_vertex &corner : corners) corner.red = 200, corner.green = 10, corner.blue = 30, corner.alpha = 128;
+        for (trirast_vertex &corner : corners)
+            corner.red = 200, corner.green = 10, corner.blue = 30, corner.alpha = 128;
         canvas.draw(corners, {}, state);
         const std::vector<std::uint8_t> pixels = canvas.pixels();
         return std::array<int, 3>{pixels[0], pixels[1], pixels[2]};
@@ -171,8 +177,10 @@ static void compare_states() {
     };
     using Color = std::array<int, 3>;
     report(blended(trirast::blend_none) == Color{200, 10, 30} && blended(trirast::blend_over) == Color{150, 15, 140} &&
-               blended(trirast::blend_premultiplied) == Color{250, 20, 155} && blended(trirast::blend_add) == Color{200, 25, 255} &&
-               blended(trirast::blend_multiply) == Color{78, 1, 29} && blended(trirast::blend_keep) == Color{100, 20, 250},
+               blended(trirast::blend_premultiplied) == Color{250, 20, 155} &&
+               blended(trirast::blend_add) == Color{200, 25, 255} &&
+               blended(trirast::blend_multiply) == Color{78, 1, 29} &&
+               blended(trirast::blend_keep) == Color{100, 20, 250},
            "each preset blends");
     State state;
     state.keep = TRIRAST_KEEP_GREEN | TRIRAST_KEEP_ALPHA;
@@ -197,9 +205,11 @@ static void compare_samples() {
         Canvas canvas({100, 200, samples});
         canvas.clear(WHITE);
         canvas.draw_ids(CORNERS, TRIANGLE, 70000);
-        for (std::uint32_t s = 0; s < samples; s++) has_all &= canvas.ids(s)[101] == 70000 && canvas.ids(s).back() == 16777215;
+        for (std::uint32_t s = 0; s < samples; s++)
+            has_all &= canvas.ids(s)[101] == 70000 && canvas.ids(s).back() == 16777215;
         const std::string most = std::to_string(samples - 1), given = std::to_string(samples);
-        has_all &= throws(TRIRAST_STATUS_BAD_SAMPLE, [&] { canvas.ids(samples); }, "0 to " + most + ", and not " + given);
+        has_all &= throws(TRIRAST_STATUS_BAD_SAMPLE, [&] { canvas.ids(samples); },
+                          "0 to " + most + ", and not " + given);
     }
     report(has_all, "a draw has every one of 1, 2, 4, 8 and 16 samples");
 }
@@ -207,15 +217,17 @@ static void compare_samples() {
 // ---- Polygons
 
 // A polygon of the triangle's corners, and a ring with a hole.
-static const std::array<trirast_corner, 11> RING_CORNERS = {
-    {{0, 0}, {25600, 0}, {0, 51200}, {2560, 2560}, {7680, 2560}, {7680, 7680}, {2560, 7680}, {3840, 3840}, {3840, 5120}, {5120, 5120}, {5120, 3840}}};
+static const std::array<trirast_corner, 11> RING_CORNERS = {{{0, 0}, {25600, 0}, {0, 51200}, {2560, 2560}, {7680, 2560},
+                                                             {7680, 7680}, {2560, 7680}, {3840, 3840}, {3840, 5120},
+                                                             {5120, 5120}, {5120, 3840}}};
 static const std::vector<std::uint32_t> RING_ENDS = {3, 7, 11}, POLYGON_ENDS = {1, 3};
 static const std::vector<trirast::Rgba> POLYGON_COLORS = {{9, 8, 7, 255}, {40, 50, 60, 255}};
 
 static void compare_polygons() {
     const std::vector<std::uint16_t> depths = {7, 6};
     trirast::Polygons polygons;
-    polygons.corners = RING_CORNERS, polygons.ring_ends = RING_ENDS, polygons.polygon_ends = POLYGON_ENDS, polygons.colors = POLYGON_COLORS;
+    polygons.corners = RING_CORNERS, polygons.ring_ends = RING_ENDS, polygons.polygon_ends = POLYGON_ENDS,
+        polygons.colors = POLYGON_COLORS;
     polygons.depths = depths;
     State state;
     state.depth_write = true;
@@ -224,7 +236,8 @@ static void compare_polygons() {
     wanted.draw_polygons(polygons, state);
     const std::vector<std::uint8_t> pixels = wanted.pixels();
     const std::array<std::uint8_t, 3> ring = {40, 50, 60}, hole = {9, 8, 7};
-    report(std::equal(ring.begin(), ring.end(), pixels.begin() + 3 * (12 * 100 + 12)) && std::equal(hole.begin(), hole.end(), pixels.begin() + 3 * (16 * 100 + 16)) &&
+    report(std::equal(ring.begin(), ring.end(), pixels.begin() + 3 * (12 * 100 + 12)) &&
+               std::equal(hole.begin(), hole.end(), pixels.begin() + 3 * (16 * 100 + 16)) &&
                wanted.depths(3)[12 * 100 + 12] == 6 && wanted.depths(0)[0] == 7,
            "polygons are drawn in their colours and at their depths");
     bool is_same = true;
@@ -234,29 +247,36 @@ static void compare_polygons() {
             Canvas canvas = cleared(), ids = cleared();
             canvas.draw_polygons(polygons, state, threads);
             ids.draw_polygon_ids(polygons, 70000, state, threads);
-            is_same &= canvas.pixels() == wanted.pixels() && canvas.depths(2) == wanted.depths(2) && ids.depths(2) == wanted.depths(2);
+            is_same &= canvas.pixels() == wanted.pixels() && canvas.depths(2) == wanted.depths(2) &&
+                       ids.depths(2) == wanted.depths(2);
             is_same &= ids.ids(1)[0] == 70000 && ids.ids(1)[12 * 100 + 12] == 70001 && ids.ids(1).back() == 16777215;
         }
     report(is_same, "by each number of threads and by both rules the same, since the hole runs the other way round");
-    polygons.polygon_ends = Span<const std::uint32_t>(POLYGON_ENDS.data(), 1), polygons.ring_ends = Span<const std::uint32_t>(RING_ENDS.data(), 1);
+    polygons.polygon_ends = Span<const std::uint32_t>(POLYGON_ENDS.data(), 1),
+        polygons.ring_ends = Span<const std::uint32_t>(RING_ENDS.data(), 1);
     polygons.corners = Span<const trirast_corner>(RING_CORNERS.data(), 3);
     Canvas one = cleared();
     one.draw_polygons(polygons, state);
-    report(one.pixels() == triangle.pixels() && one.depths(1) == triangle.depths(1), "a ring of three corners is the triangle");
-    one.draw_polygons(trirast::Polygons{}), one.draw_polygons(trirast_polygons{}), one.draw_polygon_ids(trirast_polygons{}, 5);
+    report(one.pixels() == triangle.pixels() && one.depths(1) == triangle.depths(1),
+           "a ring of three corners is the triangle");
+    one.draw_polygons(trirast::Polygons{}), one.draw_polygons(trirast_polygons{}),
+        one.draw_polygon_ids(trirast_polygons{}, 5);
     report(one.pixels() == triangle.pixels(), "no polygons draw nothing");
 }
 
 static void compare_refused_polygons() {
     const std::vector<std::uint32_t> falling = {3, 2, 11}, behind = {1, 4};
     trirast::Polygons polygons;
-    polygons.corners = RING_CORNERS, polygons.ring_ends = RING_ENDS, polygons.polygon_ends = POLYGON_ENDS, polygons.colors = POLYGON_COLORS;
+    polygons.corners = RING_CORNERS, polygons.ring_ends = RING_ENDS, polygons.polygon_ends = POLYGON_ENDS,
+        polygons.colors = POLYGON_COLORS;
     Canvas canvas = cleared();
-    const auto refused = [&canvas](const trirast::Polygons &drawn, trirast_batch_cause cause, std::optional<std::size_t> element, std::uint32_t first_id = 0) {
+    const auto refused = [&canvas](const trirast::Polygons &drawn, trirast_batch_cause cause,
+                                   std::optional<std::size_t> element, std::uint32_t first_id = 0) {
         bool is_refused = true;
         for (const std::uint32_t threads : {1u, 4u}) {
             try {
-                first_id ? canvas.draw_polygon_ids(drawn, first_id, {}, threads) : canvas.draw_polygons(drawn, {}, threads);
+                first_id ? canvas.draw_polygon_ids(drawn, first_id, {}, threads)
+                         : canvas.draw_polygons(drawn, {}, threads);
                 is_refused = false;
             } catch (const trirast::Error &error) {
                 is_refused &= error.batch_cause() == cause && error.element() == element && !error.draw();
@@ -274,11 +294,13 @@ static void compare_refused_polygons() {
     broken = polygons, broken.corners = far;
     report(refused(broken, TRIRAST_BATCH_BAD_POSITION, 5), "so is a corner that is too far away");
     broken = polygons, broken.colors = {};
-    report(refused(broken, TRIRAST_BATCH_TOO_FEW_COLORS, std::nullopt) && refused(polygons, TRIRAST_BATCH_TOO_MANY_IDS, std::nullopt, 16777215),
+    report(refused(broken, TRIRAST_BATCH_TOO_FEW_COLORS, std::nullopt) &&
+               refused(polygons, TRIRAST_BATCH_TOO_MANY_IDS, std::nullopt, 16777215),
            "so are polygons without colours, and ids that are too large");
     report(canvas.pixels() == cleared().pixels(), "nothing of them is drawn");
     Canvas moved = std::move(canvas);
-    report(throws(TRIRAST_STATUS_BAD_CANVAS, [&] { canvas.draw_polygons(polygons); }), "a canvas that was moved from draws no polygons");
+    report(throws(TRIRAST_STATUS_BAD_CANVAS, [&] { canvas.draw_polygons(polygons); }),
+           "a canvas that was moved from draws no polygons");
 }
 
 // ---- Tiles
@@ -288,7 +310,8 @@ static void compare_tiles() {
     std::vector<std::uint32_t> entries(canvas.tile_entries(), 5);
     report(canvas.tile_columns() == 2 && entries.size() == 4 * 4096, "the tiles of a canvas and their entries");
     const Span<const std::uint32_t> cleared_tile = canvas.tile_ids(1, 3, entries);
-    report(cleared_tile.size() == 1 && cleared_tile[0] == 16777215 && entries[1] == 5, "a tile that is as it was cleared has one entry");
+    report(cleared_tile.size() == 1 && cleared_tile[0] == 16777215 && entries[1] == 5,
+           "a tile that is as it was cleared has one entry");
     canvas.draw_ids(CORNERS, TRIANGLE, 70000);
     const std::vector<std::uint8_t> before = canvas.pixels();
     const Span<const std::uint32_t> drawn = canvas.tile_ids(0, 0, entries);
@@ -296,13 +319,17 @@ static void compare_tiles() {
     canvas.tile_store(0, 0, drawn);
     report(canvas.pixels() == before, "what was read is stored, and changes nothing");
     canvas.tile_store(0, 1, std::vector<std::uint32_t>(1, 0x030201));
-    report(canvas.ids(3)[64 * 100] == 0x030201 && canvas.ids(3)[63 * 100] == 70000 && canvas.depths(3)[64 * 100] == 9, "one colour is that of a whole tile");
-    report(throws(TRIRAST_STATUS_BAD_TILE, [&] { canvas.tile_ids(2, 0, entries); }, "column 0 to 1 and row 0 to 3, and not 2 and 0") &&
+    report(canvas.ids(3)[64 * 100] == 0x030201 && canvas.ids(3)[63 * 100] == 70000 && canvas.depths(3)[64 * 100] == 9,
+           "one colour is that of a whole tile");
+    report(throws(TRIRAST_STATUS_BAD_TILE, [&] { canvas.tile_ids(2, 0, entries); },
+                  "column 0 to 1 and row 0 to 3, and not 2 and 0") &&
                throws(TRIRAST_STATUS_BAD_TILE, [&] { canvas.rows(1, 2).tile_store(0, 0, entries); },
                       "column 0 to 1 and row 1 to 1, and not 0 and 0") &&
-               throws(TRIRAST_STATUS_BUFFER_TOO_SMALL, [&] { canvas.tile_ids(0, 0, Span<std::uint32_t>(entries.data(), 1)); },
+               throws(TRIRAST_STATUS_BUFFER_TOO_SMALL,
+                      [&] { canvas.tile_ids(0, 0, Span<std::uint32_t>(entries.data(), 1)); },
                       "16384 entries, and not 1") &&
-               throws(TRIRAST_STATUS_BUFFER_TOO_SMALL, [&] { canvas.tile_store(0, 0, Span<const std::uint32_t>(entries.data(), 2)); },
+               throws(TRIRAST_STATUS_BUFFER_TOO_SMALL,
+                      [&] { canvas.tile_store(0, 0, Span<const std::uint32_t>(entries.data(), 2)); },
                       "1 or 16384 entries, and not 2"),
            "a tile that there is not and too few entries are refused");
 }
@@ -310,16 +337,20 @@ static void compare_tiles() {
 // ---- Draw lists
 
 static void compare_lists() {
-    const std::string list = R"({"width":3,"height":3,"draws":[{"vertices":[[128,128,0,255,255,255,255],[640,128,0,255,255,255,255],)"
-                             R"([128,640,0,255,255,255,255]],"triangles":[[0,1,2]]}]})";
+    const std::string list =
+        R"({"width":3,"height":3,"draws":[{"vertices":[[128,128,0,255,255,255,255],[640,128,0,255,255,255,255],)"
+        R"([128,640,0,255,255,255,255]],"triangles":[[0,1,2]]}]})";
     const trirast_image_info info = trirast::list_info(list);
     const std::vector<std::uint8_t> file = trirast::list_draw(list);
     std::vector<std::uint8_t> rows(27);
     trirast::list_draw_rows(list, 0, 1, rows, 8);
-    report(info.width == 3 && file.size() == info.file_bytes && file[11] == 255 && std::equal(rows.begin(), rows.end(), file.begin() + 11),
+    report(info.width == 3 && file.size() == info.file_bytes && file[11] == 255 &&
+               std::equal(rows.begin(), rows.end(), file.begin() + 11),
            "a draw list is drawn, whole and by tile rows");
-    const trirast::History all = trirast::list_history(list, 1, 1, 0, true), covering = trirast::list_history(list, 1, 1);
-    report(all.events.size() == 1 && all.events[0].reasons == TRIRAST_REASON_NOT_COVERED && covering.events.empty() && covering.info.end.depth == 65535,
+    const trirast::History all = trirast::list_history(list, 1, 1, 0, true),
+                           covering = trirast::list_history(list, 1, 1);
+    report(all.events.size() == 1 && all.events[0].reasons == TRIRAST_REASON_NOT_COVERED && covering.events.empty() &&
+               covering.info.end.depth == 65535,
            "the history of a sample");
     const trirast_sample_counts counts = trirast::list_triangle_samples(list, 0, 0);
     report(counts.covered == 3 && counts.shown == 3, "the samples of a triangle");
@@ -327,11 +358,13 @@ static void compare_lists() {
         trirast::list_info("{");
         report(false, "a text that is no list is refused");
     } catch (const trirast::Error &error) {
-        report(error.list_cause() == TRIRAST_LIST_NOT_JSON && error.batch_cause() == 0 && !error.draw(), "a text that is no list is refused");
+        report(error.list_cause() == TRIRAST_LIST_NOT_JSON && error.batch_cause() == 0 && !error.draw(),
+               "a text that is no list is refused");
     }
     report(throws(TRIRAST_STATUS_BUFFER_TOO_SMALL, [&] { trirast::list_draw(list, Span<std::uint8_t>(rows)); },
                   std::to_string(rows.size()) + " bytes") &&
-               throws(TRIRAST_STATUS_BAD_TILE_SIZE, [&] { trirast::list_draw(list, 9); }, "8, 16, 32 or 64 pixels, and not 9") &&
+               throws(TRIRAST_STATUS_BAD_TILE_SIZE, [&] { trirast::list_draw(list, 9); },
+                      "8, 16, 32 or 64 pixels, and not 9") &&
                throws(TRIRAST_STATUS_BAD_PIXEL, [&] { trirast::list_history(list, 3, 0); }, "3 and 0"),
            "so are a buffer that is too small and a pixel that there is not");
 }
@@ -352,7 +385,8 @@ static void compare_threads() {
     std::vector<std::function<void()>> tasks;
     std::size_t waited = 0;
     executed.share(
-        4, [](TileRows &part) { part.draw(CORNERS, TRIANGLE); }, [&tasks](std::function<void()> task) { tasks.push_back(std::move(task)); },
+        4, [](TileRows &part) { part.draw(CORNERS, TRIANGLE); },
+        [&tasks](std::function<void()> task) { tasks.push_back(std::move(task)); },
         [&tasks, &waited] {
             waited = tasks.size();
             for (const std::function<void()> &task : tasks) task();
@@ -395,7 +429,8 @@ static void compare_far_vertices(Canvas &canvas) {
         Canvas(window).draw(corners);
         report(false, "one that is so from an origin is refused");
     } catch (const trirast::Error &error) {
-        report(error.what() == "draw 0: " + place + " with the origin -5: -8388608 to 8387327 (-32768 to 32762.99609375 pixels)",
+        report(error.what() ==
+                   "draw 0: " + place + " with the origin -5: -8388608 to 8387327 (-32768 to 32762.99609375 pixels)",
                "one that is so from an origin is refused, and where it is");
     }
 }
@@ -407,9 +442,10 @@ static void compare_refused_batches(Canvas &canvas) {
             canvas.draw(CORNERS, indices, {}, threads);
             report(false, "a batch with an index past the vertices is refused");
         } catch (const trirast::Error &error) {
-            report(error.status() == TRIRAST_STATUS_BAD_BATCH && error.batch_cause() == TRIRAST_BATCH_BAD_INDEX && error.draw() == 0u &&
-                       error.element() == 2u && error.value() == 3u &&
-                       std::string(error.what()) == "draw 0: index 2 is 3, which is not less than the number of vertices: 3",
+            report(error.status() == TRIRAST_STATUS_BAD_BATCH && error.batch_cause() == TRIRAST_BATCH_BAD_INDEX &&
+                       error.draw() == 0u && error.element() == 2u && error.value() == 3u &&
+                       std::string(error.what()) ==
+                           "draw 0: index 2 is 3, which is not less than the number of vertices: 3",
                    "a batch with an index past the vertices is refused, and where it is");
         }
     }
@@ -420,14 +456,17 @@ static void compare_refused_batches(Canvas &canvas) {
         canvas.draw_batch(batch);
         report(false, "a batch with vertices of no draw is refused");
     } catch (const trirast::Error &error) {
-        report(error.batch_cause() == TRIRAST_BATCH_LEFT_OVER && !error.draw(), "a batch with vertices of no draw is refused");
+        report(error.batch_cause() == TRIRAST_BATCH_LEFT_OVER && !error.draw(),
+               "a batch with vertices of no draw is refused");
     }
     batch.draws = nullptr, batch.draw_count = 0;
     batch.vertex_stride = 12;
-    report(throws(TRIRAST_STATUS_BAD_STRIDE, [&] { canvas.draw_batch(batch); }, "a multiple of 4 from 16 to 2048 bytes, or 0, and not 12"),
+    report(throws(TRIRAST_STATUS_BAD_STRIDE, [&] { canvas.draw_batch(batch); },
+                  "a multiple of 4 from 16 to 2048 bytes, or 0, and not 12"),
            "a stride that is too short is refused");
     batch.vertex_stride = 0, batch.index_size = 3;
-    report(throws(TRIRAST_STATUS_BAD_INDEX_SIZE, [&] { canvas.draw_batch(batch); }, "2 or 4 bytes, or 0, and not 3"), "so is a size of an index");
+    report(throws(TRIRAST_STATUS_BAD_INDEX_SIZE, [&] { canvas.draw_batch(batch); }, "2 or 4 bytes, or 0, and not 3"),
+           "so is a size of an index");
     compare_far_vertices(canvas);
     State state;
     state.topology = static_cast<trirast_topology>(3);
@@ -457,9 +496,11 @@ static void compare_errors() {
                throws(TRIRAST_STATUS_BUFFER_TOO_SMALL, [&] { canvas.load(TRIRAST_FORMAT_RGB8, small, 299); },
                       "a stride of at least 300 bytes, or 0, and not 299"),
            "so is a buffer that is too small");
-    report(throws(TRIRAST_STATUS_BAD_FORMAT, [&] { canvas.resolve(static_cast<trirast_format>(7), small); }, "0 to 4, and not 7"),
+    report(throws(TRIRAST_STATUS_BAD_FORMAT, [&] { canvas.resolve(static_cast<trirast_format>(7), small); },
+                  "0 to 4, and not 7"),
            "so is a format");
-    report(throws(TRIRAST_STATUS_BAD_STRIDE, [&] { canvas.depths(0, depths, 201); }, "a multiple of 2 bytes, and not 201"),
+    report(throws(TRIRAST_STATUS_BAD_STRIDE, [&] { canvas.depths(0, depths, 201); },
+                  "a multiple of 2 bytes, and not 201"),
            "so is a stride of parts of an entry");
     report(throws(TRIRAST_STATUS_BAD_SAMPLE, [&] { canvas.ids(4); }, "0 to 3, and not 4"), "so is a sample");
     compare_refused_batches(canvas);
@@ -467,12 +508,15 @@ static void compare_errors() {
     const trirast_corners corners = {0, 0, 256, 0, 0, 256};
     const std::vector<trirast_point> points = {{64, 32}, {128, 128}};
     const std::vector<trirast_edges> edges = trirast::edges_at(corners, points);
-    report(edges.size() == 2 && edges[0].a == 40960 && edges[0].covered == 1 && edges[1].covered == 0, "edge functions at points");
-    report(throws(TRIRAST_STATUS_BAD_POSITION, [&] { trirast::edges_at(corners, std::vector<trirast_point>{{0, 0}, {8388608, 0}}); },
-                  "point 1: x 8388608 and y 0 in 1/256 pixel (32768 and 0 pixels); x: -8388608 to 8388607 (-32768 to 32767.99609375 pixels)") &&
+    report(edges.size() == 2 && edges[0].a == 40960 && edges[0].covered == 1 && edges[1].covered == 0,
+           "edge functions at points");
+    report(throws(TRIRAST_STATUS_BAD_POSITION,
+                  [&] { trirast::edges_at(corners, std::vector<trirast_point>{{0, 0}, {8388608, 0}}); },
+                  "point 1: x 8388608 and y 0 in 1/256 pixel (32768 and 0 pixels); x: -8388608 to 8388607 (-32768 to "
+                  "32767.99609375 pixels)") &&
                throws(TRIRAST_STATUS_BAD_POSITION, [&] { trirast::edges_at({0, 0, 0, -8388609, 1, 1}, points); },
-                      "corner b: x 0 and y -8388609 in 1/256 pixel (0 and -32768.00390625 pixels); y: -8388608 to 8388607 (-32768 to "
-                      "32767.99609375 pixels)"),
+                      "corner b: x 0 and y -8388609 in 1/256 pixel (0 and -32768.00390625 pixels); y: -8388608 to "
+                      "8388607 (-32768 to 32767.99609375 pixels)"),
            "a point that is too far away is an exception");
 }
 
@@ -491,33 +535,43 @@ constexpr bool is_indices = std::is_constructible_v<trirast::Indices, From>;
 
 static void compare_spans() {
     static_assert(is_vertices<std::vector<trirast_vertex> &> && is_vertices<const std::array<trirast_vertex, 3> &> &&
-                      is_vertices<const trirast_vertex (&)[3]> && is_vertices<Span<trirast_vertex>>, "vertices one after another are a span");
-    static_assert(!is_vertices<std::vector<Labelled> &> && !is_vertices<std::array<Labelled, 3>> && !is_vertices<Labelled (&)[3]> &&
-                      !is_vertices<Span<Labelled>>, "elements of another size are none");
+                      is_vertices<const trirast_vertex(&)[3]> && is_vertices<Span<trirast_vertex>>,
+                  "vertices one after another are a span");
+    static_assert(!is_vertices<std::vector<Labelled> &> && !is_vertices<std::array<Labelled, 3>> &&
+                      !is_vertices<Labelled(&)[3]> && !is_vertices<Span<Labelled>>,
+                  "elements of another size are none");
     static_assert(std::is_constructible_v<Span<const trirast_vertex>, trirast_vertex *, std::size_t> &&
-                      !std::is_constructible_v<Span<const trirast_vertex>, Labelled *, std::size_t>, "and no pointer to them");
-    static_assert(!std::is_constructible_v<Span<std::uint8_t>, const std::vector<std::uint8_t> &>, "what is const is not written to");
-    static_assert(is_indices<std::vector<std::uint16_t> &> && is_indices<const std::uint32_t (&)[3]> && is_indices<std::array<std::uint32_t, 3>>,
+                      !std::is_constructible_v<Span<const trirast_vertex>, Labelled *, std::size_t>,
+                  "and no pointer to them");
+    static_assert(!std::is_constructible_v<Span<std::uint8_t>, const std::vector<std::uint8_t> &>,
+                  "what is const is not written to");
+    static_assert(is_indices<std::vector<std::uint16_t> &> && is_indices<const std::uint32_t(&)[3]> &&
+                      is_indices<std::array<std::uint32_t, 3>>,
                   "indices have 16 or 32 bits");
-    static_assert(!is_indices<std::vector<int> &> && !is_indices<std::vector<std::uint64_t> &> && !is_indices<State>, "and nothing else");
+    static_assert(!is_indices<std::vector<int> &> && !is_indices<std::vector<std::uint64_t> &> && !is_indices<State>,
+                  "and nothing else");
     const Span<const trirast_vertex> span = CORNERS;
     report(span.data() == CORNERS.data() && span.size() == 3 && Span<int>().size() == 0, "an array is a span");
 }
 
 static void compare_moves() {
-    static_assert(!std::is_copy_constructible_v<Canvas> && !std::is_copy_assignable_v<Canvas>, "one canvas owns its memory");
-    static_assert(!std::is_constructible_v<TileRows, const Canvas &> && !std::is_constructible_v<TileRows, const TileRows &> &&
-                      !std::is_assignable_v<TileRows &, const Canvas &> && !std::is_constructible_v<TileRows, const Canvas>,
-                  "a const canvas has no tile rows that can be written to");
+    static_assert(!std::is_copy_constructible_v<Canvas> && !std::is_copy_assignable_v<Canvas>,
+                  "one canvas owns its memory");
+    static_assert(
+        !std::is_constructible_v<TileRows, const Canvas &> && !std::is_constructible_v<TileRows, const TileRows &> &&
+            !std::is_assignable_v<TileRows &, const Canvas &> && !std::is_constructible_v<TileRows, const Canvas>,
+        "a const canvas has no tile rows that can be written to");
     static_assert(!std::is_constructible_v<TileRows, Canvas> && !std::is_assignable_v<TileRows &, Canvas>,
                   "a canvas's tile rows do not leave its memory behind");
-    static_assert(std::is_move_constructible_v<Canvas> && std::is_move_assignable_v<Canvas> && std::is_move_assignable_v<TileRows>,
+    static_assert(std::is_move_constructible_v<Canvas> && std::is_move_assignable_v<Canvas> &&
+                      std::is_move_assignable_v<TileRows>,
                   "both are moved");
     Canvas first = cleared();
     const void *memory = first.in_c().memory;
     Canvas second = std::move(first);
     report(second.in_c().memory == memory && second.ids().front() == 16777215, "a canvas is moved with its memory");
-    report(throws(TRIRAST_STATUS_BAD_CANVAS, [&] { first.clear(); }) && first.split(4).empty(), "one that was moved from has no samples");
+    report(throws(TRIRAST_STATUS_BAD_CANVAS, [&] { first.clear(); }) && first.split(4).empty(),
+           "one that was moved from has no samples");
     TileRows rows = second.rows(1, 3);
     TileRows later = std::move(rows);
     report(later.first() == 1 && later.end() == 3 && rows.first() == rows.end(), "tile rows are moved");

@@ -80,7 +80,8 @@ void read_manifest(const char *path) {
             next->arrays = read_arrays((const uint32_t *)(const void *)numbers.bytes);
             free(numbers.bytes);
         }
-        if (is_drawn && trirast_list_info(next->list.bytes, next->list.length, &next->info, &error)) stop("refused", list);
+        if (is_drawn && trirast_list_info(next->list.bytes, next->list.length, &next->info, &error))
+            stop("refused", list);
     }
     fclose(file);
 }
@@ -114,7 +115,8 @@ int holds_just(const marked *buffer, const void *bytes, size_t length) {
 
 int is_error(const trirast_error *error, trirast_status status, trirast_status due) {
     int is_placed = due == TRIRAST_STATUS_OK || due == TRIRAST_STATUS_BAD_LIST || due == TRIRAST_STATUS_BAD_BATCH;
-    int is_alone = !error->cause && error->draw == TRIRAST_NONE && error->element == TRIRAST_NONE && error->value == TRIRAST_NONE;
+    int is_alone =
+        !error->cause && error->draw == TRIRAST_NONE && error->element == TRIRAST_NONE && error->value == TRIRAST_NONE;
     return status == due && error->status == (uint32_t)due && (is_placed || is_alone);
 }
 

@@ -32,10 +32,14 @@ def need(name: str) -> str:
 
 
 def python_with(*packages: str) -> str:
-    """Returns a Python that has these packages: the one that runs this, else Debian's. Raises `MissingError` if neither has them all."""
+    """Returns a Python that has these packages: the one that runs this, else Debian's. Raises `MissingError` if
+    neither has them all."""
     for python in (sys.executable, DEBIAN_PYTHON):
         imports = [python, "-c", f"import {', '.join(packages)}"]
-        if shutil.which(python) and not subprocess.run(imports, stderr=subprocess.DEVNULL, timeout=MAX_SECONDS).returncode:
+        if (
+            shutil.which(python)
+            and not subprocess.run(imports, stderr=subprocess.DEVNULL, timeout=MAX_SECONDS).returncode
+        ):
             return python
     raise MissingError(f"Python with {' and '.join(packages)}")
 
@@ -54,7 +58,8 @@ def run(command: Sequence[str], **more: Any) -> bytes:
 
 
 def must_be_silent(tool: str, command: Sequence[str], text: bytes = b"", leaks: str = "definite,possible") -> bytes:
-    """Runs a command under a tool of valgrind, and returns its output. Raises `CheckError` if it fails or the tool finds something."""
+    """Runs a command under a tool of valgrind, and returns its output. Raises `CheckError` if it fails or the
+    tool finds something."""
     need("valgrind")
     status, output, messages = races.watched(tool, command, text, OUT, leaks)
     must(status == 0 and "==" not in messages, f"status {status}: {messages[:600]}")

@@ -6,8 +6,8 @@ import re
 
 # The types of C as Rust names them.
 TYPES = {
-    "char": "c_char", "void": "c_void", "uint8_t": "u8", "uint16_t": "u16", "uint32_t": "u32", "uint64_t": "u64", "int32_t": "i32",
-    "int64_t": "i64", "size_t": "usize",
+    "char": "c_char", "void": "c_void", "uint8_t": "u8", "uint16_t": "u16", "uint32_t": "u32", "uint64_t": "u64",
+    "int32_t": "i32", "int64_t": "i64", "size_t": "usize",
 }
 # Numbers of the header that are not written in digits, as the crate writes them.
 WORDS = {"((size_t)-1)": "usize::MAX"}

@@ -12,7 +12,8 @@ from tools import picture_file, places
 from tools.reference import renderer
 from tools.draw_list import DrawList, encode
 from tools.checks.library.commands import (
-    OUT, PACKAGE_ENVIRONMENT, SHARED, WARNINGS, drawn_by_program, must_be_silent, must_be_the_programs, need, python_with, run,
+    OUT, PACKAGE_ENVIRONMENT, SHARED, WARNINGS, drawn_by_program, must_be_silent, must_be_the_programs, need,
+    python_with, run,
 )
 from tools.checks.cases import MAX_SECONDS, MissingError, must
 from tools.checks.library.lists import read_lists
@@ -65,9 +66,15 @@ def check_cpp() -> str:
 
 
 def check_c_canvas(tool: str = "") -> None:
-    """canvas.c writes the program's picture of its triangle, if a tool is given under that tool of valgrind, which finds nothing."""
+    """canvas.c writes the program's picture of its triangle, if a tool is given under that tool of valgrind,
+    which finds nothing."""
     program = os.path.join(OUT, "c_canvas")
-    run([need("gcc"), "-std=c99", "-O2", "-g", *WARNINGS, "-I", INCLUDE, "-o", program, C_CANVAS_EXAMPLE, STATIC_LIBRARY])
+    run(
+        [
+            need("gcc"), "-std=c99", "-O2", "-g", *WARNINGS, "-I", INCLUDE, "-o", program, C_CANVAS_EXAMPLE,
+            STATIC_LIBRARY,
+        ]
+    )
     written = must_be_silent(tool, [program]) if tool else run([program])
     must(written == drawn_by_program(encode(SCENE)).output, "another picture")
 
@@ -91,8 +98,13 @@ def in_units(rows: list[list[int]]) -> list[list[int]]:
 
 def glass_file() -> bytes:
     """The PAM file of both triangles on a canvas with alpha and 16 samples, by the reference renderer."""
-    draws = [{"vertices": in_units(rows), "triangles": [[0, 1, 2]], "blend": blend} for rows, blend in ((BELOW_GLASS, "none"), (PANE, "over"))]
-    scene = renderer.read(encode({"width": 100, "height": 200, "samples": 16, "clear_alpha": 0, "draws": draws}), renderer.CANVAS)
+    draws = [
+        {"vertices": in_units(rows), "triangles": [[0, 1, 2]], "blend": blend}
+        for rows, blend in ((BELOW_GLASS, "none"), (PANE, "over"))
+    ]
+    scene = renderer.read(
+        encode({"width": 100, "height": 200, "samples": 16, "clear_alpha": 0, "draws": draws}), renderer.CANVAS
+    )
     header = b"P7\nWIDTH 100\nHEIGHT 200\nDEPTH 4\nMAXVAL 255\nTUPLTYPE RGB_ALPHA\nENDHDR\n"
     return header + renderer.pixels(renderer.drawn(scene), scene.samples, "rgba_straight")
 
@@ -213,8 +225,8 @@ def check_viewer_refuses() -> None:
 
 
 def check_edges() -> str:
-    """edges.py draws two colours on a third with one sample, and with n of them at most n - 1 steps from each colour to the third. Above
-    each picture stands a label."""
+    """edges.py draws two colours on a third with one sample, and with n of them at most n - 1 steps from each colour to
+    the third. Above each picture stands a label."""
     path = os.path.join(OUT, "edges.ppm")
     run([sys.executable, os.path.join(PYTHON_EXAMPLES, "edges.py"), path], env=PACKAGE_ENVIRONMENT)
     picture = picture_file.decode(places.bytes_of(path))
@@ -223,7 +235,11 @@ def check_edges() -> str:
     found = []
     for k, samples in enumerate(parts):
         left = k * (part + 10)
-        seen = {pixels[row * picture.width + column] for row in range(label, label + part) for column in range(left, left + part)}
+        seen = {
+            pixels[row * picture.width + column]
+            for row in range(label, label + part)
+            for column in range(left, left + part)
+        }
         must(samples < len(seen) <= 3 + 2 * (samples - 1), f"{len(seen)} colours with {samples} samples")
         found.append(f"{len(seen)} colours with {samples}")
     return ", ".join(found)
@@ -248,18 +264,23 @@ def check_plots() -> str:
 
 
 def seams_of_plots(program: str, count: int, share: float) -> str:
-    """A program names this number of plots, without a seam by trirast.matplotlib, and by Agg with more than this share of their pixels."""
+    """A program names this number of plots, without a seam by trirast.matplotlib, and by Agg with more than this
+    share of their pixels."""
     path = os.path.join(OUT, f"{program}.png")
     text = printed_by(python_with("numpy", "matplotlib"), f"{program}.py", path)
     found = re.findall(r"^(Agg|trirast): (.*): (\d+) of (\d+) pixels", text, re.MULTILINE)
     must(len(found) == count and os.path.getsize(path) > 0, text)
     for name, plot, seams, pixels in found:
-        must(int(seams) == 0 if name == "trirast" else int(seams) > share * int(pixels), f"{name}, {plot}: {seams} of {pixels} pixels")
+        must(
+            int(seams) == 0 if name == "trirast" else int(seams) > share * int(pixels),
+            f"{name}, {plot}: {seams} of {pixels} pixels",
+        )
     return "; ".join(f"{name}, {plot}: {seams}" for name, plot, seams, _pixels in found)
 
 
 def check_textured() -> str:
-    """The positions that textured.py interpolates lie at their points, and its picture does not depend on the number of threads."""
+    """The positions that textured.py interpolates lie at their points, and its picture does not depend on the
+    number of threads."""
     python, pictures = python_with("numpy"), []
     for threads in ("1", "3"):
         path = os.path.join(OUT, f"textured-{threads}.ppm")
@@ -268,7 +289,9 @@ def check_textured() -> str:
     (off,) = (float(number) for number in re.findall(r"\d+\.\d+", text))
     # A vertex lies up to 1/512 pixel off in each direction, since positions on the screen are rounded.
     must(off < 1 / 64, text)
-    must(pictures[0] == pictures[1] and len(pictures[0]) == len(b"P6\n450 130\n255\n") + 450 * 130 * 3, "another picture")
+    must(
+        pictures[0] == pictures[1] and len(pictures[0]) == len(b"P6\n450 130\n255\n") + 450 * 130 * 3, "another picture"
+    )
     return text.splitlines()[-1]
 
 
@@ -291,18 +314,26 @@ def check_seams() -> str:
 
 
 def check_choropleth() -> str:
-    """choropleth.py finds each sample of a map of two countries in exactly one of them, and draws each in its colour."""
+    """choropleth.py finds each sample of a map of two countries in exactly one of them, and draws each
+    in its colour."""
     python, path = python_with("numpy"), os.path.join(OUT, "choropleth.ppm")
     features = [
         {"type": "Feature", "properties": {"people": people}, "geometry": {"type": "Polygon", "coordinates": [ring]}}
         for people, ring in zip((1, 9), COUNTRIES)
     ]
-    style = {"window": [-5, 40, 12, 50], "width": 340, "property": "people", "steps": [[0, "#ff0000"], [5, "#0000ff"]], "opacity": 0.5}
+    style = {
+        "window": [-5, 40, 12, 50], "width": 340, "property": "people", "steps": [[0, "#ff0000"], [5, "#0000ff"]],
+        "opacity": 0.5,
+    }
     names = [os.path.join(OUT, name) for name in ("countries.geojson", "style.json")]
     for name, value in zip(names, ({"type": "FeatureCollection", "features": features}, style)):
         write(name, json.dumps(value))
     text = printed_by(python, "choropleth.py", path, "--map", names[0], "--style", names[1])
-    must("2 polygons have 272,000 samples, and no polygon has 0: 0 beside" in text and "272,000 in one, 0 in several" in text, text)
+    must(
+        "2 polygons have 272,000 samples, and no polygon has 0: 0 beside" in text
+        and "272,000 in one, 0 in several" in text,
+        text,
+    )
     pixels = picture_file.decode(places.bytes_of(path)).pixels()
     must((pixels[0], pixels[-1]) == (bytes((255, 127, 127)), bytes((127, 127, 255))), text)
     return text.splitlines()[-1]

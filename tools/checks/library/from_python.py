@@ -174,8 +174,12 @@ def check_numpy_canvas() -> None:
     must((ids.shape, ids.dtype, ids[1, 2]) == ((2, 3), numpy.uint32, 1 + 256 * 2 + 65536 * 3), "other ids")
     image = numpy.arange(24, dtype=numpy.uint8).reshape(2, 3, 4)
     canvas.load(image)
-    must((canvas.rgba()[:, :, :3] == image[:, :, :3]).all() and canvas.depth()[0, 0] == 258, "another picture was loaded")
-    vertices = numpy.array([[0, 0, 0, 9, 9, 9, 255], [2048, 0, 0, 9, 9, 9, 255], [0, 2048, 0, 9, 9, 9, 255]], dtype=numpy.int32)
+    must(
+        (canvas.rgba()[:, :, :3] == image[:, :, :3]).all() and canvas.depth()[0, 0] == 258, "another picture was loaded"
+    )
+    vertices = numpy.array(
+        [[0, 0, 0, 9, 9, 9, 255], [2048, 0, 0, 9, 9, 9, 255], [0, 2048, 0, 9, 9, 9, 255]], dtype=numpy.int32
+    )
     canvas.draw(vertices, numpy.array([[0, 1, 2]], dtype=numpy.uint32))
     must((canvas.rgb(numpy.empty((2, 3, 3), numpy.uint8)) == 9).all(), "other pixels")
 

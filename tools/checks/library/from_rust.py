@@ -1,5 +1,5 @@
-"""The crates in bindings/rust: their declarations against the header, each picture and each error against the program's, scenes against
-the package in Python, and clipping against the header in C."""
+"""The crates in bindings/rust: their declarations against the header, each picture and each error against the
+program's, scenes against the package in Python, and clipping against the header in C."""
 
 from __future__ import annotations
 
@@ -36,7 +36,8 @@ def check_version() -> None:
 
 
 def check_declared() -> str:
-    """trirast-sys declares the calls, structs and numbers of the header, and no other ones. Returns how many calls there are."""
+    """trirast-sys declares the calls, structs and numbers of the header, and no other ones. Returns how
+    many calls there are."""
     header = declarations.in_c(places.text_of("include", "trirast.h"))
     crate = declarations.in_rust(places.text_of(CRATES, "trirast-sys", "src", "lib.rs"))
     others = sorted(name for name in header.keys() | crate.keys() if header.get(name) != crate.get(name))
@@ -45,7 +46,8 @@ def check_declared() -> str:
 
 
 def cargo(folder: str, *arguments: str, kind: str = "static", out: str = OUT) -> bytes:
-    """Runs cargo in a folder over the static or the shared library, which leaves its work in `out`. Returns its standard output."""
+    """Runs cargo in a folder over the static or the shared library, which leaves its work in `out`. Returns
+    its standard output."""
     more = {"TRIRAST_SHARED": "1", "LD_LIBRARY_PATH": LIB} if kind == "shared" else {}
     lists = {"TRIRAST_LIB_DIR": LIB, **INPUTS}
     target = {"CARGO_TARGET_DIR": os.path.join(out, f"rust-{kind}"), "CARGO_HOME": os.path.join(out, "cargo")}
@@ -59,7 +61,8 @@ def cargo(folder: str, *arguments: str, kind: str = "static", out: str = OUT) ->
 
 
 def write_inputs() -> str:
-    """Writes scenes as Python draws them, and clipped triangles as the header in C makes them. Returns how many bytes there are."""
+    """Writes scenes as Python draws them, and clipped triangles as the header in C makes them. Returns how
+    many bytes there are."""
     scenes, asked, answered = (INPUTS[f"TRIRAST_{name}"] for name in ("PYTHON_SCENES", "CLIP_TASKS", "CLIP_ANSWERS"))
     run([sys.executable, "-m", "tools.checks.library.python_scenes", scenes], env=PACKAGE_ENVIRONMENT, cwd=TOP)
     question = b"".join(task.encoded() for task in tasks.all_tasks())
@@ -87,15 +90,23 @@ def example(name: str) -> picture_file.PictureFile:
 def check_polygons() -> None:
     """The example of polygons writes the picture of that in C."""
     program = os.path.join(OUT, "polygons")
-    run([need("gcc"), "-std=c99", *WARNINGS, "-I", INCLUDE, "-o", program, os.path.join(TOP, "examples", "c", "polygons.c"), STATIC_LIBRARY])
+    run(
+        [
+            need("gcc"), "-std=c99", *WARNINGS, "-I", INCLUDE, "-o", program,
+            os.path.join(TOP, "examples", "c", "polygons.c"), STATIC_LIBRARY,
+        ]
+    )
     must(picture_file.decode(run([program])) == example("polygons"), "another picture")
 
 
 def check_floor() -> str:
-    """The example of a floor draws docs/floor.png, and shows the squares that the rays of the camera meet, but for some at their edges.
-    Returns how many differ."""
+    """The example of a floor draws docs/floor.png, and shows the squares that the rays of the camera meet, but for some
+    at their edges. Returns how many differ."""
     found = example("floor")
-    must(png.encode(found.width, found.height, 3, found.pixel_data) == places.bytes_of("docs", "floor.png"), "another picture than docs/floor.png")
+    must(
+        png.encode(found.width, found.height, 3, found.pixel_data) == places.bytes_of("docs", "floor.png"),
+        "another picture than docs/floor.png",
+    )
     light, dark, sky = (0xE0, 0xE0, 0xD0), (0x20, 0x28, 0x30), (0x40, 0x80, 0xC0)
     wrong = 0
     for number, pixel in enumerate(found.pixels()):

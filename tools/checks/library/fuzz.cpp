@@ -1,7 +1,7 @@
-// Draws random scenes by trirast.hpp: whole, draw by draw, by threads, by parts, by ids, as polygons and as windows, resolved with strides,
-// loaded and stored again and refused. Each is compared with what the others draw, and a scene that a draw list can have with trirast_list_draw's picture.
-// Its arguments are seconds and a seed. Prints how many scenes there were, or why it stops. tools/checks/fuzz_header.py builds it with
-// sanitizers.
+// Draws random scenes by trirast.hpp: whole, draw by draw, by threads, by parts, by ids, as polygons and as windows,
+// resolved with strides, loaded and stored again and refused. Each is compared with what the others draw, and a scene
+// that a draw list can have with trirast_list_draw's picture. Its arguments are seconds and a seed. Prints how many
+// scenes there were, or why it stops. tools/checks/fuzz_header.py builds it with sanitizers.
 #include <algorithm>
 #include <array>
 #include <chrono>
@@ -76,7 +76,8 @@ std::int32_t place(Pick &pick, std::int32_t origin, std::uint32_t size) {
 
 trirast_vertex some_vertex(Pick &pick, std::int32_t x, std::int32_t y) {
     const auto byte = [&pick] { return static_cast<std::uint8_t>(pick.below(256)); };
-    return {x, y, static_cast<std::uint16_t>(pick.below(65536)), byte(), byte(), byte(), byte(), static_cast<std::uint16_t>(pick.below(65536))};
+    return {x, y, static_cast<std::uint16_t>(pick.below(65536)), byte(), byte(), byte(), byte(),
+            static_cast<std::uint16_t>(pick.below(65536))};
 }
 
 void add_quad(Pick &pick, Scene &scene) {
@@ -97,7 +98,9 @@ trirast_blend some_blend(Pick &pick, bool is_listed) {
 }
 
 void add_scissor(Pick &pick, const Scene &scene, trirast_draw &draw) {
-    const auto edge = [&pick](std::int32_t origin, std::uint32_t size) { return origin + static_cast<std::int32_t>(pick.below(size + 1)); };
+    const auto edge = [&pick](std::int32_t origin, std::uint32_t size) {
+        return origin + static_cast<std::int32_t>(pick.below(size + 1));
+    };
     draw.scissor_enable = 1;
     draw.scissor_left = edge(scene.origin.x, scene.width), draw.scissor_right = edge(scene.origin.x, scene.width);
     draw.scissor_top = edge(scene.origin.y, scene.height), draw.scissor_bottom = edge(scene.origin.y, scene.height);
@@ -108,17 +111,20 @@ void add_draw(Pick &pick, Scene &scene) {
     const std::size_t first = scene.vertices.size(), begin = scene.indices.size();
     const auto below = [&pick](std::uint32_t end) { return static_cast<std::uint8_t>(pick.below(end)); };
     draw.topology = below(3), draw.cull = below(3), draw.depth_test = below(8), draw.depth_write = below(2);
-    draw.blend = some_blend(pick, scene.is_listed), draw.skip_samples = static_cast<std::uint16_t>(pick.chance(3) ? pick.below(65536) : 0);
+    draw.blend = some_blend(pick, scene.is_listed),
+        draw.skip_samples = static_cast<std::uint16_t>(pick.chance(3) ? pick.below(65536) : 0);
     draw.keep = pick.chance(3) ? below(16) : std::uint8_t{0};
     if (draw.topology == TRIRAST_TOPOLOGY_QUADS) {
         add_quad(pick, scene);
         for (std::uint32_t k = 0; k < 4; k++) scene.indices.push_back(k);
         const trirast_vertex &corner = scene.vertices[first];
-        if (corner.x == highest(scene.origin.x) || corner.y == highest(scene.origin.y)) draw.topology = TRIRAST_TOPOLOGY_STRIP;
+        if (corner.x == highest(scene.origin.x) || corner.y == highest(scene.origin.y))
+            draw.topology = TRIRAST_TOPOLOGY_STRIP;
     } else {
         const std::uint32_t count = 1 + pick.below(30);
         for (std::uint32_t k = 0; k < count; k++)
-            scene.vertices.push_back(some_vertex(pick, place(pick, scene.origin.x, scene.width), place(pick, scene.origin.y, scene.height)));
+            scene.vertices.push_back(
+                some_vertex(pick, place(pick, scene.origin.x, scene.width), place(pick, scene.origin.y, scene.height)));
         const std::uint32_t wanted = 3 * pick.below(20);
         for (std::uint32_t k = 0; k < wanted; k++) scene.indices.push_back(pick.below(count));
     }
@@ -130,7 +136,8 @@ void add_draw(Pick &pick, Scene &scene) {
 Scene some_scene(Pick &pick) {
     Scene scene = {};
     const auto byte = [&pick] { return static_cast<std::uint8_t>(pick.below(256)); };
-    scene.width = 1 + pick.below(pick.chance(10) ? 600 : 150), scene.height = 1 + pick.below(pick.chance(10) ? 600 : 150);
+    scene.width = 1 + pick.below(pick.chance(10) ? 600 : 150),
+        scene.height = 1 + pick.below(pick.chance(10) ? 600 : 150);
     scene.samples = SAMPLES[pick.below(5)], scene.is_listed = pick.chance(2);
     if (pick.chance(2)) scene.origin = {pick.from(-3000, 3000), pick.from(-3000, 3000)};
     scene.clear = {byte(), byte(), byte(), byte(), static_cast<std::uint16_t>(pick.below(65536))};
@@ -143,7 +150,8 @@ Scene some_scene(Pick &pick) {
 
 // ---- The picture by another call
 
-// Moves a scene by whole pixels, so that its origin is 0. A vertex that leaves the guard band so is refused there and here.
+// Moves a scene by whole pixels, so that its origin is 0. A vertex that leaves the guard band so is
+// refused there and here.
 Scene moved(const Scene &scene) {
     Scene found = scene;
     found.origin = {};
@@ -163,7 +171,8 @@ Canvas cleared(const Scene &scene) {
 
 Pixels depths_of(const TileRows &rows) {
     Pixels found;
-    for (const std::uint16_t depth : rows.depths()) found.push_back(static_cast<std::uint8_t>(depth >> 8)), found.push_back(static_cast<std::uint8_t>(depth));
+    for (const std::uint16_t depth : rows.depths())
+        found.push_back(static_cast<std::uint8_t>(depth >> 8)), found.push_back(static_cast<std::uint8_t>(depth));
     return found;
 }
 
@@ -181,7 +190,9 @@ std::string row(Numbers... numbers) {
 // The faces of a draw as a list has them.
 std::string faces_of(const trirast_draw &draw, const std::uint32_t *indices) {
     static const char *const names[] = {"triangles", "strip", "quads"};
-    const std::size_t each = draw.topology == TRIRAST_TOPOLOGY_QUADS ? 4 : draw.topology == TRIRAST_TOPOLOGY_STRIP ? 1 : 3;
+    const std::size_t each = draw.topology == TRIRAST_TOPOLOGY_QUADS   ? 4
+                             : draw.topology == TRIRAST_TOPOLOGY_STRIP ? 1
+                                                                       : 3;
     std::vector<std::string> faces;
     for (std::size_t k = 0; k < draw.index_count; k += each) {
         std::vector<std::string> face;
@@ -191,24 +202,31 @@ std::string faces_of(const trirast_draw &draw, const std::uint32_t *indices) {
     return std::string("\"") + names[draw.topology] + "\":" + joined(faces);
 }
 
-std::string draw_as_text(const Scene &scene, const trirast_draw &draw, const trirast_vertex *vertices, const std::uint32_t *indices) {
+std::string draw_as_text(const Scene &scene, const trirast_draw &draw, const trirast_vertex *vertices,
+                         const std::uint32_t *indices) {
     static const char *const culls[] = {"none", "front", "back"};
-    static const char *const tests[] = {"always", "never", "less", "equal", "less_equal", "greater", "not_equal", "greater_equal"};
+    static const char *const tests[] = {"always", "never", "less", "equal",
+                                        "less_equal", "greater", "not_equal", "greater_equal"};
     const auto written = [&draw](int channel) { return draw.keep & channel ? "false" : "true"; };
-    const auto edge = [](std::int32_t at, std::uint32_t size) { return std::to_string(std::clamp<std::int32_t>(at, 0, static_cast<std::int32_t>(size))); };
+    const auto edge = [](std::int32_t at, std::uint32_t size) {
+        return std::to_string(std::clamp<std::int32_t>(at, 0, static_cast<std::int32_t>(size)));
+    };
     std::vector<std::string> rows;
     for (std::size_t k = 0; k < draw.vertex_count; k++) {
         const trirast_vertex &v = vertices[k];
         rows.push_back(row(v.x, v.y, v.depth, v.red, v.green, v.blue, v.alpha));
     }
-    std::string text = "{\"vertices\":" + joined(rows) + "," + faces_of(draw, indices) + ",\"cull\":\"" + culls[draw.cull] + "\",\"depth_test\":\"" +
-                       tests[draw.depth_test] + "\",\"depth_write\":" + (draw.depth_write ? "true" : "false") + ",\"blend\":\"" +
-                       (draw.blend.color_source == TRIRAST_FACTOR_SOURCE_ALPHA ? "over" : "none") + "\",\"write\":[" + written(TRIRAST_KEEP_RED) + "," +
-                       written(TRIRAST_KEEP_GREEN) + "," + written(TRIRAST_KEEP_BLUE) + "],\"sample_mask\":" +
-                       std::to_string(~draw.skip_samples & ((1u << scene.samples) - 1));
+    std::string text = "{\"vertices\":" + joined(rows) + "," + faces_of(draw, indices) + ",\"cull\":\"" +
+                       culls[draw.cull] + "\",\"depth_test\":\"" + tests[draw.depth_test] +
+                       "\",\"depth_write\":" + (draw.depth_write ? "true" : "false") + ",\"blend\":\"" +
+                       (draw.blend.color_source == TRIRAST_FACTOR_SOURCE_ALPHA ? "over" : "none") + "\",\"write\":[" +
+                       written(TRIRAST_KEEP_RED) + "," + written(TRIRAST_KEEP_GREEN) + "," +
+                       written(TRIRAST_KEEP_BLUE) +
+                       "],\"sample_mask\":" + std::to_string(~draw.skip_samples & ((1u << scene.samples) - 1));
     if (draw.scissor_enable)
-        text += ",\"scissor\":" + joined({edge(draw.scissor_left, scene.width), edge(draw.scissor_top, scene.height),
-                                          edge(draw.scissor_right, scene.width), edge(draw.scissor_bottom, scene.height)});
+        text +=
+            ",\"scissor\":" + joined({edge(draw.scissor_left, scene.width), edge(draw.scissor_top, scene.height),
+                                      edge(draw.scissor_right, scene.width), edge(draw.scissor_bottom, scene.height)});
     return text + "}";
 }
 
@@ -220,13 +238,14 @@ std::string as_text(const Scene &scene, bool is_depth) {
         draws.push_back(draw_as_text(scene, draw, vertices, indices));
         vertices += draw.vertex_count, indices += draw.index_count;
     }
-    return "{\"width\":" + std::to_string(scene.width) + ",\"height\":" + std::to_string(scene.height) + ",\"samples\":" +
-           std::to_string(scene.samples) + ",\"output\":\"" + (is_depth ? "depth" : "color") + "\",\"clear\":" +
-           row(scene.clear.red, scene.clear.green, scene.clear.blue) + ",\"clear_depth\":" + std::to_string(scene.clear.depth) + ",\"draws\":" +
-           joined(draws) + "}";
+    return "{\"width\":" + std::to_string(scene.width) + ",\"height\":" + std::to_string(scene.height) +
+           ",\"samples\":" + std::to_string(scene.samples) + ",\"output\":\"" + (is_depth ? "depth" : "color") +
+           "\",\"clear\":" + row(scene.clear.red, scene.clear.green, scene.clear.blue) +
+           ",\"clear_depth\":" + std::to_string(scene.clear.depth) + ",\"draws\":" + joined(draws) + "}";
 }
 
-// The pixels of a scene by trirast_list_draw. Where a list has no such samples or equations, those of a canvas without a window.
+// The pixels of a scene by trirast_list_draw. Where a list has no such samples or equations, those of a
+// canvas without a window.
 Pixels wanted_of(const Scene &given, bool is_depth) {
     const Scene scene = moved(given);
     if ((scene.samples != 1 && scene.samples != 4) || !scene.is_listed) {
@@ -236,9 +255,11 @@ Pixels wanted_of(const Scene &given, bool is_depth) {
     }
     const std::string text = as_text(scene, is_depth);
     trirast_image_info info = {};
-    must(trirast_list_info(text.data(), text.size(), &info, nullptr) == TRIRAST_STATUS_OK, "trirast_list_info refuses the scene");
+    must(trirast_list_info(text.data(), text.size(), &info, nullptr) == TRIRAST_STATUS_OK,
+         "trirast_list_info refuses the scene");
     Pixels file(info.file_bytes);
-    must(trirast_list_draw(text.data(), text.size(), 32, file.data(), file.size(), nullptr) == TRIRAST_STATUS_OK, "trirast_list_draw refuses the scene");
+    must(trirast_list_draw(text.data(), text.size(), 32, file.data(), file.size(), nullptr) == TRIRAST_STATUS_OK,
+         "trirast_list_draw refuses the scene");
     return Pixels(file.begin() + static_cast<std::ptrdiff_t>(info.header_bytes), file.end());
 }
 
@@ -249,7 +270,8 @@ State state_of(const trirast_draw &draw) {
     state.topology = static_cast<trirast_topology>(draw.topology), state.cull = static_cast<trirast_cull>(draw.cull);
     state.depth_test = static_cast<trirast_depth_test>(draw.depth_test), state.depth_write = draw.depth_write == 1;
     state.blend = draw.blend, state.keep = draw.keep, state.skip_samples = draw.skip_samples;
-    if (draw.scissor_enable) state.scissor = trirast::Scissor{draw.scissor_left, draw.scissor_top, draw.scissor_right, draw.scissor_bottom};
+    if (draw.scissor_enable)
+        state.scissor = trirast::Scissor{draw.scissor_left, draw.scissor_top, draw.scissor_right, draw.scissor_bottom};
     return state;
 }
 
@@ -272,7 +294,8 @@ void draw_each(Pick &pick, const Scene &scene, TileRows &rows) {
 }
 
 void draw_by_parts(Pick &pick, const Scene &scene, Canvas &canvas) {
-    if (pick.chance(2)) return canvas.share(pick.below(5) + 1, [&scene](TileRows &part) { part.draw_batch(scene.batch()); });
+    if (pick.chance(2))
+        return canvas.share(pick.below(5) + 1, [&scene](TileRows &part) { part.draw_batch(scene.batch()); });
     std::vector<TileRows> parts = canvas.split(pick.below(5) + 1);
     std::shuffle(parts.begin(), parts.end(), pick.generator);
     std::vector<std::thread> threads;
@@ -287,7 +310,8 @@ void draw_by_parts(Pick &pick, const Scene &scene, Canvas &canvas) {
 
 // The pixels of tile rows in a format, with a stride, in memory that ends with them. What lies between rows stays.
 Pixels resolved(Pick &pick, const TileRows &rows, trirast_format format) {
-    const std::size_t bytes = format == TRIRAST_FORMAT_RGB8 ? 3 : 4, row = bytes * rows.width(), stride = row + (pick.chance(2) ? pick.below(9) : 0);
+    const std::size_t bytes = format == TRIRAST_FORMAT_RGB8 ? 3 : 4, row = bytes * rows.width(),
+                      stride = row + (pick.chance(2) ? pick.below(9) : 0);
     const std::size_t size = rows.height() == 0 ? 0 : (rows.height() - 1) * stride + row;
     const std::unique_ptr<std::uint8_t[]> memory(new std::uint8_t[size]);
     std::fill_n(memory.get(), size, std::uint8_t{77});
@@ -296,8 +320,11 @@ Pixels resolved(Pick &pick, const TileRows &rows, trirast_format format) {
     for (std::size_t y = 0; y < rows.height(); y++) {
         const std::uint8_t *begin = memory.get() + y * stride;
         for (std::size_t x = 0; x < rows.width(); x++)
-            for (std::size_t c = 0; c < 3; c++) found.push_back(begin[bytes * x + (format == TRIRAST_FORMAT_BGRA8 ? 2 - c : c)]);
-        if (y + 1 < rows.height()) must(std::all_of(begin + row, begin + stride, [](std::uint8_t byte) { return byte == 77; }), "bytes between rows");
+            for (std::size_t c = 0; c < 3; c++)
+                found.push_back(begin[bytes * x + (format == TRIRAST_FORMAT_BGRA8 ? 2 - c : c)]);
+        if (y + 1 < rows.height())
+            must(std::all_of(begin + row, begin + stride, [](std::uint8_t byte) { return byte == 77; }),
+                 "bytes between rows");
     }
     return found;
 }
@@ -315,9 +342,11 @@ void compare(Pick &pick, const Scene &scene, const Pixels &wanted) {
         must(depths_of(*canvas) == depths, "other depths");
         must(resolved(pick, *canvas, FORMATS[pick.below(3)]) == wanted, "other pixels with a stride");
     }
-    const std::uint32_t tile_rows = whole.end(), first = pick.below(tile_rows + 1), end = first + pick.below(tile_rows - first + 1);
+    const std::uint32_t tile_rows = whole.end(), first = pick.below(tile_rows + 1),
+                        end = first + pick.below(tile_rows - first + 1);
     const Pixels piece = resolved(pick, whole.rows(first, end), TRIRAST_FORMAT_RGB8);
-    must(std::equal(piece.begin(), piece.end(), wanted.begin() + 3 * static_cast<std::ptrdiff_t>(std::min(64 * first, scene.height)) * scene.width),
+    must(std::equal(piece.begin(), piece.end(),
+                    wanted.begin() + 3 * static_cast<std::ptrdiff_t>(std::min(64 * first, scene.height)) * scene.width),
          "other pixels of tile rows");
     Canvas loaded = cleared(scene);
     loaded.load(TRIRAST_FORMAT_RGB8, wanted, 3 * scene.width);
@@ -334,7 +363,9 @@ void compare_ids(Pick &pick, const Scene &scene) {
     const std::vector<std::uint32_t> ids = whole.ids(sample);
     must(ids == parts.ids(sample), "other ids by parts");
     const std::uint32_t end = first + static_cast<std::uint32_t>(scene.indices.size());
-    must(std::all_of(ids.begin(), ids.end(), [&](std::uint32_t id) { return id == NO_ID || (first <= id && id < end); }), "an id of no triangle");
+    must(
+        std::all_of(ids.begin(), ids.end(), [&](std::uint32_t id) { return id == NO_ID || (first <= id && id < end); }),
+        "an id of no triangle");
 }
 
 // ---- Polygons and tiles
@@ -364,12 +395,15 @@ struct Rings {
             vertex.x = scene.vertices[k].x, vertex.y = scene.vertices[k].y;
             vertices.push_back(vertex), corners.push_back({vertex.x, vertex.y});
             if (k % 3 != 2) continue;
-            ring_ends.push_back(static_cast<std::uint32_t>(k + 1)), polygon_ends.push_back(static_cast<std::uint32_t>(ring_ends.size()));
+            ring_ends.push_back(static_cast<std::uint32_t>(k + 1)),
+                polygon_ends.push_back(static_cast<std::uint32_t>(ring_ends.size()));
             colors.push_back({{vertex.red, vertex.green, vertex.blue, vertex.alpha}}), depths.push_back(vertex.depth);
         }
     }
 
-    trirast::Polygons polygons(trirast_fill_rule rule) const { return {corners, ring_ends, polygon_ends, colors, depths, rule}; }
+    trirast::Polygons polygons(trirast_fill_rule rule) const {
+        return {corners, ring_ends, polygon_ends, colors, depths, rule};
+    }
 };
 
 void compare_polygons(Pick &pick, const Scene &scene) {
@@ -383,7 +417,8 @@ void compare_polygons(Pick &pick, const Scene &scene) {
     triangles.draw(rings.vertices, {}, state);
     whole.draw_polygons(polygons, state, pick.below(5));
     for (TileRows &part : parts.split(pick.below(4) + 1)) part.draw_polygons(polygons, state);
-    must(whole.pixels() == triangles.pixels() && depths_of(whole) == depths_of(triangles), "rings of three corners are other than triangles");
+    must(whole.pixels() == triangles.pixels() && depths_of(whole) == depths_of(triangles),
+         "rings of three corners are other than triangles");
     must(parts.pixels() == whole.pixels() && depths_of(parts) == depths_of(whole), "other polygons by parts");
     if (rings.polygon_ends.empty()) return;
     rings.polygon_ends.back() += 1 + pick.below(1000);
@@ -401,7 +436,8 @@ void compare_tiles(Pick &pick, const Scene &scene) {
     std::vector<std::uint32_t> entries(canvas.tile_entries());
     for (TileRows &part : canvas.split(3))
         for (std::uint32_t row = part.first(); row < part.end(); row++)
-            for (std::uint32_t column = 0; column < part.tile_columns(); column++) part.tile_store(column, row, part.tile_ids(column, row, entries));
+            for (std::uint32_t column = 0; column < part.tile_columns(); column++)
+                part.tile_store(column, row, part.tile_ids(column, row, entries));
     must(canvas.ids(sample) == before, "tiles that were stored as they were read");
     must_throw(TRIRAST_STATUS_BAD_TILE, [&] { canvas.tile_ids(canvas.tile_columns() + pick.below(1000), 0, entries); });
     must_throw(TRIRAST_STATUS_BAD_TILE, [&] { canvas.tile_store(0, canvas.end() + pick.below(1000), entries); });
@@ -420,10 +456,14 @@ void refuse(Pick &pick, Scene scene) {
     must_throw(TRIRAST_STATUS_BUFFER_TOO_SMALL, [&] { canvas.load(TRIRAST_FORMAT_RGB8, before, 3 * scene.width - 1); });
     must_throw(TRIRAST_STATUS_BAD_SAMPLE, [&] { canvas.depths(scene.samples + pick.below(1000)); });
     must_throw(TRIRAST_STATUS_BAD_TILE_ROWS, [&] { canvas.rows(0, canvas.end() + 1 + pick.below(1000)); });
-    must_throw(TRIRAST_STATUS_BAD_CANVAS, [&] { Canvas({pick.chance(2) ? 0 : 4097 + pick.below(1u << 31), 1 + pick.below(4096)}); });
-    must_throw(TRIRAST_STATUS_BAD_FORMAT, [&] { canvas.resolve(static_cast<trirast_format>(5), small, 4 * scene.width); });
+    must_throw(TRIRAST_STATUS_BAD_CANVAS, [&] {
+        Canvas({pick.chance(2) ? 0 : 4097 + pick.below(1u << 31), 1 + pick.below(4096)});
+    });
+    must_throw(TRIRAST_STATUS_BAD_FORMAT,
+               [&] { canvas.resolve(static_cast<trirast_format>(5), small, 4 * scene.width); });
     if (!scene.indices.empty()) {
-        scene.indices[pick.below(static_cast<std::uint32_t>(scene.indices.size()))] = static_cast<std::uint32_t>(scene.vertices.size()) + pick.below(1000);
+        scene.indices[pick.below(static_cast<std::uint32_t>(scene.indices.size()))] =
+            static_cast<std::uint32_t>(scene.vertices.size()) + pick.below(1000);
         must_throw(TRIRAST_STATUS_BAD_BATCH, [&] { canvas.draw_batch(scene.batch(), pick.below(4)); });
     }
     scene.indices.push_back(0);

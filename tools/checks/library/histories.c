@@ -1,5 +1,5 @@
-// Asks for the histories of samples, and for the samples of triangles: what is written into arrays of every size, that the ends
-// make the pixels of the program's picture, that the counts agree with the histories, and what is refused.
+// Asks for the histories of samples, and for the samples of triangles: what is written into arrays of every size, that
+// the ends make the pixels of the program's picture, that the counts agree with the histories, and what is refused.
 #include <stdio.h>
 #include <stdlib.h>
 #include <string.h>
@@ -15,15 +15,17 @@ static trirast_history_request request_of(uint32_t x, uint32_t y, uint32_t sampl
 }
 
 // Asks with an array of this many events, and compares the status. The caller frees the array.
-static marked ask(const list_case *one, const trirast_history_request *request, size_t capacity, trirast_sample_info *info,
-                  trirast_status due) {
+static marked ask(const list_case *one, const trirast_history_request *request, size_t capacity,
+                  trirast_sample_info *info, trirast_status due) {
     marked events = mark(capacity * sizeof(trirast_event));
     trirast_error error = UNSET;
     *info = NO_INFO;
-    trirast_status status =
-        trirast_list_history(one->list.bytes, one->list.length, request, (trirast_event *)events.bytes, capacity, info, &error);
+    trirast_status status = trirast_list_history(one->list.bytes, one->list.length, request,
+                                                 (trirast_event *)events.bytes, capacity, info, &error);
     expect(is_error(&error, status, due), "%s: status %u where %u was due", one->name, status, due);
-    if (due) expect(!memcmp(info, &NO_INFO, sizeof NO_INFO) && holds_just(&events, NULL, 0), "%s: written after an error", one->name);
+    if (due)
+        expect(!memcmp(info, &NO_INFO, sizeof NO_INFO) && holds_just(&events, NULL, 0), "%s: written after an error",
+               one->name);
     return events;
 }
 
@@ -38,7 +40,8 @@ static int chain_holds(const trirast_event *events, const trirast_sample_info *i
         if (!is_same(&event->before, stored) || (k && event->number <= events[k - 1].number)) return 0;
         if ((event->result == TRIRAST_RESULT_DRAWN) != !event->reasons) return 0;
         if ((event->result == TRIRAST_RESULT_DEPTH_FAILED) != (event->reasons == TRIRAST_REASON_DEPTH_FAILED)) return 0;
-        if (!!(event->reasons & TRIRAST_REASON_NOT_COVERED) != fails || event->covered != (has_area && !fails)) return 0;
+        if (!!(event->reasons & TRIRAST_REASON_NOT_COVERED) != fails || event->covered != (has_area && !fails))
+            return 0;
         if (event->result != TRIRAST_RESULT_DRAWN && !is_same(&event->before, &event->after)) return 0;
         stored = &event->after;
     }
@@ -53,7 +56,8 @@ static int are_covering(const trirast_event *some, size_t some_count, const trir
     return found == some_count;
 }
 
-// The history of a sample, by arrays that are too small, just large enough and too large. Gives the sample beside its events.
+// The history of a sample, by arrays that are too small, just large enough and too large. Gives the
+// sample beside its events.
 static trirast_sample_info compare_sample(const list_case *one, uint32_t x, uint32_t y, uint32_t sample) {
     trirast_sample_info info, again;
     marked kept[2];
@@ -64,13 +68,14 @@ static trirast_sample_info compare_sample(const list_case *one, uint32_t x, uint
         free(none.all);
         size_t count = counts[all] = info.event_count;
         kept[all] = ask(one, &request, count, &again, TRIRAST_STATUS_OK);
-        expect(!memcmp(&info, &again, sizeof info) && chain_holds((trirast_event *)kept[all].bytes, &info), "%s: %u, %u, %u",
-               one->name, x, y, sample);
+        expect(!memcmp(&info, &again, sizeof info) && chain_holds((trirast_event *)kept[all].bytes, &info),
+               "%s: %u, %u, %u", one->name, x, y, sample);
         const size_t sizes[] = {1, count / 2, count ? count - 1 : 0, count + 3};
         for (size_t k = 0; k < sizeof sizes / sizeof *sizes; k++) {
             marked events = ask(one, &request, sizes[k], &again, TRIRAST_STATUS_OK);
             size_t written = sizes[k] < count ? sizes[k] : count;
-            expect(!memcmp(&info, &again, sizeof info) && holds_just(&events, kept[all].bytes, written * sizeof(trirast_event)),
+            expect(!memcmp(&info, &again, sizeof info) &&
+                       holds_just(&events, kept[all].bytes, written * sizeof(trirast_event)),
                    "%s: %u, %u, %u: an array of %zu events for %zu", one->name, x, y, sample, sizes[k], count);
             free(events.all);
         }
@@ -93,7 +98,8 @@ static void compare_pixel(const list_case *one, uint32_t x, uint32_t y) {
     for (uint32_t s = 0; s < samples; s++) {
         trirast_sample_info info = compare_sample(one, x, y, s);
         samples = info.samples;
-        expect((samples == 1 || samples == 4) && info.output == (one->info.pixel_bytes == 2), "%s: %u samples", one->name, samples);
+        expect((samples == 1 || samples == 4) && info.output == (one->info.pixel_bytes == 2), "%s: %u samples",
+               one->name, samples);
         if (samples > 4) return;
         red[s] = info.end.red, green[s] = info.end.green, blue[s] = info.end.blue;
         if (!s) depth = info.end.depth;
@@ -101,8 +107,9 @@ static void compare_pixel(const list_case *one, uint32_t x, uint32_t y) {
     const uint8_t *pixel = (const uint8_t *)one->wanted.bytes + one->info.header_bytes +
                            ((size_t)y * one->info.width + x) * one->info.pixel_bytes;
     int is_color = one->info.pixel_bytes == 3;
-    int is_right = is_color ? pixel[0] == mean(red, samples) && pixel[1] == mean(green, samples) && pixel[2] == mean(blue, samples)
-                            : pixel[0] == depth / 256 && pixel[1] == depth % 256;
+    int is_right =
+        is_color ? pixel[0] == mean(red, samples) && pixel[1] == mean(green, samples) && pixel[2] == mean(blue, samples)
+                 : pixel[0] == depth / 256 && pixel[1] == depth % 256;
     expect(is_right, "%s: the picture has another pixel %u, %u", one->name, x, y);
     trirast_sample_info info;
     const struct {
@@ -146,8 +153,8 @@ static void compare_counts(const list_case *one, uint32_t samples) {
     for (size_t n = 0; n < triangles; n++) {
         trirast_sample_counts found = {77, 77, 77};
         trirast_error error = UNSET;
-        trirast_status status =
-            trirast_list_triangle_samples(one->list.bytes, one->list.length, places[n][0], places[n][1], &found, &error);
+        trirast_status status = trirast_list_triangle_samples(one->list.bytes, one->list.length, places[n][0],
+                                                              places[n][1], &found, &error);
         expect(is_error(&error, status, TRIRAST_STATUS_OK) && !memcmp(&found, &counts[n], sizeof found),
                "%s: triangle %zu: %u, %u, %u", one->name, n, found.covered, found.changed, found.shown);
     }
@@ -161,8 +168,10 @@ static void compare_refused_histories(void) {
         free(ask(&refused[k], &request, 2, &info, TRIRAST_STATUS_BAD_LIST).all);
         trirast_sample_counts counts = {77, 77, 77};
         trirast_error error = UNSET;
-        trirast_status status = trirast_list_triangle_samples(refused[k].list.bytes, refused[k].list.length, 0, 0, &counts, &error);
-        expect(is_error(&error, status, TRIRAST_STATUS_BAD_LIST) && counts.covered == 77 && counts.changed == 77 && counts.shown == 77,
+        trirast_status status =
+            trirast_list_triangle_samples(refused[k].list.bytes, refused[k].list.length, 0, 0, &counts, &error);
+        expect(is_error(&error, status, TRIRAST_STATUS_BAD_LIST) && counts.covered == 77 && counts.changed == 77 &&
+                   counts.shown == 77,
                "%s: status %u", refused[k].name, status);
     }
     report("a refused list has no history, and nothing is written");
@@ -182,7 +191,8 @@ static void compare_refused_histories(void) {
         trirast_error error = UNSET;
         trirast_status status =
             trirast_list_triangle_samples(drawn[k].list.bytes, drawn[k].list.length, 1024, SIZE_MAX, &counts, &error);
-        expect(is_error(&error, status, TRIRAST_STATUS_BAD_TRIANGLE) && counts.covered == 77, "%s: status %u", drawn[k].name, status);
+        expect(is_error(&error, status, TRIRAST_STATUS_BAD_TRIANGLE) && counts.covered == 77, "%s: status %u",
+               drawn[k].name, status);
     }
     report("structs of another size, and triangles that are not there, are refused, and nothing is written");
 }
@@ -200,8 +210,8 @@ void ask_for_history(const list_case *one) {
 void compare_histories(void) {
     for (int k = 0; k < drawn_count; k++) {
         uint32_t width = drawn[k].info.width, height = drawn[k].info.height;
-        const uint32_t places[PLACES][2] = {
-            {0, 0}, {width - 1, height - 1}, {width / 2, height / 2}, {width / 3, height * 2 / 3}, {width * 3 / 4, height / 4}};
+        const uint32_t places[PLACES][2] = {{0, 0}, {width - 1, height - 1}, {width / 2, height / 2},
+                                            {width / 3, height * 2 / 3}, {width * 3 / 4, height / 4}};
         for (int n = 0; n < PLACES; n++) compare_pixel(&drawn[k], places[n][0], places[n][1]);
     }
     report("histories of samples in arrays of each size end with the picture's pixels");
@@ -209,7 +219,8 @@ void compare_histories(void) {
         trirast_history_request request = request_of(0, 0, 0, 1);
         trirast_sample_info info;
         free(ask(&drawn[k], &request, 0, &info, TRIRAST_STATUS_OK).all);
-        if ((uint64_t)drawn[k].info.width * drawn[k].info.height * info.samples <= MAX_SAMPLES && info.event_count <= 64)
+        if ((uint64_t)drawn[k].info.width * drawn[k].info.height * info.samples <= MAX_SAMPLES &&
+            info.event_count <= 64)
             compare_counts(&drawn[k], info.samples);
     }
     report("the samples of triangles are those of the histories");

@@ -15,12 +15,16 @@ from tools.places import INCLUDE, LEVEL, LIB, SECOND_LEVEL, SHARED_LIBRARY, STAT
 
 SOURCES = os.path.join(TOP, "tools", "checks", "library")
 # The parts of the test but the way in which allocations fail.
-PARTS = ("main", "cases", "scenes", "canvases", "samples", "shading", "polygons", "refused_canvases", "large_batch", "histories", "stack")
-WAYS = (
-    "pictures", "rows", "buffers", "refused", "messages", "odd", "canvases", "large", "histories", "threads", "stack", "memory",
+PARTS = (
+    "main", "cases", "scenes", "canvases", "samples", "shading", "polygons", "refused_canvases", "large_batch",
+    "histories", "stack",
 )
-# Not by memcheck: the lists of 64 MiB and the large batch, which take minutes there, and the stack, of which valgrind keeps its own
-# account.
+WAYS = (
+    "pictures", "rows", "buffers", "refused", "messages", "odd", "canvases", "large", "histories", "threads", "stack",
+    "memory",
+)
+# Not by memcheck: the lists of 64 MiB and the large batch, which take minutes there, and the stack, of which valgrind
+# keeps its own account.
 MEMCHECKED = ("pictures", "rows", "buffers", "refused", "messages", "canvases", "histories", "threads", "memory")
 # By drd: the ways that start threads.
 WITH_THREADS = ("canvases", "threads")
@@ -30,7 +34,8 @@ OF_THE_LEVEL = {"avx", "avx2", "bmi1", "bmi2", "f16c", "fma", "abm", "movbe", "x
 
 # What the linker and the start files name, and what the C library serves.
 OF_THE_LINKER = {
-    "__cxa_finalize", "__gmon_start__", "_ITM_deregisterTMCloneTable", "_ITM_registerTMCloneTable", "_GLOBAL_OFFSET_TABLE_",
+    "__cxa_finalize", "__gmon_start__", "_ITM_deregisterTMCloneTable", "_ITM_registerTMCloneTable",
+    "_GLOBAL_OFFSET_TABLE_",
 }
 OF_THE_C_LIBRARY = {"malloc", "realloc", "free", "memcpy", "memmove", "memset", "memcmp", "bcmp"}
 
@@ -40,7 +45,10 @@ OF_THE_C_LIBRARY = {"malloc", "realloc", "free", "memcpy", "memmove", "memset", 
 
 def check_header(compiler: str, language: str, standard: str, header: str = "trirast.h") -> None:
     """A header compiles without a warning, also if it is included twice."""
-    command = [need(compiler), f"-std={standard}", *WARNINGS, "-Wconversion", "-fsyntax-only", "-I", INCLUDE, "-x", language, "-"]
+    command = [
+        need(compiler), f"-std={standard}", *WARNINGS, "-Wconversion", "-fsyntax-only", "-I", INCLUDE, "-x", language,
+        "-",
+    ]
     run(command, input=2 * f"#include <{header}>\n".encode())
 
 
@@ -52,7 +60,12 @@ def symbols(path: str, *flags: str, tool: str) -> set[str]:
 def declared() -> set[str]:
     """The calls that the header declares, also those that it defines for C."""
     header = places.text_of(INCLUDE, "trirast.h")
-    return set(re.findall(r"^(?:inline )?(?:trirast_status|trirast_proved_batch|uint32_t|size_t|const char) \*?(trirast_\w+)\(", header, re.MULTILINE))
+    return set(
+        re.findall(
+            r"^(?:inline )?(?:trirast_status|trirast_proved_batch|uint32_t|size_t|const char) \*?(trirast_\w+)\(",
+            header, re.MULTILINE,
+        )
+    )
 
 
 def check_exports(path: str, *flags: str, tool: str = "nm") -> str:
@@ -63,14 +76,16 @@ def check_exports(path: str, *flags: str, tool: str = "nm") -> str:
 
 
 def check_needs(path: str, *flags: str, tool: str = "nm") -> str:
-    """A library needs of the system only the heap and the functions that move memory. `tool` is as in `check_exports`."""
+    """A library needs of the system only the heap and the functions that move memory. `tool` is as in
+    `check_exports`."""
     found = symbols(path, *flags, "--undefined-only", tool=tool) - OF_THE_LINKER
     must(found <= OF_THE_C_LIBRARY, f"it needs {sorted(found - OF_THE_C_LIBRARY)}")
     return ", ".join(sorted(found))
 
 
 def check_stack(path: str) -> None:
-    """A shared library needs no stack from which code can be run: as of glibc 2.41 no other is loaded into a running program."""
+    """A shared library needs no stack from which code can be run: as of glibc 2.41 no other is loaded into
+    a running program."""
     headers = [line.split() for line in run([need("readelf"), "-lW", path]).decode().splitlines()]
     flags = [header[-2] for header in headers if header[:1] == ["GNU_STACK"]]
     must(flags == ["RW"], f"GNU_STACK has the flags {flags}")
@@ -79,7 +94,11 @@ def check_stack(path: str) -> None:
 def check_release() -> str:
     """The header has the repository's release."""
     release = places.text_of("VERSION").strip()
-    found = dict(re.findall(r"^#define TRIRAST_VERSION_(\w+) \"?([\d.]+)\"?$", places.text_of(INCLUDE, "trirast.h"), re.MULTILINE))
+    found = dict(
+        re.findall(
+            r"^#define TRIRAST_VERSION_(\w+) \"?([\d.]+)\"?$", places.text_of(INCLUDE, "trirast.h"), re.MULTILINE
+        )
+    )
     numbers = ".".join(found[part] for part in ("MAJOR", "MINOR", "PATCH"))
     must((numbers, found["STRING"]) == (release, release), f"VERSION has {release}, and the header {found}")
     return release
@@ -94,7 +113,9 @@ def library_cases() -> Iterator[Case]:
         yield case(f"header as {standard}", check_header, "g++", "c++", standard)
     for compiler in ("g++", "clang++"):
         for standard in ("c++17", "c++20"):
-            yield case(f"trirast.hpp as {standard} by {compiler}", check_header, compiler, "c++", standard, "trirast.hpp")
+            yield case(
+                f"trirast.hpp as {standard} by {compiler}", check_header, compiler, "c++", standard, "trirast.hpp"
+            )
     for path, flags in ((SHARED_LIBRARY, ("-D",)), (STATIC_LIBRARY, ()), (SECOND_LEVEL, ("-D",))):
         name = os.path.relpath(path, LIB)
         yield case(f"{name} shows the calls of the header alone", check_exports, path, *flags)
@@ -124,7 +145,10 @@ def check_in_c(program: Sequence[str], way: str, manifest: str) -> str:
     done = subprocess.run([*program, way, f"lists/{manifest}"], cwd=OUT, capture_output=True, timeout=MAX_SECONDS)
     lines = done.stdout.decode().splitlines()
     failed = [line for line in lines if line.startswith("failed ")]
-    must(not failed and done.returncode == 0, "\n".join([*failed, f"status {done.returncode} {done.stderr.decode()[-600:]}"]))
+    must(
+        not failed and done.returncode == 0,
+        "\n".join([*failed, f"status {done.returncode} {done.stderr.decode()[-600:]}"]),
+    )
     passed = sum(line.startswith("ok ") for line in lines)
     must(passed > 0, "it checked nothing")
     return f"{passed} checks"
@@ -144,7 +168,10 @@ def cpp_cases() -> Iterator[Case]:
     yield case("memcheck finds nothing in trirast.hpp", check_watched, "memcheck", "canvases", program, needs=built)
     yield case("trirast.hpp by random calls under sanitizers", sanitized.check_fuzz)
     for compiler, language in sanitized.INLINE:
-        yield case(f"what the header defines itself, by {compiler} under sanitizers", sanitized.check_inline, compiler, language)
+        yield case(
+            f"what the header defines itself, by {compiler} under sanitizers", sanitized.check_inline, compiler,
+            language,
+        )
 
 
 def check_second_level(program: Sequence[str], way: str) -> str:
@@ -166,7 +193,9 @@ def c_cases() -> Iterator[Case]:
     yield case(built, build_tests)
     static, shared = ([os.path.join(OUT, name)] for name in ("test_static", "test_shared"))
     for way in WAYS:
-        yield case(f"test_static: {way}", check_in_c, static, way, "few.txt" if way == "memory" else "all.txt", needs=built)
+        yield case(
+            f"test_static: {way}", check_in_c, static, way, "few.txt" if way == "memory" else "all.txt", needs=built
+        )
     for way in ("pictures", "canvases", "threads"):
         yield case(f"test_shared: {way}", check_in_c, shared, way, "all.txt", needs=built)
     for way in ("pictures", "canvases", "threads"):

@@ -14,9 +14,13 @@ from tools.places import EXAMPLES, LEVEL
 HISTORY = b"triangle 0: result 0, reasons 4, edge bc 0\nred 0, depth 65535\n"
 INSTALLED = (
     "bin/trirast", "bin/trirast_why", "include/trirast.h", "include/trirast.hpp",
-    *(f"include/trirast/{part}.hpp" for part in ("canvas", "edges", "error", "list", "polygons", "span", "state", "tile_rows", "values")),
-    "include/trirast_clip.h", "include/trirast_clip.hpp", "include/trirast_lanes.hpp", "include/trirast_shade.h", "include/trirast_shade.hpp",
-    "lib/cmake/trirast/trirast-config-version.cmake", "lib/cmake/trirast/trirast-config.cmake", f"lib/glibc-hwcaps/{LEVEL}/libtrirast.so.2", "lib/libtrirast.a",
+    *(
+        f"include/trirast/{part}.hpp"
+        for part in ("canvas", "edges", "error", "list", "polygons", "span", "state", "tile_rows", "values")
+    ),
+    "include/trirast_clip.h", "include/trirast_clip.hpp", "include/trirast_lanes.hpp", "include/trirast_shade.h",
+    "include/trirast_shade.hpp", "lib/cmake/trirast/trirast-config-version.cmake",
+    "lib/cmake/trirast/trirast-config.cmake", f"lib/glibc-hwcaps/{LEVEL}/libtrirast.so.2", "lib/libtrirast.a",
     "lib/libtrirast.so", "lib/libtrirast.so.2",
     "lib/pkgconfig/trirast.pc", f"lib/trirast/glibc-hwcaps/{LEVEL}/program.so", "lib/trirast/program.so",
     "share/man/man1/trirast.1", "share/man/man1/trirast_why.1",
@@ -42,7 +46,8 @@ def build_outside(text: str, prefix: str, *flags: str) -> bytes:
 
 
 def check_install() -> None:
-    """The programs of docs/library.md draw the program's picture over an installation, and make uninstall removes all of it."""
+    """The programs of docs/library.md draw the program's picture over an installation, and make uninstall
+    removes all of it."""
     prefix = os.path.join(OUT, "prefix")
     make("install", f"PREFIX={prefix}")
     must(files_below(prefix) == INSTALLED, f"{files_below(prefix)} were installed")

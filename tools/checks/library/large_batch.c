@@ -1,12 +1,20 @@
-// Draws a batch of 1,000,000 triangles over 3,000,000 vertices on canvases: whole, by pieces on four threads, and cut into 100 batches. Each
-// has the same colours, the same depths of each sample, and by ids the same ids of each sample.
+// Draws a batch of 1,000,000 triangles over 3,000,000 vertices on canvases: whole, by pieces on four threads, and cut
+// into 100 batches. Each has the same colours, the same depths of each sample, and by ids the same ids of each sample.
 #include <pthread.h>
 #include <stdlib.h>
 #include <string.h>
 
 #include "canvases.h"
 
-enum { SIDE = 512, SAMPLES = 4, TRIANGLES = 1000000, VERTICES = 3 * TRIANGLES, CUTS = 100, THREADS = 4, FIRST_ID = 1000 };
+enum {
+    SIDE = 512,
+        SAMPLES = 4,
+        TRIANGLES = 1000000,
+        VERTICES = 3 * TRIANGLES,
+        CUTS = 100,
+        THREADS = 4,
+        FIRST_ID = 1000
+    };
 
 // Ways to draw the batch.
 enum { WHOLE, PIECES, CUT, WAYS };
@@ -26,14 +34,16 @@ static uint32_t next(uint64_t *state) {
     return (uint32_t)(*state >> 33);
 }
 
-// Small triangles anywhere on the canvas and a little beside it. No index is its place, so that an offset that is left out is seen.
+// Small triangles anywhere on the canvas and a little beside it. No index is its place, so that an offset that
+// is left out is seen.
 static void make_large(large *all) {
     uint64_t state = 1;
     memset(all, 0, sizeof *all);
     all->vertices = malloc(VERTICES * sizeof *all->vertices), all->indices = malloc(VERTICES * sizeof *all->indices);
     if (!all->vertices || !all->indices) stop("out of memory", "a large batch");
     for (uint32_t k = 0; k < VERTICES; k += 3) {
-        int32_t x = (int32_t)(next(&state) % (256 * (SIDE + 40))) - 5120, y = (int32_t)(next(&state) % (256 * (SIDE + 40))) - 5120;
+        int32_t x = (int32_t)(next(&state) % (256 * (SIDE + 40))) - 5120,
+                y = (int32_t)(next(&state) % (256 * (SIDE + 40))) - 5120;
         for (uint32_t corner = 0; corner < 3; corner++) {
             uint32_t color = next(&state), place = next(&state);
             all->vertices[k + corner] = (trirast_vertex){
@@ -52,7 +62,8 @@ static void make_large(large *all) {
 }
 
 static trirast_status draw_on(const large *all, trirast_canvas *canvas, const trirast_batch *batch, uint32_t first_id) {
-    return all->by_ids ? trirast_canvas_draw_ids(canvas, batch, first_id, NULL) : trirast_canvas_draw(canvas, batch, NULL);
+    return all->by_ids ? trirast_canvas_draw_ids(canvas, batch, first_id, NULL)
+                       : trirast_canvas_draw(canvas, batch, NULL);
 }
 
 // ---- The ways -------------------------------------------------------------------------------------------------------
@@ -76,7 +87,8 @@ static trirast_status draw_pieces(large *all) {
     for (uint32_t k = 0; k < THREADS; k++) {
         uint32_t rows = all->made.whole.end;
         shares[k].all = all;
-        if (trirast_canvas_split(&all->made.whole, rows * k / THREADS, rows * (k + 1) / THREADS, &shares[k].rows)) stop("no piece", "tile rows");
+        if (trirast_canvas_split(&all->made.whole, rows * k / THREADS, rows * (k + 1) / THREADS, &shares[k].rows))
+            stop("no piece", "tile rows");
         if (pthread_create(&threads[k], NULL, draw_share, &shares[k])) stop("cannot be started", "a thread");
     }
     for (int k = 0; k < THREADS; k++) pthread_join(threads[k], NULL);
@@ -101,7 +113,10 @@ static trirast_status draw_cut(large *all) {
 static void draw_way(large *all, int way) {
     const trirast_clear clear = {10, 200, 60, 0, 100, 0};
     trirast_status status = trirast_canvas_clear(&all->made.whole, &clear);
-    if (!status) status = way == WHOLE ? draw_on(all, &all->made.whole, &all->batch, FIRST_ID) : way == PIECES ? draw_pieces(all) : draw_cut(all);
+    if (!status)
+        status = way == WHOLE    ? draw_on(all, &all->made.whole, &all->batch, FIRST_ID)
+                 : way == PIECES ? draw_pieces(all)
+                                 : draw_cut(all);
     expect(!status, "way %d: status %u", way, status);
 }
 
@@ -138,9 +153,11 @@ void compare_large_batches(void) {
         for (int way = WHOLE; way < WAYS; way++) {
             draw_way(&all, way);
             read_all(&all.made.whole, way == WHOLE ? wanted : found);
-            if (way == WHOLE) expect(changed(wanted) > SAMPLES * PIXEL_COUNT / 2, "%zu samples changed", changed(wanted));
+            if (way == WHOLE)
+                expect(changed(wanted) > SAMPLES * PIXEL_COUNT / 2, "%zu samples changed", changed(wanted));
             else expect(!memcmp(wanted, found, READ_SIZE), "way %d, by ids %d: other samples", way, all.by_ids);
         }
     free(wanted), free(found), free(all.vertices), free(all.indices), free(all.made.memory.all);
-    report("a batch of 1,000,000 triangles makes the same samples whole, by pieces on four threads, and cut into 100 batches");
+    report("a batch of 1,000,000 triangles makes the same samples whole, by pieces on four threads, and cut into 100 "
+           "batches");
 }

@@ -74,9 +74,11 @@ def indices_of(draw: Draw) -> list[int]:
 
 
 def integers_of(draw: Draw, size: Sequence[int]) -> list[int]:
-    """The numbers of a draw: the members of trirast_draw in their order, but whether it is blended over what is stored before those that
-    it keeps, and the scissor, which is always looked at, without a word for that."""
-    kept = sum(1 << channel for channel, is_written in enumerate(draw.get("write", (True, True, True))) if not is_written)
+    """The numbers of a draw: the members of trirast_draw in their order, but whether it is blended over what is stored
+    before those that it keeps, and the scissor, which is always looked at, without a word for that."""
+    kept = sum(
+        1 << channel for channel, is_written in enumerate(draw.get("write", (True, True, True))) if not is_written
+    )
     return [
         len(draw["vertices"]), len(indices_of(draw)), topology_of(draw),
         CULLS.index(draw.get("cull", "none")), DEPTH_TESTS.index(draw.get("depth_test", "always")),
@@ -86,7 +88,8 @@ def integers_of(draw: Draw, size: Sequence[int]) -> list[int]:
 
 
 def arrays_of(scene: DrawList) -> bytes:
-    """An accepted list as arrays: how many draws, vertices and indices, the head, and then these, as 32-bit integers."""
+    """An accepted list as arrays: how many draws, vertices and indices, the head, and then these, as
+    32-bit integers."""
     size = (scene["width"], scene["height"])
     head = [*size, scene.get("samples", 1), int(scene.get("output") == "depth")]
     head += [*scene.get("clear", (0, 0, 0)), scene.get("clear_depth", 65535)]
@@ -120,7 +123,8 @@ def keep_list(name: str, text: bytes) -> str:
 
 
 def write_lists(seed: int) -> None:
-    """Writes the lists, and two manifests: all.txt of the examples and all lists that are not large, and few.txt of a few."""
+    """Writes the lists, and two manifests: all.txt of the examples and all lists that are not large, and
+    few.txt of a few."""
     os.makedirs(FOLDER)
     texts = some_texts(random.Random(seed))
     lines = [keep_list(f"list-{number}", text) for number, text in enumerate(texts)]
@@ -135,7 +139,9 @@ def write_many(seed: int, count: int) -> None:
     """Writes further generated lists, and the manifest many.txt of these, of the examples and of the few lists."""
     pick = random.Random(f"many {seed}")
     lines = [keep_list(f"many-{number}", json.dumps(generated_lists.a_list(pick)).encode()) for number in range(count)]
-    examples = [line for line in places.text_of(FOLDER, "all.txt").splitlines(keepends=True) if "lists/example-" in line]
+    examples = [
+        line for line in places.text_of(FOLDER, "all.txt").splitlines(keepends=True) if "lists/example-" in line
+    ]
     keep("many.txt", (places.text_of(FOLDER, "few.txt") + "".join(examples + lines)).encode())
 
 

@@ -3,8 +3,9 @@
 //
 //     library_test pictures|rows|buffers|refused|messages|odd|canvases|large|histories|threads|stack|memory MANIFEST
 //
-// A line of the manifest is `drawn LIST FILE`, where FILE is what the program writes for LIST, or `refused LIST LINE`,
-// where LINE is what it writes to the standard error. `memory` is there with -DWRAPPED, for the static library alone: see memory.c.
+// A line of the manifest is `drawn LIST FILE`, where FILE is what the program writes for LIST, or
+// `refused LIST LINE`, where LINE is what it writes to the standard error. `memory` is there with -DWRAPPED, for the
+// static library alone: see memory.c.
 #define _GNU_SOURCE
 #include <pthread.h>
 #include <stdio.h>
@@ -26,8 +27,8 @@ static void draw_case(const list_case *one, uint32_t tile_size, size_t size, tri
     trirast_status status = trirast_list_draw(one->list.bytes, one->list.length, tile_size, buffer.bytes, size, &error);
     size_t length = due ? 0 : one->wanted.length;
     expect(is_error(&error, status, due) && holds_just(&buffer, one->wanted.bytes, length),
-           "%s, tile size %u, buffer size %zu: status %u where %u was due, or other bytes", one->name, tile_size, size, status,
-           due);
+           "%s, tile size %u, buffer size %zu: status %u where %u was due, or other bytes", one->name, tile_size, size,
+           status, due);
     free(buffer.all);
 }
 
@@ -41,12 +42,12 @@ static void draw_rows_case(const list_case *one, uint32_t tile_size, uint32_t fi
     }
     marked buffer = mark(length - less);
     trirast_error error = UNSET;
-    trirast_status status =
-        trirast_list_draw_rows(one->list.bytes, one->list.length, tile_size, first, end, buffer.bytes, buffer.size, &error);
+    trirast_status status = trirast_list_draw_rows(one->list.bytes, one->list.length, tile_size, first, end,
+                                                   buffer.bytes, buffer.size, &error);
     const char *wanted = one->wanted.bytes + one->info.header_bytes + begin;
     expect(is_error(&error, status, due) && holds_just(&buffer, wanted, due ? 0 : length),
-           "%s, tile size %u, rows %u to %u, buffer size %zu: status %u where %u was due, or other bytes", one->name, tile_size,
-           first, end, buffer.size, status, due);
+           "%s, tile size %u, rows %u to %u, buffer size %zu: status %u where %u was due, or other bytes", one->name,
+           tile_size, first, end, buffer.size, status, due);
     free(buffer.all);
 }
 
@@ -56,7 +57,8 @@ static void compare_pictures(void) {
     char release[64];
     snprintf(release, sizeof release, "%d.%d.%d", TRIRAST_VERSION_MAJOR, TRIRAST_VERSION_MINOR, TRIRAST_VERSION_PATCH);
     expect(trirast_interface() == TRIRAST_INTERFACE, "interface %u", trirast_interface());
-    expect(!strcmp(trirast_version_string(), TRIRAST_VERSION_STRING) && !strcmp(release, TRIRAST_VERSION_STRING), "release %s", trirast_version_string());
+    expect(!strcmp(trirast_version_string(), TRIRAST_VERSION_STRING) && !strcmp(release, TRIRAST_VERSION_STRING),
+           "release %s", trirast_version_string());
     report("release and interface are the header's");
     for (int k = 0; k < drawn_count; k++) {
         const trirast_image_info *info = &drawn[k].info;
@@ -129,7 +131,9 @@ static void compare_buffers(void) {
     status = trirast_list_draw_rows(drawn[0].list.bytes, drawn[0].list.length, 32, 0, 1, NULL, 0, &error);
     expect(is_error(&error, status, TRIRAST_STATUS_BUFFER_TOO_SMALL), "rows: status %u", status);
     expect(trirast_error_message(&error, NULL, 0) > 0, "no message");
-    expect(trirast_list_draw(drawn[0].list.bytes, drawn[0].list.length, 32, NULL, 0, NULL) == TRIRAST_STATUS_BUFFER_TOO_SMALL, "without an error");
+    expect(trirast_list_draw(drawn[0].list.bytes, drawn[0].list.length, 32, NULL, 0, NULL) ==
+               TRIRAST_STATUS_BUFFER_TOO_SMALL,
+           "without an error");
     report("no buffer, NULL and 0, is too small");
 }
 
@@ -159,12 +163,14 @@ static void compare_refused(void) {
             char wanted[512];
             trirast_status status = call_refused(call, &refused[k].list, &buffer, &error);
             message_of(&refused[k].wanted, wanted, sizeof wanted);
-            expect(is_error(&error, status, TRIRAST_STATUS_BAD_LIST) && error.element == TRIRAST_NONE && holds_just(&buffer, NULL, 0),
+            expect(is_error(&error, status, TRIRAST_STATUS_BAD_LIST) && error.element == TRIRAST_NONE &&
+                       holds_just(&buffer, NULL, 0),
                    "%s: status %u", refused[k].name, status);
             expect(trirast_error_message(&error, (char *)line.bytes, line.size) == strlen(wanted) &&
                        holds_just(&line, wanted, strlen(wanted) + 1),
                    "%s: %.*s", refused[k].name, 100, (const char *)line.bytes);
-            expect(call_refused(call, &refused[k].list, &buffer, NULL) == TRIRAST_STATUS_BAD_LIST && holds_just(&buffer, NULL, 0),
+            expect(call_refused(call, &refused[k].list, &buffer, NULL) == TRIRAST_STATUS_BAD_LIST &&
+                       holds_just(&buffer, NULL, 0),
                    "%s: without an error", refused[k].name);
             free(buffer.all), free(line.all);
         }
@@ -172,16 +178,19 @@ static void compare_refused(void) {
 }
 
 static void compare_messages(void) {
-    const trirast_error long_one = {TRIRAST_STATUS_BAD_BATCH, TRIRAST_BATCH_BAD_INDEX, SIZE_MAX - 1, SIZE_MAX - 1, UINT32_MAX};
+    const trirast_error long_one = {TRIRAST_STATUS_BAD_BATCH, TRIRAST_BATCH_BAD_INDEX, SIZE_MAX - 1, SIZE_MAX - 1,
+                                    UINT32_MAX};
     char whole[256];
     size_t length = trirast_error_message(&long_one, whole, sizeof whole);
-    expect(length == strlen(whole) && length < TRIRAST_ERROR_MESSAGE_SIZE && strstr(whole, "18446744073709551614"), "%s", whole);
+    expect(length == strlen(whole) && length < TRIRAST_ERROR_MESSAGE_SIZE && strstr(whole, "18446744073709551614"),
+           "%s", whole);
     for (size_t size = 0; size < sizeof whole; size++) {
         marked line = mark(size);
         char cut[256];
         size_t fits = size ? (size <= length ? size - 1 : length) : 0;
         memcpy(cut, whole, fits), cut[fits] = '\0';
-        expect(trirast_error_message(&long_one, (char *)line.bytes, size) == length && holds_just(&line, cut, size ? fits + 1 : 0),
+        expect(trirast_error_message(&long_one, (char *)line.bytes, size) == length &&
+                   holds_just(&line, cut, size ? fits + 1 : 0),
                "a buffer of %zu bytes", size);
         free(line.all);
     }
@@ -191,7 +200,8 @@ static void compare_messages(void) {
         const char *name = trirast_status_string((trirast_status)number);
         int is_placed = number == TRIRAST_STATUS_BAD_LIST || number == TRIRAST_STATUS_BAD_BATCH;
         length = trirast_error_message(&error, whole, sizeof whole);
-        expect(length == strlen(whole) && length < TRIRAST_ERROR_MESSAGE_SIZE && (is_placed || !strcmp(whole, name)), "status %u: %s", number, whole);
+        expect(length == strlen(whole) && length < TRIRAST_ERROR_MESSAGE_SIZE && (is_placed || !strcmp(whole, name)),
+               "status %u: %s", number, whole);
         int is_known = number <= TRIRAST_STATUS_BAD_INDEX_SIZE;
         for (uint32_t other = 0; other < number && is_known; other++)
             expect(strcmp(name, trirast_status_string((trirast_status)other)), "%u and %u: %s", other, number, name);
@@ -200,7 +210,8 @@ static void compare_messages(void) {
     report("each status has a string of its own, which is its message");
     for (uint32_t cause = 1; cause <= TRIRAST_BATCH_BAD_FILL_RULE; cause++)
         for (uint32_t other = 1; other < cause; other++) {
-            const trirast_error one = {TRIRAST_STATUS_BAD_BATCH, cause, 7, 9, TRIRAST_NONE}, two = {TRIRAST_STATUS_BAD_BATCH, other, 7, 9, TRIRAST_NONE};
+            const trirast_error one = {TRIRAST_STATUS_BAD_BATCH, cause, 7, 9, TRIRAST_NONE},
+                                two = {TRIRAST_STATUS_BAD_BATCH, other, 7, 9, TRIRAST_NONE};
             char words[256];
             trirast_error_message(&one, whole, sizeof whole), trirast_error_message(&two, words, sizeof words);
             expect(strcmp(whole, words) && !strncmp(whole, "draw 7: ", 8), "causes %u and %u: %s", cause, other, whole);
@@ -228,8 +239,8 @@ static void compare_odd_lists(void) {
             marked buffer = mark(4096);
             trirast_error error = UNSET;
             trirast_status status = call_refused(call, &lists[k].list, &buffer, &error);
-            expect(is_error(&error, status, lists[k].due) && error.cause == lists[k].cause && error.draw == TRIRAST_NONE &&
-                       holds_just(&buffer, NULL, 0),
+            expect(is_error(&error, status, lists[k].due) && error.cause == lists[k].cause &&
+                       error.draw == TRIRAST_NONE && holds_just(&buffer, NULL, 0),
                    "status %u, cause %u", status, error.cause);
             free(buffer.all);
         }
@@ -265,15 +276,16 @@ static void *draw_share(void *argument) {
     size_t begin = offset_of(own->one, 8, first), stop_at = offset_of(own->one, 8, end);
     own->error.status = TRIRAST_STATUS_OK;
     if (first < end)
-        trirast_list_draw_rows(own->one->list.bytes, own->one->list.length, 8, first, end, own->pixels + begin, stop_at - begin,
-                          &own->error);
+        trirast_list_draw_rows(own->one->list.bytes, own->one->list.length, 8, first, end, own->pixels + begin,
+                               stop_at - begin, &own->error);
     return NULL;
 }
 
 static void run_threads(void *(*body)(void *), void *arguments, size_t size) {
     pthread_t threads[THREADS];
     for (size_t k = 0; k < THREADS; k++)
-        if (pthread_create(&threads[k], NULL, body, (char *)arguments + k * size)) stop("cannot be started", "a thread");
+        if (pthread_create(&threads[k], NULL, body, (char *)arguments + k * size))
+            stop("cannot be started", "a thread");
     for (size_t k = 0; k < THREADS; k++) pthread_join(threads[k], NULL);
 }
 
@@ -287,7 +299,8 @@ static void compare_threads(void) {
         share shares[THREADS];
         for (int n = 0; n < THREADS; n++) shares[n] = (share){&drawn[k], n, pixels.bytes, UNSET};
         run_threads(draw_share, shares, sizeof *shares);
-        for (int n = 0; n < THREADS; n++) expect(shares[n].error.status == TRIRAST_STATUS_OK, "%s: error", drawn[k].name);
+        for (int n = 0; n < THREADS; n++)
+            expect(shares[n].error.status == TRIRAST_STATUS_OK, "%s: error", drawn[k].name);
         expect(holds_just(&pixels, drawn[k].wanted.bytes + drawn[k].info.header_bytes, length), "%s", drawn[k].name);
         free(pixels.all);
     }
@@ -299,10 +312,10 @@ int main(int count, char **arguments) {
         const char *name;
         void (*compare)(void);
     } ways[] = {
-        {"pictures", compare_pictures}, {"rows", compare_rows},       {"buffers", compare_buffers},
-        {"refused", compare_refused},   {"odd", compare_odd_lists},   {"messages", compare_messages},   {"threads", compare_threads},
-        {"stack", compare_stack},       {"canvases", compare_canvases}, {"large", compare_large_batches},
-        {"histories", compare_histories},
+        {"pictures", compare_pictures},   {"rows", compare_rows},           {"buffers", compare_buffers},
+        {"refused", compare_refused},     {"odd", compare_odd_lists},       {"messages", compare_messages},
+        {"threads", compare_threads},     {"stack", compare_stack},         {"canvases", compare_canvases},
+        {"large", compare_large_batches}, {"histories", compare_histories},
 #ifdef WRAPPED
         {"memory", compare_memory},
 #endif

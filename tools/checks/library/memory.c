@@ -1,5 +1,5 @@
-// Lets the library's allocations fail: each in turn, and each with all after it. It is linked with -Wl,--wrap for malloc,
-// realloc and free, so that the calls of the library come here.
+// Lets the library's allocations fail: each in turn, and each with all after it. It is linked with -Wl,--wrap for
+// malloc, realloc and free, so that the calls of the library come here.
 #include <stdlib.h>
 #include <string.h>
 
@@ -51,10 +51,12 @@ static trirast_status ask(int call, const list_case *one, trirast_error *error) 
     trirast_sample_counts counts = {77, 77, 77};
     memset(events, MARK, sizeof events), memset(unset, MARK, sizeof unset);
     memset(&info, MARK, sizeof info), memset(&no_info, MARK, sizeof no_info);
-    trirast_status status = call == 3 ? trirast_list_history(one->list.bytes, one->list.length, &request, events, 2, &info, error)
-                                      : trirast_list_triangle_samples(one->list.bytes, one->list.length, 0, 0, &counts, error);
+    trirast_status status =
+        call == 3 ? trirast_list_history(one->list.bytes, one->list.length, &request, events, 2, &info, error)
+                  : trirast_list_triangle_samples(one->list.bytes, one->list.length, 0, 0, &counts, error);
     if (status) {
-        expect(!memcmp(events, unset, sizeof events) && !memcmp(&info, &no_info, sizeof info), "%s: a history", one->name);
+        expect(!memcmp(events, unset, sizeof events) && !memcmp(&info, &no_info, sizeof info), "%s: a history",
+               one->name);
         expect(counts.covered == 77 && counts.changed == 77 && counts.shown == 77, "%s: counts", one->name);
     }
     // A list may have no triangle.
@@ -62,9 +64,10 @@ static trirast_status ask(int call, const list_case *one, trirast_error *error) 
     return status;
 }
 
-// One call in which this allocation fails, and its status: 0 image info, 1 the file, 2 its first tile row, 3 the history of a
-// sample, 4 the samples of a triangle.
-static trirast_status call_short_of_memory(int call, const list_case *one, marked *buffer, long number, int with_later) {
+// One call in which this allocation fails, and its status: 0 image info, 1 the file, 2 its first tile row, 3 the
+// history of a sample, 4 the samples of a triangle.
+static trirast_status call_short_of_memory(int call, const list_case *one, marked *buffer, long number,
+                                           int with_later) {
     trirast_error error = UNSET;
     trirast_image_info info;
     trirast_status status;
@@ -76,7 +79,8 @@ static trirast_status call_short_of_memory(int call, const list_case *one, marke
     else if (call == 1)
         status = trirast_list_draw(one->list.bytes, one->list.length, 16, buffer->bytes, buffer->size, &error);
     else
-        status = trirast_list_draw_rows(one->list.bytes, one->list.length, 16, 0, 1, buffer->bytes, buffer->size, &error);
+        status =
+            trirast_list_draw_rows(one->list.bytes, one->list.length, 16, 0, 1, buffer->bytes, buffer->size, &error);
     heap.is_on = 0;
     expect(error.status == (uint32_t)status, "%s: another status in the error", one->name);
     expect(heap.live == 0, "%s, call %d, allocation %ld: %ld blocks were kept", one->name, call, number, heap.live);
@@ -92,7 +96,8 @@ static long fail_each(int call, const list_case *one, trirast_status due, int wi
         const char *wanted = one->wanted.bytes;
         size_t length = call && call < 3 && !status ? one->wanted.length : 0;
         if (call == 2) wanted += one->info.header_bytes, length = status ? 0 : offset_of(one, 16, 1);
-        expect(holds_just(&buffer, wanted, length), "%s, call %d, allocation %ld: other bytes", one->name, call, number);
+        expect(holds_just(&buffer, wanted, length), "%s, call %d, allocation %ld: other bytes", one->name, call,
+               number);
         expect(status == due || (status == TRIRAST_STATUS_OUT_OF_MEMORY && heap.failures),
                "%s, call %d, allocation %ld: status %u", one->name, call, number, status);
         free(buffer.all);

@@ -1,5 +1,5 @@
-// Polygons in C: what they make of samples, beside triangles, and what the calls refuse: each by its status, with samples and scratch
-// memory unchanged.
+// Polygons in C: what they make of samples, beside triangles, and what the calls refuse: each by its status, with
+// samples and scratch memory unchanged.
 #include <stdlib.h>
 #include <string.h>
 
@@ -8,8 +8,9 @@
 enum { CORNERS = 11, RINGS = 3, POLYGONS = 2, REFUSED = 32, BY_COLOURS = 1, BY_IDS = 3, NO_ROOM = 8 };
 
 // A triangle, and a ring with a hole that runs the other way round.
-static const trirast_corner PLACES[CORNERS] = {
-    {0, 0}, {17920, 0}, {0, 33280}, {2560, 2560}, {7680, 2560}, {7680, 7680}, {2560, 7680}, {3840, 3840}, {3840, 5120}, {5120, 5120}, {5120, 3840}};
+static const trirast_corner PLACES[CORNERS] = {{0, 0},       {17920, 0},   {0, 33280},   {2560, 2560},
+                                               {7680, 2560}, {7680, 7680}, {2560, 7680}, {3840, 3840},
+                                               {3840, 5120}, {5120, 5120}, {5120, 3840}};
 static const uint8_t COLORS[POLYGONS][4] = {{9, 8, 7, 255}, {40, 50, 60, 128}};
 static const uint16_t DEPTHS[POLYGONS] = {7, 6};
 
@@ -28,10 +29,11 @@ static void make_set(set *all) {
     make_quad(&all->made);
     memcpy(all->corners, PLACES, sizeof PLACES);
     memcpy(all->ring_ends, rings, sizeof rings), memcpy(all->polygon_ends, polygons, sizeof polygons);
-    all->polygons = (trirast_polygons){
-        .corners = all->corners, .corner_count = CORNERS, .ring_ends = all->ring_ends, .ring_count = RINGS, .polygon_ends = all->polygon_ends,
-        .polygon_count = POLYGONS, .colors = COLORS, .color_count = POLYGONS, .depths = DEPTHS, .depth_count = POLYGONS,
-        .state = {.depth_test = TRIRAST_DEPTH_LESS, .depth_write = 1}};
+    all->polygons = (trirast_polygons){.corners = all->corners, .corner_count = CORNERS, .ring_ends = all->ring_ends,
+                                       .ring_count = RINGS, .polygon_ends = all->polygon_ends,
+                                       .polygon_count = POLYGONS, .colors = COLORS, .color_count = POLYGONS,
+                                       .depths = DEPTHS, .depth_count = POLYGONS,
+                                       .state = {.depth_test = TRIRAST_DEPTH_LESS, .depth_write = 1}};
     all->scratch = mark(trirast_polygons_scratch(&all->made.made.whole, TRIRAST_FILL_NONZERO));
 }
 
@@ -39,7 +41,8 @@ static void free_set(set *all) { free(all->made.made.memory.all), free(all->scra
 
 static trirast_status draw_set(set *all, int by_ids, uint32_t first_id, trirast_error *error) {
     trirast_canvas *canvas = &all->made.made.whole;
-    return by_ids ? trirast_canvas_draw_polygon_ids(canvas, &all->polygons, first_id, all->scratch.bytes, all->scratch.size, error)
+    return by_ids ? trirast_canvas_draw_polygon_ids(canvas, &all->polygons, first_id, all->scratch.bytes,
+                                                    all->scratch.size, error)
                   : trirast_canvas_draw_polygons(canvas, &all->polygons, all->scratch.bytes, all->scratch.size, error);
 }
 
@@ -58,16 +61,20 @@ static void compare_drawn(void) {
             make_set(&all);
             trirast_canvas *canvas = &all.made.made.whole;
             all.polygons.fill_rule = rule;
-            expect(!trirast_canvas_clear(canvas, NULL) && !draw_set(&all, by_ids, 70000, NULL), "rule %u: not drawn", rule);
+            expect(!trirast_canvas_clear(canvas, NULL) && !draw_set(&all, by_ids, 70000, NULL), "rule %u: not drawn",
+                   rule);
             const uint32_t first = by_ids ? 70000 : 0x070809, second = by_ids ? 70001 : 0x3C3228;
-            expect(id_at(canvas, 3, 0, 0) == first && id_at(canvas, 1, 16, 16) == first && id_at(canvas, 2, WIDTH - 1, HEIGHT - 1) == 0,
+            expect(id_at(canvas, 3, 0, 0) == first && id_at(canvas, 1, 16, 16) == first &&
+                       id_at(canvas, 2, WIDTH - 1, HEIGHT - 1) == 0,
                    "rule %u, ids %d: the triangle", rule, by_ids);
-            expect(id_at(canvas, 0, 12, 12) == second && id_at(canvas, 0, 29, 29) == second, "rule %u, ids %d: the ring", rule, by_ids);
+            expect(id_at(canvas, 0, 12, 12) == second && id_at(canvas, 0, 29, 29) == second,
+                   "rule %u, ids %d: the ring", rule, by_ids);
             for (size_t n = 0; n < trirast_polygons_scratch(canvas, (trirast_fill_rule)rule); n++)
                 expect(!all.scratch.bytes[n], "scratch memory is not zeros at %zu", n);
             free_set(&all);
         }
-    report("polygons are drawn by both rules, in colours and by ids, with NULL for the error, and scratch memory is zeros afterwards");
+    report("polygons are drawn by both rules, in colours and by ids, with NULL for the error, and scratch memory is "
+           "zeros afterwards");
 }
 
 // The first polygon alone is the triangle of its corners, sample by sample.
@@ -78,10 +85,12 @@ static void compare_with_triangle(void) {
     trirast_vertex vertices[3] = {0};
     const uint32_t indices[3] = {0, 1, 2};
     for (int k = 0; k < 3; k++)
-        vertices[k] = (trirast_vertex){.x = PLACES[k].x, .y = PLACES[k].y, .depth = 7, .red = 9, .green = 8, .blue = 7, .alpha = 255};
+        vertices[k] = (trirast_vertex){
+            .x = PLACES[k].x, .y = PLACES[k].y, .depth = 7, .red = 9, .green = 8, .blue = 7, .alpha = 255};
     trirast_draw draw = all.polygons.state;
     draw.vertex_count = draw.index_count = 3;
-    const trirast_batch batch = {.draws = &draw, .draw_count = 1, .vertices = vertices, .vertex_count = 3, .indices = indices, .index_count = 3};
+    const trirast_batch batch = {
+        .draws = &draw, .draw_count = 1, .vertices = vertices, .vertex_count = 3, .indices = indices, .index_count = 3};
     trirast_canvas *drawn = &all.made.made.whole, *wanted = &other.made.made.whole;
     expect(!trirast_canvas_clear(drawn, NULL) && !trirast_canvas_clear(wanted, NULL), "not cleared");
     expect(!draw_set(&all, 0, 0, NULL) && !trirast_canvas_draw(wanted, &batch, NULL), "not drawn");
@@ -90,9 +99,12 @@ static void compare_with_triangle(void) {
         static uint16_t depths[2][PIXELS];
         for (int k = 0; k < 2; k++) {
             const trirast_canvas *canvas = k ? wanted : drawn;
-            expect(!trirast_canvas_ids(canvas, s, ids[k], PIXELS, 0) && !trirast_canvas_depths(canvas, s, depths[k], PIXELS, 0), "sample %u", s);
+            expect(!trirast_canvas_ids(canvas, s, ids[k], PIXELS, 0) &&
+                       !trirast_canvas_depths(canvas, s, depths[k], PIXELS, 0),
+                   "sample %u", s);
         }
-        expect(!memcmp(ids[0], ids[1], sizeof ids[0]) && !memcmp(depths[0], depths[1], sizeof depths[0]), "other samples of index %u", s);
+        expect(!memcmp(ids[0], ids[1], sizeof ids[0]) && !memcmp(depths[0], depths[1], sizeof depths[0]),
+               "other samples of index %u", s);
     }
     free_set(&all), free_set(&other);
     report("a polygon of three corners is the triangle of these");
@@ -106,7 +118,9 @@ typedef struct {
     size_t element;
 } due;
 
-static due of_batch(trirast_batch_cause cause, size_t element) { return (due){TRIRAST_STATUS_BAD_BATCH, cause, element}; }
+static due of_batch(trirast_batch_cause cause, size_t element) {
+    return (due){TRIRAST_STATUS_BAD_BATCH, cause, element};
+}
 
 // One number of the state, or the rule, is outside of its range.
 static due break_numbers(set *all, int change) {
@@ -114,7 +128,9 @@ static due break_numbers(set *all, int change) {
     switch (change) {
     case 0: all->polygons.fill_rule = 2; return of_batch(TRIRAST_BATCH_BAD_FILL_RULE, TRIRAST_NONE);
     // The rule is looked at before the state.
-    case 1: all->polygons.fill_rule = UINT32_MAX, state->keep = 16; return of_batch(TRIRAST_BATCH_BAD_FILL_RULE, TRIRAST_NONE);
+    case 1:
+        all->polygons.fill_rule = UINT32_MAX, state->keep = 16;
+        return of_batch(TRIRAST_BATCH_BAD_FILL_RULE, TRIRAST_NONE);
     case 2: state->depth_test = 8; return of_batch(TRIRAST_BATCH_BAD_DEPTH_TEST, TRIRAST_NONE);
     case 3: state->depth_write = 2; return of_batch(TRIRAST_BATCH_BAD_DEPTH_WRITE, TRIRAST_NONE);
     case 4: state->keep = 16; return of_batch(TRIRAST_BATCH_BAD_KEEP, TRIRAST_NONE);
@@ -152,14 +168,20 @@ static due break_set(set *all, int change, uint32_t *first_id) {
     case 17: polygons->corner_count = (size_t)1 << 31; return of_batch(TRIRAST_BATCH_LEFT_OVER, TRIRAST_NONE);
     case 18: polygons->corner_count = (size_t)1 << 32; return of_batch(TRIRAST_BATCH_TOO_MANY_CORNERS, TRIRAST_NONE);
     case 19: polygons->corners = NULL, polygons->corner_count = 0; return of_batch(TRIRAST_BATCH_BAD_RING, 0);
-    case 20: polygons->ring_ends = NULL, polygons->ring_count = 0; return of_batch(TRIRAST_BATCH_LEFT_OVER, TRIRAST_NONE);
-    case 21: polygons->polygon_ends = NULL, polygons->polygon_count = 0; return of_batch(TRIRAST_BATCH_LEFT_OVER, TRIRAST_NONE);
+    case 20:
+        polygons->ring_ends = NULL, polygons->ring_count = 0;
+        return of_batch(TRIRAST_BATCH_LEFT_OVER, TRIRAST_NONE);
+    case 21:
+        polygons->polygon_ends = NULL, polygons->polygon_count = 0;
+        return of_batch(TRIRAST_BATCH_LEFT_OVER, TRIRAST_NONE);
     case 22: all->made.made.whole.samples = 3; return (due){TRIRAST_STATUS_BAD_CANVAS, 0, TRIRAST_NONE};
     default: return break_numbers(all, change - 23);
     }
 }
 
-static int is_unchanged(const set *all) { return holds_just(&all->made.made.memory, NULL, 0) && holds_just(&all->scratch, NULL, 0); }
+static int is_unchanged(const set *all) {
+    return holds_just(&all->made.made.memory, NULL, 0) && holds_just(&all->scratch, NULL, 0);
+}
 
 static void compare_refused_sets(void) {
     for (int change = 0; change < REFUSED; change++)
@@ -170,14 +192,17 @@ static void compare_refused_sets(void) {
             make_set(&all);
             const due wanted = break_set(&all, change, &first_id);
             trirast_status status = draw_set(&all, by_ids, first_id, &error);
-            expect(is_error(&error, status, wanted.status) && error.cause == wanted.cause && error.draw == TRIRAST_NONE &&
-                       error.element == wanted.element && is_unchanged(&all),
-                   "change %d, ids %d: status %u, cause %u at %zu, or a change", change, by_ids, status, error.cause, error.element);
+            expect(is_error(&error, status, wanted.status) && error.cause == wanted.cause &&
+                       error.draw == TRIRAST_NONE && error.element == wanted.element && is_unchanged(&all),
+                   "change %d, ids %d: status %u, cause %u at %zu, or a change", change, by_ids, status, error.cause,
+                   error.element);
             status = draw_set(&all, by_ids, first_id, NULL);
-            expect(status == wanted.status && is_unchanged(&all), "change %d: status %u without an error", change, status);
+            expect(status == wanted.status && is_unchanged(&all), "change %d: status %u without an error", change,
+                   status);
             free_set(&all);
         }
-    report("polygons with a number or an end out of range, of another release or with corners that are not there are refused, and nothing is drawn");
+    report("polygons with a number or an end out of range, of another release or with corners that are not there are "
+           "refused, and nothing is drawn");
 }
 
 // Scratch memory that is too small, at another address than a multiple of 8, or not there.
@@ -190,10 +215,14 @@ static void compare_scratch(void) {
         const size_t size = trirast_polygons_scratch(&all.made.made.whole, (trirast_fill_rule)all.polygons.fill_rule);
         uint8_t *const places[] = {all.scratch.bytes, all.scratch.bytes + 4, all.scratch.bytes, NULL};
         const size_t sizes[] = {size - 1, size, 0, 0};
-        trirast_status status = trirast_canvas_draw_polygons(&all.made.made.whole, &all.polygons, places[change / 2], sizes[change / 2], &error);
-        expect(is_error(&error, status, TRIRAST_STATUS_BUFFER_TOO_SMALL) && is_unchanged(&all), "change %d: status %u, or a change", change, status);
-        status = trirast_canvas_draw_polygon_ids(&all.made.made.whole, &all.polygons, 0, places[change / 2], sizes[change / 2], NULL);
-        expect(status == TRIRAST_STATUS_BUFFER_TOO_SMALL && is_unchanged(&all), "change %d: status %u by ids, or a change", change, status);
+        trirast_status status = trirast_canvas_draw_polygons(&all.made.made.whole, &all.polygons, places[change / 2],
+                                                             sizes[change / 2], &error);
+        expect(is_error(&error, status, TRIRAST_STATUS_BUFFER_TOO_SMALL) && is_unchanged(&all),
+               "change %d: status %u, or a change", change, status);
+        status = trirast_canvas_draw_polygon_ids(&all.made.made.whole, &all.polygons, 0, places[change / 2],
+                                                 sizes[change / 2], NULL);
+        expect(status == TRIRAST_STATUS_BUFFER_TOO_SMALL && is_unchanged(&all),
+               "change %d: status %u by ids, or a change", change, status);
         free_set(&all);
     }
     report("scratch memory that is too small, misaligned or not there is refused");
@@ -209,7 +238,8 @@ static void compare_messages(void) {
                  {TRIRAST_BATCH_TOO_FEW_COLORS, TRIRAST_NONE, "there are fewer colors than polygons"},
                  {TRIRAST_BATCH_BAD_FILL_RULE, TRIRAST_NONE, "no such fill rule"}};
     for (size_t k = 0; k < sizeof cases / sizeof cases[0]; k++) {
-        const trirast_error error = {TRIRAST_STATUS_BAD_BATCH, cases[k].cause, TRIRAST_NONE, cases[k].element, TRIRAST_NONE};
+        const trirast_error error = {TRIRAST_STATUS_BAD_BATCH, cases[k].cause, TRIRAST_NONE, cases[k].element,
+                                     TRIRAST_NONE};
         char message[TRIRAST_ERROR_MESSAGE_SIZE];
         trirast_error_message(&error, message, sizeof message);
         expect(!strcmp(message, cases[k].text), "%s", message);

@@ -1,4 +1,5 @@
-"""Writes scenes of triangles and polygons with what the Python package draws of them, for the tests of the crate in Rust.
+"""Writes scenes of triangles and polygons with what the Python package draws of them, for the tests of
+the crate in Rust.
 
     PYTHONPATH=python/src python3 -m tools.checks.library.python_scenes FILE
 
@@ -67,9 +68,12 @@ def a_scene(pick: random.Random, samples: int) -> Scene:
     ring_ends = [sum(rings[: k + 1]) for k in range(len(rings))]
     polygon_ends = sorted(pick.randint(0, len(rings)) for _ in range(pick.randint(0, 3))) + [len(rings)]
     factors, operations = list(blend.FACTORS.values()), list(blend.OPERATIONS.values())
-    equation = tuple(number for _ in "ca" for number in (pick.choice(factors), pick.choice(factors), pick.choice(operations)))
+    equation = tuple(
+        number for _ in "ca" for number in (pick.choice(factors), pick.choice(factors), pick.choice(operations))
+    )
     return Scene(
-        size, samples, origin, pick.choice((IN_COLOURS, 0, 5, 70000)), pick.randrange(2), equation, tuple(some(pick, 4)),
+        size, samples, origin, pick.choice((IN_COLOURS, 0, 5, 70000)), pick.randrange(2), equation,
+        tuple(some(pick, 4)),
         [[*place, pick.randrange(65536), *some(pick, 4)] for place in places(3 * pick.randint(0, 4))],
         places(sum(rings)), ring_ends, polygon_ends, [some(pick, 4) for _ in polygon_ends],
         some(pick, len(polygon_ends), 65536) if pick.random() < 0.5 else [],
@@ -83,7 +87,10 @@ def drawn(scene: Scene) -> Any:
 
     canvas = trirast.Canvas(*scene.size, samples=scene.samples, origin=scene.origin)
     canvas.clear((10, 200, 90), 40000)
-    names = [{number: name for name, number in known.items()} for known in 2 * (blend.FACTORS, blend.FACTORS, blend.OPERATIONS)]
+    names = [
+        {number: name for name, number in known.items()}
+        for known in 2 * (blend.FACTORS, blend.FACTORS, blend.OPERATIONS)
+    ]
     make_blend: Any = trirast.Blend
     equation = make_blend(*(name[number] for name, number in zip(names, scene.equation)), constant=scene.constant)
     first_id = None if scene.first_id == IN_COLOURS else scene.first_id

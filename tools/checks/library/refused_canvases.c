@@ -44,7 +44,8 @@ static trirast_status break_canvas(trirast_canvas *canvas, int change) {
 }
 
 // Each call on tile rows, by its number, with a buffer for what it reads or writes.
-static trirast_status call_on(int call, trirast_canvas *canvas, const quad *all, const marked *buffer, trirast_error *error) {
+static trirast_status call_on(int call, trirast_canvas *canvas, const quad *all, const marked *buffer,
+                              trirast_error *error) {
     static const trirast_clear clear = {1, 2, 3, 4, 9, 0};
     static const trirast_polygons no_polygons = {0};
     static uint64_t scratch[8 * 32 * 2];
@@ -103,7 +104,8 @@ static void compare_no_rows(void) {
             const marked none = {NULL, NULL, 0};
             trirast_status status = call_on(call, &canvas, &all, call ? &none : &buffer, &error);
             trirast_status due = call == 9 || call == 10 ? TRIRAST_STATUS_BAD_TILE : TRIRAST_STATUS_OK;
-            expect(status == due && is_unchanged(&all, &buffer), "row %u, call %d: status %u, or a change", row, call, status);
+            expect(status == due && is_unchanged(&all, &buffer), "row %u, call %d: status %u, or a change", row, call,
+                   status);
             free(buffer.all), free(all.made.memory.all);
         }
     report("each call takes no tile rows, with NULL for their samples and pixels, and does nothing; there is no tile");
@@ -128,7 +130,8 @@ static trirast_status break_piece(trirast_canvas *whole, int change, uint32_t *f
     }
     // Which size a struct has is a part of which canvas there is. Of two errors that of the tile rows comes first.
     if (due == TRIRAST_STATUS_BAD_STRUCT_SIZE) due = TRIRAST_STATUS_BAD_CANVAS;
-    if (due == TRIRAST_STATUS_BAD_MEMORY && (*first < whole->first || *end > whole->end)) due = TRIRAST_STATUS_BAD_TILE_ROWS;
+    if (due == TRIRAST_STATUS_BAD_MEMORY && (*first < whole->first || *end > whole->end))
+        due = TRIRAST_STATUS_BAD_TILE_ROWS;
     return due;
 }
 
@@ -143,10 +146,12 @@ static void compare_broken_pieces(void) {
         trirast_canvas whole = all.made.whole;
         trirast_status due = break_piece(&whole, change, &first, &end);
         trirast_status status = trirast_canvas_split(&whole, first, end, &piece);
-        expect(status == due && !memcmp(&piece, &kept, sizeof piece), "change %d: status %u where %u was due, or a change", change, status, due);
+        expect(status == due && !memcmp(&piece, &kept, sizeof piece),
+               "change %d: status %u where %u was due, or a change", change, status, due);
         free(all.made.memory.all);
     }
-    report("a piece that the tile rows do not have, of a broken canvas, or of memory at NULL or at an odd address, is refused");
+    report("a piece that the tile rows do not have, of a broken canvas, or of memory at NULL or at an odd address, is "
+           "refused");
 }
 
 static void compare_pieces_of_pieces(void) {
@@ -155,7 +160,8 @@ static void compare_pieces_of_pieces(void) {
     make_quad(&all);
     int is_made = !trirast_canvas_split(&all.made.whole, 1, 3, &piece) && !trirast_canvas_split(&piece, 2, 2, &same);
     expect(is_made && piece.plane_count == all.made.whole.plane_count / 3 * 2 && same.plane_count == 0, "other sizes");
-    expect(trirast_canvas_split(&piece, 0, 1, &same) == TRIRAST_STATUS_BAD_TILE_ROWS, "a piece has tile rows of the whole");
+    expect(trirast_canvas_split(&piece, 0, 1, &same) == TRIRAST_STATUS_BAD_TILE_ROWS,
+           "a piece has tile rows of the whole");
     marked buffer = mark(4 * PIXELS);
     trirast_error error;
     for (int call = 0; call < CALLS; call++)
@@ -164,7 +170,8 @@ static void compare_pieces_of_pieces(void) {
             trirast_canvas other = piece;
             if (is_smaller) other.plane_count /= 2;
             else other.first++;
-            expect(call_on(call, &other, &all, &buffer, &error) == TRIRAST_STATUS_BAD_MEMORY && is_unchanged(&all, &buffer),
+            expect(call_on(call, &other, &all, &buffer, &error) == TRIRAST_STATUS_BAD_MEMORY &&
+                       is_unchanged(&all, &buffer),
                    "call %d takes a piece with the memory of another", call);
         }
     free(buffer.all), free(all.made.memory.all);
@@ -222,10 +229,12 @@ static void compare_short_buffers(void) {
         make_quad(&all);
         marked buffer = mark(4 * PIXELS);
         trirast_status status = call_short(change, &all.made.whole, buffer.bytes, &due);
-        expect(status == due && is_unchanged(&all, &buffer), "change %d: status %u where %u was due, or a change", change, status, due);
+        expect(status == due && is_unchanged(&all, &buffer), "change %d: status %u where %u was due, or a change",
+               change, status, due);
         free(buffer.all), free(all.made.memory.all);
     }
-    report("a buffer or a stride that is too small, no buffer, a format and a sample that there is not, and a stride of parts of an entry are refused");
+    report("a buffer or a stride that is too small, no buffer, a format and a sample that there is not, and a stride "
+           "of parts of an entry are refused");
 }
 
 // ---- Batches --------------------------------------------------------------------------------------------------------
@@ -275,14 +284,20 @@ static place break_batch(quad *all, int change, uint32_t *first_id) {
     case 2: *first_id = UINT32_MAX; return (place){TRIRAST_BATCH_TOO_MANY_IDS, 0, TRIRAST_NONE};
     case 3: all->indices[3] = 5; return (place){TRIRAST_BATCH_BAD_INDEX, 1, 3};
     case 4: all->indices[0] = UINT32_MAX; return (place){TRIRAST_BATCH_BAD_INDEX, 1, 0};
-    case 5: last->vertex_count = 0, batch->vertices = NULL, batch->vertex_count = 0; return (place){TRIRAST_BATCH_BAD_INDEX, 1, 0};
+    case 5:
+        last->vertex_count = 0, batch->vertices = NULL, batch->vertex_count = 0;
+        return (place){TRIRAST_BATCH_BAD_INDEX, 1, 0};
     case 6: last->index_count = 3, batch->index_count = 3; return (place){TRIRAST_BATCH_NOT_WHOLE, 1, TRIRAST_NONE};
     case 7: last->vertex_count = 6; return (place){TRIRAST_BATCH_TOO_FEW_VERTICES, 1, TRIRAST_NONE};
     case 8: last->vertex_count = SIZE_MAX; return (place){TRIRAST_BATCH_TOO_FEW_VERTICES, 1, TRIRAST_NONE};
     case 9: last->index_count = 8; return (place){TRIRAST_BATCH_TOO_FEW_INDICES, 1, TRIRAST_NONE};
     case 10: last->index_count = SIZE_MAX; return (place){TRIRAST_BATCH_TOO_FEW_INDICES, 1, TRIRAST_NONE};
-    case 11: batch->indices = NULL, batch->index_count = 0; return (place){TRIRAST_BATCH_TOO_FEW_INDICES, 1, TRIRAST_NONE};
-    case 12: batch->vertices = NULL, batch->vertex_count = 0; return (place){TRIRAST_BATCH_TOO_FEW_VERTICES, 1, TRIRAST_NONE};
+    case 11:
+        batch->indices = NULL, batch->index_count = 0;
+        return (place){TRIRAST_BATCH_TOO_FEW_INDICES, 1, TRIRAST_NONE};
+    case 12:
+        batch->vertices = NULL, batch->vertex_count = 0;
+        return (place){TRIRAST_BATCH_TOO_FEW_VERTICES, 1, TRIRAST_NONE};
     case 13: batch->draw_count = 1; return (place){TRIRAST_BATCH_LEFT_OVER, TRIRAST_NONE, TRIRAST_NONE};
     case 14: batch->index_count = 5; return (place){TRIRAST_BATCH_LEFT_OVER, TRIRAST_NONE, TRIRAST_NONE};
     // The draw of {0} is of triangles.
@@ -311,17 +326,22 @@ static void compare_broken_batches(void) {
             trirast_status status = by_ids ? trirast_canvas_draw_ids(&all.made.whole, &all.made.batch, first_id, &error)
                                            : trirast_canvas_draw(&all.made.whole, &all.made.batch, &error);
             int is_index = due.cause == TRIRAST_BATCH_BAD_INDEX;
-            int is_there = error.cause == (uint32_t)due.cause && error.draw == due.draw && error.element == due.element &&
+            int is_there = error.cause == (uint32_t)due.cause && error.draw == due.draw &&
+                           error.element == due.element &&
                            error.value == (is_index ? all.indices[due.element] : TRIRAST_NONE);
-            expect(is_error(&error, status, TRIRAST_STATUS_BAD_BATCH) && is_there && holds_just(&all.made.memory, NULL, 0),
-                   "change %d: status %u, cause %u in draw %zu at %zu, or a change", change, status, error.cause, error.draw, error.element);
+            expect(is_error(&error, status, TRIRAST_STATUS_BAD_BATCH) && is_there &&
+                       holds_just(&all.made.memory, NULL, 0),
+                   "change %d: status %u, cause %u in draw %zu at %zu, or a change", change, status, error.cause,
+                   error.draw, error.element);
             // Nobody has to want the error.
             status = by_ids ? trirast_canvas_draw_ids(&all.made.whole, &all.made.batch, first_id, NULL)
                             : trirast_canvas_draw(&all.made.whole, &all.made.batch, NULL);
-            expect(status == TRIRAST_STATUS_BAD_BATCH && holds_just(&all.made.memory, NULL, 0), "change %d: status %u without an error", change, status);
+            expect(status == TRIRAST_STATUS_BAD_BATCH && holds_just(&all.made.memory, NULL, 0),
+                   "change %d: status %u without an error", change, status);
             free(all.made.memory.all);
         }
-    report("a batch with a number out of range, or of other lengths than its draws say, is refused, and nothing is drawn");
+    report(
+        "a batch with a number out of range, or of other lengths than its draws say, is refused, and nothing is drawn");
 }
 
 // A size or a stride of the batch that there is not.
@@ -352,7 +372,8 @@ static void compare_wrong_sizes(void) {
             trirast_status due = break_size(batch, change);
             trirast_status status = by_ids ? trirast_canvas_draw_ids(&all.made.whole, batch, 0, &error)
                                            : trirast_canvas_draw(&all.made.whole, batch, &error);
-            expect(is_error(&error, status, due) && holds_just(&all.made.memory, NULL, 0), "change %d: status %u where %u was due", change, status, due);
+            expect(is_error(&error, status, due) && holds_just(&all.made.memory, NULL, 0),
+                   "change %d: status %u where %u was due", change, status, due);
             free(all.made.memory.all);
         }
     report("a struct of another release, strides of 15, 18 and 2,052 bytes and indices of 3 bytes are refused");

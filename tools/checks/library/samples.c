@@ -1,4 +1,5 @@
-// Canvases with each number of samples a pixel: four threads draw a quad without the samples that it skips, and each sample is read back.
+// Canvases with each number of samples a pixel: four threads draw a quad without the samples that it skips, and each
+// sample is read back.
 #include <pthread.h>
 #include <stdlib.h>
 
@@ -42,7 +43,8 @@ static void compare_sample(const quad *all, uint32_t mask, uint32_t s) {
     uint32_t *ids = calloc(ALL, sizeof *ids);
     uint16_t *depths = calloc(ALL, sizeof *depths);
     if (!ids || !depths) stop("out of memory", "a sample");
-    int failed = trirast_canvas_ids(&all->made.whole, s, ids, ALL, 4 * WIDTH) || trirast_canvas_depths(&all->made.whole, s, depths, ALL, 0);
+    int failed = trirast_canvas_ids(&all->made.whole, s, ids, ALL, 4 * WIDTH) ||
+                 trirast_canvas_depths(&all->made.whole, s, depths, ALL, 0);
     for (int k = 0; k < ALL; k++) {
         int is_drawn = k < PIXELS && mask >> s & 1;
         expect(!failed && ids[k] == (is_drawn ? RED : WHITE) && depths[k] == (is_drawn ? DEPTH : CLEAR_DEPTH),
@@ -60,7 +62,8 @@ static void compare_colors(const quad *all, uint32_t mask, uint32_t samples) {
     if (!pixels) stop("out of memory", "pixels");
     uint32_t count = 0;
     for (uint32_t s = 0; s < samples; s++) count += mask >> s & 1;
-    const uint8_t red = mean(RED * count + 255 * (samples - count), samples), other = mean(255 * (samples - count), samples);
+    const uint8_t red = mean(RED * count + 255 * (samples - count), samples),
+                  other = mean(255 * (samples - count), samples);
     expect(!trirast_canvas_resolve(&all->made.whole, TRIRAST_FORMAT_RGB8, pixels, 3 * ALL, 3 * WIDTH), "not resolved");
     for (int k = 0; k < ALL; k++) {
         const uint8_t *found = pixels + 3 * k;

@@ -14,15 +14,16 @@ SANITIZERS = ("-fsanitize=address,undefined", "-fno-sanitize-recover=all")
 FUZZ = os.path.join(TOP, "tools", "checks", "library", "fuzz.cpp")
 # Seconds of the check that CI makes, and what a run may take longer than it is told to.
 SECONDS, MARGIN = 5, 120
-# The test of the functions that trirast.h defines itself, the compilers that build it, and the flags of its language. In C these
-# functions are made the program's own, so that the sanitizers see them and not those of the library.
+# The test of the functions that trirast.h defines itself, the compilers that build it, and the flags of its language.
+# In C these functions are made the program's own, so that the sanitizers see them and not those of the library.
 INLINE_TEST = os.path.join(TOP, "tools", "checks", "library", "inline.c")
 IN_C, IN_CPP = ("-std=c99", "-Dinline=static inline", "-x", "c"), ("-std=c++17", "-x", "c++")
 INLINE = (("gcc", IN_C), ("clang", IN_C), ("g++", IN_CPP), ("clang++", IN_CPP))
 
 
 def check_inline(compiler: str, language: tuple[str, ...]) -> None:
-    """The functions that trirast.h defines end as it says, also where a pointer is NULL, and the sanitizers find nothing."""
+    """The functions that trirast.h defines end as it says, also where a pointer is NULL, and the
+    sanitizers find nothing."""
     program = os.path.join(OUT, f"inline-{compiler}")
     flags = ["-g", *WARNINGS, *SANITIZERS, "-I", INCLUDE]
     run([need(compiler), *flags, *language, INLINE_TEST, "-x", "none", STATIC_LIBRARY, "-o", program])
@@ -39,7 +40,8 @@ def build_fuzz(compiler: str) -> str:
 
 
 def check_fuzz(seconds: int = SECONDS, seed: int = 1) -> str:
-    """Random calls of trirast.hpp end without a wrong picture, and the sanitizers find nothing. Returns how many scenes there were."""
+    """Random calls of trirast.hpp end without a wrong picture, and the sanitizers find nothing. Returns how many
+    scenes there were."""
     compiler = "clang++" if shutil.which("clang++") else "g++"
     command = [build_fuzz(compiler), str(seconds), str(seed)]
     try:

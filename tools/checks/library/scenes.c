@@ -22,15 +22,17 @@ static trirast_draw draw_of(const uint32_t *numbers) {
 }
 
 static trirast_vertex vertex_of(const uint32_t *numbers) {
-    return (trirast_vertex){.x = (int32_t)numbers[0], .y = (int32_t)numbers[1], .depth = (uint16_t)numbers[2], .red = (uint8_t)numbers[3],
-                            .green = (uint8_t)numbers[4], .blue = (uint8_t)numbers[5], .alpha = (uint8_t)numbers[6]};
+    return (trirast_vertex){.x = (int32_t)numbers[0], .y = (int32_t)numbers[1], .depth = (uint16_t)numbers[2],
+                            .red = (uint8_t)numbers[3], .green = (uint8_t)numbers[4], .blue = (uint8_t)numbers[5],
+                            .alpha = (uint8_t)numbers[6]};
 }
 
 scene read_arrays(const uint32_t *numbers) {
     const size_t draws = numbers[0], vertices = numbers[1], indices = numbers[2];
     const uint32_t *draw = numbers + HEAD, *vertex = draw + DRAW * draws, *index = vertex + VERTEX * vertices;
     scene read = {.width = numbers[3], .height = numbers[4], .samples = numbers[5], .output = numbers[6]};
-    read.clear = (trirast_clear){(uint8_t)numbers[7], (uint8_t)numbers[8], (uint8_t)numbers[9], 0, (uint16_t)numbers[10], 0};
+    read.clear =
+        (trirast_clear){(uint8_t)numbers[7], (uint8_t)numbers[8], (uint8_t)numbers[9], 0, (uint16_t)numbers[10], 0};
     read.draws = taken(draws, sizeof *read.draws), read.vertices = taken(vertices, sizeof *read.vertices);
     read.indices = taken(indices, sizeof *read.indices);
     for (size_t k = 0; k < draws; k++) read.draws[k] = draw_of(draw + DRAW * k);

@@ -12,7 +12,8 @@ from typing import Callable
 from tools.checks.cases import CheckError
 from tools.checks.library.commands import need
 
-# The beginning of a dump of the screen, as /usr/include/X11/XWDFile.h has it: the names of the integers that are used here.
+# The beginning of a dump of the screen, as /usr/include/X11/XWDFile.h has it: the names of the integers
+# that are used here.
 HEADER_SIZE, WIDTH, HEIGHT, BITS, ROW_BYTES, COLOURS = 0, 4, 5, 11, 12, 19
 HEADER_INTEGERS = 25
 COLOUR_BYTES = 12
@@ -27,9 +28,13 @@ class Screen:
         os.makedirs(folder)
         self.folder = folder
         reading, writing = os.pipe()
-        command = ["Xvfb", "-displayfd", str(writing), "-screen", "0", f"{width}x{height}x24", "-fbdir", folder, "-nocursor"]
+        command = [
+            "Xvfb", "-displayfd", str(writing), "-screen", "0", f"{width}x{height}x24", "-fbdir", folder, "-nocursor"
+        ]
         with open(os.path.join(folder, "messages"), "wb") as messages:
-            self.server = subprocess.Popen([*command, "-nolisten", "tcp"], pass_fds=(writing,), stdout=messages, stderr=messages)
+            self.server = subprocess.Popen(
+                [*command, "-nolisten", "tcp"], pass_fds=(writing,), stdout=messages, stderr=messages
+            )
         os.close(writing)
         with open(reading, "rb") as answer:
             self.display = f":{answer.readline().decode().strip()}"
@@ -41,7 +46,9 @@ class Screen:
     def __enter__(self) -> Screen:
         return self
 
-    def __exit__(self, kind: type[BaseException] | None, error: BaseException | None, trace: TracebackType | None) -> None:
+    def __exit__(
+        self, kind: type[BaseException] | None, error: BaseException | None, trace: TracebackType | None
+    ) -> None:
         self.server.terminate()
         self.server.wait()
 

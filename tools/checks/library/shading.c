@@ -1,5 +1,5 @@
-// Colours and ids of one sample index and of one tile, read and stored: the laws of these calls by random canvases with each number of
-// samples a pixel, and what they refuse.
+// Colours and ids of one sample index and of one tile, read and stored: the laws of these calls by random canvases with
+// each number of samples a pixel, and what they refuse.
 #include <stdlib.h>
 #include <string.h>
 
@@ -33,7 +33,8 @@ static void read_samples(shown *all) {
     for (uint32_t s = 0; s < all->whole.samples; s++) {
         const size_t from = s * pixels_of(&all->whole);
         expect(!trirast_canvas_ids(&all->whole, s, all->ids + from, pixels_of(&all->whole), 0), "ids of sample %u", s);
-        expect(!trirast_canvas_depths(&all->whole, s, all->depths + from, pixels_of(&all->whole), 0), "depths of sample %u", s);
+        expect(!trirast_canvas_depths(&all->whole, s, all->depths + from, pixels_of(&all->whole), 0),
+               "depths of sample %u", s);
     }
 }
 
@@ -45,7 +46,8 @@ static shown random_canvas(uint32_t samples) {
     if (!memory) stop("out of memory", "a canvas");
     memset(memory, 0xA5, size);
     expect(!trirast_canvas_init(&all.whole, memory, size), "no canvas of %u samples", samples);
-    expect(!trirast_canvas_clear(&all.whole, &(trirast_clear){.red = 7, .green = 8, .blue = 9, .depth = BLACK_DEPTH}), "not cleared");
+    expect(!trirast_canvas_clear(&all.whole, &(trirast_clear){.red = 7, .green = 8, .blue = 9, .depth = BLACK_DEPTH}),
+           "not cleared");
     for (int k = 0; k < 40; k++) {
         trirast_vertex corners[3] = {0};
         for (int n = 0; n < 3; n++) {
@@ -84,8 +86,10 @@ static size_t read_tile(const shown *all, uint32_t column, uint32_t row, uint32_
     const uint32_t samples = all->whole.samples;
     uint32_t uniform = 9;
     memset(ids, 0xFF, TRIRAST_TILE_ENTRIES(samples) * sizeof *ids);
-    expect(!trirast_canvas_tile_ids(&all->whole, column, row, ids, TRIRAST_TILE_ENTRIES(samples), &uniform), "no tile %u, %u", column, row);
-    expect(uniform <= 1 && (!uniform || ids[1] == 0xFFFFFFFF), "tile %u, %u: uniform %u, second entry %u", column, row, uniform, ids[1]);
+    expect(!trirast_canvas_tile_ids(&all->whole, column, row, ids, TRIRAST_TILE_ENTRIES(samples), &uniform),
+           "no tile %u, %u", column, row);
+    expect(uniform <= 1 && (!uniform || ids[1] == 0xFFFFFFFF), "tile %u, %u: uniform %u, second entry %u", column, row,
+           uniform, ids[1]);
     for (uint32_t s = 0; s < samples; s++)
         for (uint32_t y = 64 * row; y < 64 * row + 64 && y < TALL; y++)
             for (uint32_t x = 64 * column; x < 64 * column + 64 && x < WIDE; x++) {
@@ -98,11 +102,13 @@ static size_t read_tile(const shown *all, uint32_t column, uint32_t row, uint32_
 
 static void store_tile(shown *all, uint32_t column, uint32_t row, const uint32_t *colors, size_t count) {
     const uint32_t samples = all->whole.samples;
-    expect(!trirast_canvas_tile_store(&all->whole, column, row, colors, count), "tile %u, %u is not stored", column, row);
+    expect(!trirast_canvas_tile_store(&all->whole, column, row, colors, count), "tile %u, %u is not stored", column,
+           row);
     for (uint32_t s = 0; s < samples; s++)
         for (uint32_t y = 64 * row; y < 64 * row + 64 && y < TALL; y++)
             for (uint32_t x = 64 * column; x < 64 * column + 64 && x < WIDE; x++)
-                all->ids[s * pixels_of(&all->whole) + (size_t)y * WIDE + x] = colors[count == 1 ? 0 : entry_of(samples, x, y, s)] & 0xFFFFFF;
+                all->ids[s * pixels_of(&all->whole) + (size_t)y * WIDE + x] =
+                    colors[count == 1 ? 0 : entry_of(samples, x, y, s)] & 0xFFFFFF;
 }
 
 static void compare_tiles(uint32_t samples) {
@@ -134,14 +140,16 @@ static void compare_tiles(uint32_t samples) {
 static const uint32_t ORDER[3][3] = {{0, 1, 2}, {0, 1, 2}, {2, 1, 0}};
 
 static void compare_index(shown *all, uint32_t s, trirast_format format) {
-    const size_t unit = format == TRIRAST_FORMAT_RGB8 ? 3 : 4, stride = WIDE * unit + PADDING, from = s * pixels_of(&all->whole);
+    const size_t unit = format == TRIRAST_FORMAT_RGB8 ? 3 : 4, stride = WIDE * unit + PADDING,
+                 from = s * pixels_of(&all->whole);
     const size_t size = stride * TALL - PADDING;
     uint8_t *bytes = room(size), *back = room(size);
     for (size_t n = 0; n < size; n++) bytes[n] = (uint8_t)random_below(256);
     expect(!trirast_canvas_store(&all->whole, s, format, bytes, size, stride), "sample %u is not stored", s);
     for (size_t p = 0; p < pixels_of(&all->whole); p++) {
         const uint8_t *pixel = bytes + p / WIDE * stride + p % WIDE * unit;
-        all->ids[from + p] = pixel[ORDER[format][0]] + 256u * pixel[ORDER[format][1]] + 65536u * pixel[ORDER[format][2]];
+        all->ids[from + p] =
+            pixel[ORDER[format][0]] + 256u * pixel[ORDER[format][1]] + 65536u * pixel[ORDER[format][2]];
     }
     compare_all(all, "colours of a sample index");
     memset(back, 0x5A, size);
@@ -168,24 +176,40 @@ static void compare_refused(void) {
     trirast_canvas piece, wrong = all.whole;
     wrong.width = 0;
     expect(!trirast_canvas_split(&all.whole, 1, 2, &piece), "no piece");
-    expect(trirast_canvas_tile_ids(&wrong, 0, 0, ids, entries, &uniform) == TRIRAST_STATUS_BAD_CANVAS, "a canvas without columns");
-    expect(trirast_canvas_tile_ids(&all.whole, COLUMNS, 0, ids, entries, &uniform) == TRIRAST_STATUS_BAD_TILE, "a column too many");
-    expect(trirast_canvas_tile_ids(&all.whole, 0, ROWS, ids, entries, &uniform) == TRIRAST_STATUS_BAD_TILE, "a row too many");
-    expect(trirast_canvas_tile_ids(&piece, 0, 0, ids, entries, &uniform) == TRIRAST_STATUS_BAD_TILE, "a row above the piece");
-    expect(trirast_canvas_tile_ids(&piece, 0, 2, ids, 0, &uniform) == TRIRAST_STATUS_BAD_TILE, "a row below the piece, before the size");
-    expect(trirast_canvas_tile_ids(&all.whole, 2, 2, ids, entries - 1, &uniform) == TRIRAST_STATUS_BUFFER_TOO_SMALL, "an entry too few");
+    expect(trirast_canvas_tile_ids(&wrong, 0, 0, ids, entries, &uniform) == TRIRAST_STATUS_BAD_CANVAS,
+           "a canvas without columns");
+    expect(trirast_canvas_tile_ids(&all.whole, COLUMNS, 0, ids, entries, &uniform) == TRIRAST_STATUS_BAD_TILE,
+           "a column too many");
+    expect(trirast_canvas_tile_ids(&all.whole, 0, ROWS, ids, entries, &uniform) == TRIRAST_STATUS_BAD_TILE,
+           "a row too many");
+    expect(trirast_canvas_tile_ids(&piece, 0, 0, ids, entries, &uniform) == TRIRAST_STATUS_BAD_TILE,
+           "a row above the piece");
+    expect(trirast_canvas_tile_ids(&piece, 0, 2, ids, 0, &uniform) == TRIRAST_STATUS_BAD_TILE,
+           "a row below the piece, before the size");
+    expect(trirast_canvas_tile_ids(&all.whole, 2, 2, ids, entries - 1, &uniform) == TRIRAST_STATUS_BUFFER_TOO_SMALL,
+           "an entry too few");
     expect(uniform == 9 && ids[0] == 0, "ids were written");
-    expect(trirast_canvas_tile_store(&all.whole, COLUMNS, 0, ids, 1) == TRIRAST_STATUS_BAD_TILE, "stored in a column too many");
+    expect(trirast_canvas_tile_store(&all.whole, COLUMNS, 0, ids, 1) == TRIRAST_STATUS_BAD_TILE,
+           "stored in a column too many");
     expect(trirast_canvas_tile_store(&piece, 0, 0, ids, 1) == TRIRAST_STATUS_BAD_TILE, "stored above the piece");
     for (size_t count = 0; count <= entries + 1; count++)
         if (count != 1 && count != entries && (count < 3 || count + 2 > entries))
-            expect(trirast_canvas_tile_store(&all.whole, 0, 0, ids, count) == TRIRAST_STATUS_BUFFER_TOO_SMALL, "%zu colours", count);
-    expect(trirast_canvas_colors(&all.whole, 4, (trirast_format)5, bytes, 0, 1) == TRIRAST_STATUS_BAD_FORMAT, "a format");
-    expect(trirast_canvas_colors(&all.whole, 4, TRIRAST_FORMAT_RGB8, bytes, 0, 1) == TRIRAST_STATUS_BAD_SAMPLE, "a sample");
-    expect(trirast_canvas_colors(&all.whole, 3, TRIRAST_FORMAT_RGB8, bytes, size - 1, 0) == TRIRAST_STATUS_BUFFER_TOO_SMALL, "a byte");
-    expect(trirast_canvas_store(&all.whole, 4, (trirast_format)5, bytes, 0, 1) == TRIRAST_STATUS_BAD_FORMAT, "a format to store");
-    expect(trirast_canvas_store(&all.whole, 4, TRIRAST_FORMAT_RGB8, bytes, 0, 1) == TRIRAST_STATUS_BAD_SAMPLE, "a sample to store");
-    expect(trirast_canvas_store(&all.whole, 3, TRIRAST_FORMAT_RGB8, bytes, size, 3 * WIDE - 1) == TRIRAST_STATUS_BUFFER_TOO_SMALL, "a stride");
+            expect(trirast_canvas_tile_store(&all.whole, 0, 0, ids, count) == TRIRAST_STATUS_BUFFER_TOO_SMALL,
+                   "%zu colours", count);
+    expect(trirast_canvas_colors(&all.whole, 4, (trirast_format)5, bytes, 0, 1) == TRIRAST_STATUS_BAD_FORMAT,
+           "a format");
+    expect(trirast_canvas_colors(&all.whole, 4, TRIRAST_FORMAT_RGB8, bytes, 0, 1) == TRIRAST_STATUS_BAD_SAMPLE,
+           "a sample");
+    expect(trirast_canvas_colors(&all.whole, 3, TRIRAST_FORMAT_RGB8, bytes, size - 1, 0) ==
+               TRIRAST_STATUS_BUFFER_TOO_SMALL,
+           "a byte");
+    expect(trirast_canvas_store(&all.whole, 4, (trirast_format)5, bytes, 0, 1) == TRIRAST_STATUS_BAD_FORMAT,
+           "a format to store");
+    expect(trirast_canvas_store(&all.whole, 4, TRIRAST_FORMAT_RGB8, bytes, 0, 1) == TRIRAST_STATUS_BAD_SAMPLE,
+           "a sample to store");
+    expect(trirast_canvas_store(&all.whole, 3, TRIRAST_FORMAT_RGB8, bytes, size, 3 * WIDE - 1) ==
+               TRIRAST_STATUS_BUFFER_TOO_SMALL,
+           "a stride");
     compare_all(&all, "calls that were refused");
     free(ids), free(bytes), free_canvas(&all);
 }

@@ -31,7 +31,8 @@ static void draw_file(task *own) {
 
 static void draw_row(task *own) {
     trirast_error error;
-    trirast_list_draw_rows(own->one->list.bytes, own->one->list.length, 64, 0, 1, own->buffer.bytes, own->buffer.size, &error);
+    trirast_list_draw_rows(own->one->list.bytes, own->one->list.length, 64, 0, 1, own->buffer.bytes, own->buffer.size,
+                           &error);
 }
 
 static void ask_why(task *own) { ask_for_history(own->one); }
@@ -41,7 +42,8 @@ static void use_canvas(task *own) {
 }
 
 static void write_message(task *own) {
-    const trirast_error error = {TRIRAST_STATUS_BAD_BATCH, TRIRAST_BATCH_BAD_INDEX, SIZE_MAX - 1, SIZE_MAX - 1, UINT32_MAX};
+    const trirast_error error = {TRIRAST_STATUS_BAD_BATCH, TRIRAST_BATCH_BAD_INDEX, SIZE_MAX - 1, SIZE_MAX - 1,
+                                 UINT32_MAX};
     trirast_error_message(&error, (char *)own->buffer.bytes, own->buffer.size);
 }
 
@@ -101,8 +103,10 @@ void compare_stack(void) {
             free(given.own.buffer.all);
             if (bytes > most) most = bytes, where = one->name;
         }
-        printf("stack %zu bytes by %s, the most of %d lists, by %s\n", most, CALLS[call].name, drawn_count + refused_count, where);
-        expect(most <= CALLS[call].enough, "%s: %zu bytes of stack, and %zu were enough", CALLS[call].name, most, CALLS[call].enough);
+        printf("stack %zu bytes by %s, the most of %d lists, by %s\n", most, CALLS[call].name,
+               drawn_count + refused_count, where);
+        expect(most <= CALLS[call].enough, "%s: %zu bytes of stack, and %zu were enough", CALLS[call].name, most,
+               CALLS[call].enough);
     }
     report("the stack that a thread touches is less than the header says");
 }

@@ -1,6 +1,7 @@
 """Calls of include/trirast.h by ctypes: the numbers that they write, each found by hand from the header and the rules.
 
-A call is given what the header allows and what it refuses. What it may not change holds 7 in each byte or 77 in each number.
+A call is given what the header allows and what it refuses. What it may not change holds 7 in each byte
+or 77 in each number.
 """
 
 from __future__ import annotations
@@ -24,7 +25,8 @@ FILE = colour_file(3, 3, CORNER)
 # 2 by 9 pixels of depth 258, and in the last row of depth 772: bytes 1, 2 and 3, 4.
 LAST_ROW = (
     '{"width":2,"height":9,"output":"depth","clear_depth":258,"draws":[{"vertices":'
-    '[[0,0,772,0,0,0,0],[8000,0,772,0,0,0,0],[0,8000,772,0,0,0,0]],"triangles":[[0,1,2]],"depth_write":true,"scissor":[0,8,2,9]}]}'
+    '[[0,0,772,0,0,0,0],[8000,0,772,0,0,0,0],[0,8000,772,0,0,0,0]],'
+    '"triangles":[[0,1,2]],"depth_write":true,"scissor":[0,8,2,9]}]}'
 )
 
 
@@ -39,7 +41,8 @@ def in_list(cause: int, draw: int | None = None) -> Error:
 
 
 def in_batch(cause: int, draw: int | None = None, element: int | None = None, value: int | None = None) -> Error:
-    """An error of a batch with this cause, in this draw, at this one of its indices, vertices or quads, and the index if it is one."""
+    """An error of a batch with this cause, in this draw, at this one of its indices, vertices or quads, and the
+    index if it is one."""
     return (15, cause, draw, element, value)
 
 
@@ -55,8 +58,8 @@ def error_of(error: Any) -> Error:
 
 
 def ended(name: str, *arguments: Any) -> Error:
-    """The error that a call writes behind these arguments. Its status is the one that is returned; a call that is refused is refused
-    too if nobody wants the error."""
+    """The error that a call writes behind these arguments. Its status is the one that is returned; a call that is
+    refused is refused too if nobody wants the error."""
     error = struct("trirast_error")(77, 77, 77, 77, 77)
     given = [address(argument) for argument in arguments]
     status = getattr(library(), name)(*given, ctypes.addressof(error))
@@ -137,7 +140,8 @@ COLOURS = (
 # The depths of 40 by 70 pixels with four samples each.
 DEPTHS = (
     '{"width":40,"height":70,"samples":4,"output":"depth","draws":[{"vertices":[[0,0,0,255,255,255,255],'
-    '[10240,0,65535,255,255,0,255],[0,17920,300,0,255,255,255]],"triangles":[[0,1,2]],"depth_test":"less","depth_write":true}]}'
+    '[10240,0,65535,255,255,0,255],[0,17920,300,0,255,255,255]],'
+    '"triangles":[[0,1,2]],"depth_test":"less","depth_write":true}]}'
 )
 
 
@@ -218,15 +222,21 @@ def array_of(kind: Any, elements: Sequence[Any]) -> Any:
 
 
 def vertices_of(rows: Sequence[Numbers], stride: int) -> Any:
-    """The address of vertices that lie one every so many bytes, and their memory. Behind the last one there is nothing."""
+    """The address of vertices that lie one every so many bytes, and their memory. Behind the last one
+    there is nothing."""
     if not rows:
         return None, None
-    data = (b"\xff" * (stride - 16)).join(bytes(struct("trirast_vertex")(*row)) for row in rows) if stride >= 16 else bytes(16 * len(rows))
+    data = (
+        (b"\xff" * (stride - 16)).join(bytes(struct("trirast_vertex")(*row)) for row in rows)
+        if stride >= 16 else bytes(16 * len(rows))
+    )
     memory = (ctypes.c_uint32 * (len(data) // 4)).from_buffer_copy(data)
     return ctypes.addressof(memory), memory
 
 
-def draw_of(vertex_count: int = 3, index_count: int = 3, blend: Numbers = (), constant: Numbers = (), **members: int) -> Any:
+def draw_of(
+    vertex_count: int = 3, index_count: int = 3, blend: Numbers = (), constant: Numbers = (), **members: int
+) -> Any:
     """A draw of {0} but for these members."""
     draw = struct("trirast_draw")(vertex_count=vertex_count, index_count=index_count, **members)
     draw.blend = struct("trirast_blend")(*blend)
@@ -245,14 +255,19 @@ def canvas_of(width: int = 3, height: int = 3, **members: int) -> Any:
 
 
 def drawn_batch(
-    draws: Sequence[Any], vertices: Sequence[Numbers] = VERTICES, indices: Sequence[int] = (0, 1, 2), canvas: Any = None, first_id: int | None = None,
-    clear: Numbers = (0, 0, 0, 0, 65_535), is_null: bool = True, **members: int,
+    draws: Sequence[Any], vertices: Sequence[Numbers] = VERTICES, indices: Sequence[int] = (0, 1, 2),
+    canvas: Any = None, first_id: int | None = None, clear: Numbers = (0, 0, 0, 0, 65_535), is_null: bool = True,
+    **members: int,
 ) -> Tuple[Error, bytes]:
-    """How a batch is drawn on a canvas that is cleared, and the colours of its pixels. Without indices their address is NULL, if so wanted."""
+    """How a batch is drawn on a canvas that is cleared, and the colours of its pixels. Without indices their address is
+    NULL, if so wanted."""
     whole, memory = canvas or canvas_of()
     stride = members.get("vertex_stride") or 16
     index = ctypes.c_uint16 if members.get("index_size") == 2 else ctypes.c_uint32
-    kept = [array_of(struct("trirast_draw"), draws), vertices_of(vertices, stride if stride % 4 == 0 and stride < 4_096 else 16)]
+    kept = [
+        array_of(struct("trirast_draw"), draws),
+        vertices_of(vertices, stride if stride % 4 == 0 and stride < 4_096 else 16),
+    ]
     kept.append(array_of(index, indices) if is_null or indices else (ctypes.addressof(whole), None))
     batch = struct("trirast_batch")(**members)
     batch.draws, batch.vertices, batch.indices = (found for found, _ in kept)
@@ -285,8 +300,12 @@ def test_draws_vertices_in_their_order() -> None:
     assert drawn_batch([draw_of(3, 0)], indices=()) == (DONE, WHITE_CORNER)
     assert drawn_batch([], indices=()) == drawn_batch([], indices=(), index_size=2) == (DONE, WHITE_CORNER)
     assert drawn_batch([draw_of(0, 0), draw_of(3, 0)], indices=()) == (DONE, WHITE_CORNER)
-    for topology, vertices in ((0, (*VERTICES, *VERTICES[1:], SQUARE[2])), (1, (*VERTICES[:2], VERTICES[2], SQUARE[2])), (2, SQUARE)):
-        assert drawn_batch([draw_of(len(vertices), 0, topology=topology)], vertices, ()) == drawn_batch([draw_of(4, 4, topology=2)], SQUARE, (0, 1, 2, 3))
+    for topology, vertices in (
+        (0, (*VERTICES, *VERTICES[1:], SQUARE[2])), (1, (*VERTICES[:2], VERTICES[2], SQUARE[2])), (2, SQUARE)
+    ):
+        assert drawn_batch([draw_of(len(vertices), 0, topology=topology)], vertices, ()) == drawn_batch(
+            [draw_of(4, 4, topology=2)], SQUARE, (0, 1, 2, 3)
+        )
     found, pixels = drawn_batch([draw_of(6, 0)], (*VERTICES, *VERTICES), (), first_id=6)
     assert (found, pixels[:3]) == (DONE, b"\7\0\0")
 
@@ -302,7 +321,10 @@ def test_draws_indices_of_16_bits() -> None:
     assert drawn_batch([draw_of()], index_size=2) == (DONE, WHITE_CORNER)
     many = (*VERTICES[:2], *[FAR] * 65_533, VERTICES[2])
     assert drawn_batch([draw_of(65_536)], many, (0, 1, 65_535), index_size=2) == (DONE, WHITE_CORNER)
-    assert drawn_batch([draw_of(), draw_of()], (*VERTICES, *VERTICES), (0, 1, 2, 2, 0, 1), index_size=2, first_id=1)[1][:3] == b"\2\0\0"
+    assert (
+        drawn_batch([draw_of(), draw_of()], (*VERTICES, *VERTICES), (0, 1, 2, 2, 0, 1), index_size=2, first_id=1)[1][:3]
+        == b"\2\0\0"
+    )
 
 
 @pytest.mark.parametrize(
@@ -322,7 +344,9 @@ def test_draws_indices_of_16_bits() -> None:
         ([draw_of(4, 8, topology=2)], SQUARE, (0, 1, 2, 3, 0, 2, 1, 3), {"index_size": 2}, in_batch(8, 0, 1)),
     ],
 )
-def test_refuses_draws_without_indices_and_of_16_bits(draws: Any, vertices: Any, indices: Any, members: Any, error: Error) -> None:
+def test_refuses_draws_without_indices_and_of_16_bits(
+    draws: Any, vertices: Any, indices: Any, members: Any, error: Error
+) -> None:
     assert drawn_batch(draws, vertices, indices, **members) == (error, bytes(27))
 
 
@@ -340,13 +364,15 @@ def test_refuses_structs_of_other_releases_and_strides() -> None:
 
 
 @pytest.mark.parametrize(("members", "cause"), [
-    ({"topology": 3}, 15), ({"topology": 255}, 15), ({"cull": 3}, 16), ({"depth_test": 8}, 17), ({"depth_write": 2}, 18), ({"keep": 16}, 19),
-    ({"keep": 255}, 19), ({"scissor_enable": 2}, 20), ({"blend": (12,)}, 21), ({"blend": (13,)}, 21), ({"blend": (16,)}, 21),
-    ({"blend": (0, 12)}, 21), ({"blend": (0, 0, 0, 13)}, 21), ({"blend": (0, 0, 0, 0, 255)}, 21), ({"blend": (0, 0, 6)}, 22),
+    ({"topology": 3}, 15), ({"topology": 255}, 15), ({"cull": 3}, 16), ({"depth_test": 8}, 17),
+    ({"depth_write": 2}, 18), ({"keep": 16}, 19), ({"keep": 255}, 19), ({"scissor_enable": 2}, 20),
+    ({"blend": (12,)}, 21), ({"blend": (13,)}, 21), ({"blend": (16,)}, 21), ({"blend": (0, 12)}, 21),
+    ({"blend": (0, 0, 0, 13)}, 21), ({"blend": (0, 0, 0, 0, 255)}, 21), ({"blend": (0, 0, 6)}, 22),
     ({"blend": (0, 0, 0, 0, 0, 6)}, 22),
     # Of several the first is named.
-    ({"topology": 3, "cull": 3}, 15), ({"cull": 3, "keep": 255, "blend": (12,)}, 16), ({"depth_test": 8, "depth_write": 2}, 17),
-    ({"scissor_enable": 2, "blend": (12,)}, 20), ({"blend": (0, 0, 6, 0, 12)}, 21),
+    ({"topology": 3, "cull": 3}, 15), ({"cull": 3, "keep": 255, "blend": (12,)}, 16),
+    ({"depth_test": 8, "depth_write": 2}, 17), ({"scissor_enable": 2, "blend": (12,)}, 20),
+    ({"blend": (0, 0, 6, 0, 12)}, 21),
 ])
 def test_names_the_number_of_a_draw_that_is_out_of_range(members: Any, cause: int) -> None:
     assert drawn_batch([draw_of(0, 0), draw_of(**members)]) == (in_batch(cause, 1), bytes(27))
@@ -368,7 +394,9 @@ def test_draws_vertices_with_a_stride(stride: int, index_size: int) -> None:
         packed = drawn_batch(draws, vertices, indices, index_size=index_size)
         assert drawn_batch(draws, vertices, indices, index_size=index_size, vertex_stride=stride) == packed
         by_ids = drawn_batch(draws, vertices, indices, index_size=index_size, first_id=258)
-        assert drawn_batch(draws, vertices, indices, index_size=index_size, vertex_stride=stride, first_id=258) == by_ids
+        assert (
+            drawn_batch(draws, vertices, indices, index_size=index_size, vertex_stride=stride, first_id=258) == by_ids
+        )
 
 
 @pytest.mark.parametrize(
@@ -404,7 +432,10 @@ def test_looks_only_at_vertices_that_an_index_names() -> None:
     assert drawn_batch([draw_of(4)], (*VERTICES, (2**31 - 1, 0, *WHITE))) == (DONE, WHITE_CORNER)
 
 
-@pytest.mark.parametrize(("first_id", "error"), [(16_777_215, DONE), (16_777_216, in_batch(5, 0)), (2**32 - 1, in_batch(5, 0)), (0x010203, DONE)])
+@pytest.mark.parametrize(
+    ("first_id", "error"),
+    [(16_777_215, DONE), (16_777_216, in_batch(5, 0)), (2**32 - 1, in_batch(5, 0)), (0x010203, DONE)],
+)
 def test_draws_ids_up_to_the_greatest(first_id: int, error: Error) -> None:
     found, pixels = drawn_batch([draw_of()], first_id=first_id)
     assert (found, pixels[:3]) == (error, b"\0\0\0" if error != DONE else first_id.to_bytes(3, "little"))
@@ -448,12 +479,18 @@ def test_keeps_channels_and_skips_samples() -> None:
 
 
 def test_cuts_at_the_scissor_if_it_is_enabled() -> None:
-    edges: dict[str, Any] = {"scissor_left": -5, "scissor_top": -(2**31), "scissor_right": 1, "scissor_bottom": 2**31 - 1}
+    edges: dict[str, Any] = {
+        "scissor_left": -5, "scissor_top": -(2**31), "scissor_right": 1, "scissor_bottom": 2**31 - 1
+    }
     assert drawn_batch([draw_of(**edges)]) == (DONE, WHITE_CORNER)
-    assert drawn_batch([draw_of(scissor_enable=1, **edges)])[1] == b"\xff\xff\xff" + bytes(6) + b"\xff\xff\xff" + bytes(15)
+    assert (
+        drawn_batch([draw_of(scissor_enable=1, **edges)])[1] == b"\xff\xff\xff" + bytes(6) + b"\xff\xff\xff" + bytes(15)
+    )
 
 
-@pytest.mark.parametrize(("test", "passes"), [(0, "lem"), (1, ""), (2, "l"), (3, "e"), (4, "le"), (5, "m"), (6, "lm"), (7, "em")])
+@pytest.mark.parametrize(
+    ("test", "passes"), [(0, "lem"), (1, ""), (2, "l"), (3, "e"), (4, "le"), (5, "m"), (6, "lm"), (7, "em")]
+)
 def test_tests_depths(test: int, passes: str) -> None:
     """Of a triangle of depth 0 that is less, of one that is equal and of one that is more than what is stored."""
     for name, depth in (("l", 99), ("e", 100), ("m", 101)):
@@ -508,8 +545,9 @@ def test_has_the_message_of_each_error(error: Error, message: str) -> None:
 # A stored sample: red, green, blue and depth.
 CLEAR = (0, 0, 0, 65_535)
 LIT = (255, 255, 255, 65_535)
-# The event of the triangle at pixel (1, 1), whose centre lies on the hypotenuse, a right edge: doubled area, edges ab, bc and ca;
-# number, draw and triangle; what fails at each edge; result, reasons, writes and covered; no fragment; before and after.
+# The event of the triangle at pixel (1, 1), whose centre lies on the hypotenuse, a right edge: doubled area, edges
+# ab, bc and ca; number, draw and triangle; what fails at each edge; result, reasons, writes and covered; no
+# fragment; before and after.
 MISSED = (262_144, 131_072, 0, 131_072, 0, 0, 0, 0, 2, 0, 0, 4, 7, 0, *[0] * 5, *CLEAR, *CLEAR)
 # At pixel (2, 2), whose centre lies on the other side of the hypotenuse.
 OUTSIDE = (262_144, 262_144, -262_144, 262_144, 0, 0, 0, 0, 1, 0, 0, 4, 7, 0, *[0] * 5, *CLEAR, *CLEAR)
@@ -521,7 +559,8 @@ EVENT_SIZE = 136
 
 
 def history(text: str, place: Numbers, capacity: int, event_size: int = EVENT_SIZE) -> Tuple[Error, Any, Numbers]:
-    """How `trirast_list_history` ends for this column, row and sample, and whether all events are asked for; the events and the info."""
+    """How `trirast_list_history` ends for this column, row and sample, and whether all events are asked for; the
+    events and the info."""
     events = (struct("trirast_event") * capacity)()
     for event in events:
         fill(event)

@@ -50,7 +50,8 @@ def example_cases() -> Iterator[Case]:
 
 
 CASES = [
-    *in_c.library_cases(), *in_c.c_cases(), *in_c.cpp_cases(), *example_cases(), *from_python.cases(), *from_rust.cases(), *arm64.cases(SEED),
+    *in_c.library_cases(), *in_c.c_cases(), *in_c.cpp_cases(), *example_cases(), *from_python.cases(),
+    *from_rust.cases(), *arm64.cases(SEED),
     case("make install, pkg-config, a program outside, make uninstall", install.check_install),
     case("make install with DESTDIR", install.check_staged_install),
 ]

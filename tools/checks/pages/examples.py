@@ -1,4 +1,5 @@
-"""The examples in C, C++ and Rust of README.md and pages of docs/, each built into a program, and what it writes against the program."""
+"""The examples in C, C++ and Rust of README.md and pages of docs/, each built into a program, and what it writes
+against the program."""
 
 from __future__ import annotations
 
@@ -17,16 +18,24 @@ from tools.places import INCLUDE, STATIC_LIBRARY
 
 OUT = os.path.join(places.OUT, "pages", "programs")
 CANVAS, CPP_AND_RUST, POSTERS, README = "docs/canvas.md", "docs/cpp_and_rust.md", "docs/posters.md", "README.md"
-# A triangle on the canvas of 640 by 480 pixels of docs/canvas.md and docs/cpp_and_rust.md, and the same without a depth for its four samples.
-VERTICES = [[81920, 2560, 100, 255, 0, 0, 255], [158720, 115200, 200, 0, 255, 0, 255], [5120, 97280, 300, 0, 0, 255, 255]]
+# A triangle on the canvas of 640 by 480 pixels of docs/canvas.md and docs/cpp_and_rust.md, and the same without a depth
+# for its four samples.
+VERTICES = [
+    [81920, 2560, 100, 255, 0, 0, 255], [158720, 115200, 200, 0, 255, 0, 255], [5120, 97280, 300, 0, 0, 255, 255]
+]
 SCENE: DrawList = {
-    "width": 640, "height": 480, "samples": 4, "clear": [24, 24, 32], "draws": [{"vertices": VERTICES, "triangles": [[0, 1, 2]]}],
+    "width": 640, "height": 480, "samples": 4, "clear": [24, 24, 32],
+    "draws": [{"vertices": VERTICES, "triangles": [[0, 1, 2]]}],
 }
 # The triangle of README.md.
-SMALL_VERTICES = [[128, 128, 0, 255, 255, 255, 255], [640, 128, 0, 255, 255, 255, 255], [128, 640, 0, 255, 255, 255, 255]]
+SMALL_VERTICES = [
+    [128, 128, 0, 255, 255, 255, 255], [640, 128, 0, 255, 255, 255, 255], [128, 640, 0, 255, 255, 255, 255]
+]
 SMALL_SCENE: DrawList = {"width": 3, "height": 3, "draws": [{"vertices": SMALL_VERTICES, "triangles": [[0, 1, 2]]}]}
 # More than one window of docs/posters.md in each direction, the last ones cut.
-POSTER_VERTICES = [[2560, 7680, 0, 255, 0, 0, 255], [325000, 51200, 0, 0, 255, 0, 255], [128000, 151040, 0, 0, 0, 255, 255]]
+POSTER_VERTICES = [
+    [2560, 7680, 0, 255, 0, 0, 255], [325000, 51200, 0, 0, 255, 0, 255], [128000, 151040, 0, 0, 0, 255, 255]
+]
 POSTER_SCENE: DrawList = {
     "width": 1300, "height": 600, "samples": 4, "draws": [{"vertices": POSTER_VERTICES, "triangles": [[0, 1, 2]]}],
 }
@@ -45,7 +54,10 @@ def vertex_in_rust(vertex: list[int]) -> str:
     return RUST_VERTEX.format(x, y, *color, depth)
 
 
-CPP_HEAD = "#include <cstdio>\n#include <trirast.hpp>\nint main() {{\nconst trirast_vertex vertices[] = {};\nconst std::uint32_t indices[] = {{0, 1, 2}};\n"
+CPP_HEAD = (
+    "#include <cstdio>\n#include <trirast.hpp>\nint main() {{\nconst trirast_vertex vertices[] = {};\nconst "
+    "std::uint32_t indices[] = {{0, 1, 2}};\n"
+)
 CPP_END = "std::fwrite(pixels.data(), 1, pixels.size(), stdout);\n}\n"
 
 
@@ -71,7 +83,8 @@ int main(void) {{
 
 
 class Around(NamedTuple):
-    """What stands before and behind the examples of a page in a language, so that they are a program, and the list that it draws."""
+    """What stands before and behind the examples of a page in a language, so that they are a program, and the
+    list that it draws."""
 
     scene: DrawList
     before: str = ""
@@ -115,10 +128,10 @@ trirast = {{ path = "{}" }}
 PART = """\
 #include <stdio.h>
 #include <trirast.h>
-void part(const char *json, size_t json_len, uint32_t width, uint32_t height, size_t pixel_bytes, uint32_t tile_size, uint32_t k,
-          uint32_t threads, uint8_t *pixels, trirast_error error);
-void part(const char *json, size_t json_len, uint32_t width, uint32_t height, size_t pixel_bytes, uint32_t tile_size, uint32_t k,
-          uint32_t threads, uint8_t *pixels, trirast_error error) {{
+void part(const char *json, size_t json_len, uint32_t width, uint32_t height, size_t pixel_bytes, uint32_t tile_size,
+          uint32_t k, uint32_t threads, uint8_t *pixels, trirast_error error);
+void part(const char *json, size_t json_len, uint32_t width, uint32_t height, size_t pixel_bytes, uint32_t tile_size,
+          uint32_t k, uint32_t threads, uint8_t *pixels, trirast_error error) {{
 {{
 {}
 }}
@@ -173,6 +186,9 @@ def check(page: str, language: str) -> None:
     wanted = drawn_by_program(draw_list).output
     picture = picture_file.decode(wanted)
     if page == README:
-        must(written.decode() == reds_of(picture) and f"```text\n{reds_of(picture)}```" in places.text_of(page), "another picture")
+        must(
+            written.decode() == reds_of(picture) and f"```text\n{reds_of(picture)}```" in places.text_of(page),
+            "another picture",
+        )
     else:
         must(written in (wanted, picture.pixel_data), "another picture")

@@ -9,19 +9,23 @@ from tools import places
 
 PAGES = ("README.md", *(
     f"docs/{name}.md" for name in (
-        "canvas", "canvas_proved", "conformance", "cpp_and_rust", "draw-list", "gallery", "library", "maps", "matplotlib", "performance", "polygons",
-        "posters", "proofs", "python", "rules", "shaded_frames", "shading", "tested", "web",
+        "canvas", "canvas_proved", "conformance", "cpp_and_rust", "draw-list", "gallery", "library", "maps",
+        "matplotlib", "performance", "polygons", "posters", "proofs", "python", "rules", "shaded_frames", "shading",
+        "tested", "web",
     )
 ))
 FENCE = re.compile(r"^```(\w*)\n(.*?)^```$", re.MULTILINE | re.DOTALL)
-# A command within a sentence. A goal of make alone, such as `make test`, is no example: tools/checks/test_documents.py looks for it.
+# A command within a sentence. A goal of make alone, such as `make test`, is no example:
+# tools/checks/test_documents.py looks for it.
 INLINE = re.compile(
-    r"(?<!`)`((?:\w+=\S+ )*(?:python3 -m|/usr/bin/python3 [^`]|bin/\w+ [^`]|make demo|bench/out/\w+ |c?c(?:\+\+)? -|apt-get |pip install )[^`]*)`(?!`)"
+    r"(?<!`)`((?:\w+=\S+ )*(?:python3 -m|/usr/bin/python3 [^`]|bin/\w+ [^`]|make demo|bench/out/\w+ |c?c(?:\+\+)? "
+    r"-|apt-get |pip install )[^`]*)`(?!`)"
 )
 
 
 class Block(NamedTuple):
-    """A part of a page: `language` is that of its fence, `sh` without one, or `inline` if it is a command within a sentence."""
+    """A part of a page: `language` is that of its fence, `sh` without one, or `inline` if it is a command
+    within a sentence."""
 
     line: int
     language: str
@@ -53,7 +57,8 @@ def answer_of(block: Block) -> str:
 
 
 def printed_by(block: Block, following: Block | None) -> list[str]:
-    """The lines that a page says an example in Python prints: a block of `text` behind it, or the comments behind its calls of print."""
+    """The lines that a page says an example in Python prints: a block of `text` behind it, or the comments behind
+    its calls of print."""
     if following and following.language == "text":
         return following.text.splitlines()
     return re.findall(r"^ *print\(.*\) +# (.*)$", block.text, re.MULTILINE)

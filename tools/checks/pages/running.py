@@ -1,4 +1,5 @@
-"""Runs a page: its commands and its examples in Python, in the order in which they stand, in a folder that looks like the repository."""
+"""Runs a page: its commands and its examples in Python, in the order in which they stand, in a folder that looks
+like the repository."""
 
 from __future__ import annotations
 
@@ -23,15 +24,19 @@ from tools.places import OUT, PROGRAM, PYTHON_SOURCES, TOP
 # What the commands and examples of a page need of Python and of the system, beside a compiler.
 NEEDS: dict[str, tuple[str, ...]] = {
     "docs/gallery.md": ("numpy", "matplotlib"), "docs/matplotlib.md": ("numpy", "matplotlib"),
-    "docs/maps.md": ("numpy", "matplotlib", "PIL"), "docs/polygons.md": ("numpy", "PIL"), "docs/posters.md": ("numpy", "distributed"),
-    "docs/python.md": ("numpy",), "docs/rules.md": ("matplotlib",), "docs/shading.md": ("numpy",),
+    "docs/maps.md": ("numpy", "matplotlib", "PIL"), "docs/polygons.md": ("numpy", "PIL"),
+    "docs/posters.md": ("numpy", "distributed"), "docs/python.md": ("numpy",), "docs/rules.md": ("matplotlib",),
+    "docs/shading.md": ("numpy",),
 }
-# Pictures that a page's commands leave, and the pictures of the documents that have to be the same: whole, or in the colours of their shapes.
+# Pictures that a page's commands leave, and the pictures of the documents that have to be the same: whole, or in the
+# colours of their shapes.
 PICTURES = {
     "docs/canvas.md": (("canvas.png", "docs/canvas.png", ""),),
     "docs/gallery.md": (("inspect.svg", "docs/inspect.svg", ""),),
     "docs/python.md": (("discs.png", "docs/python.png", ""),),
-    "docs/rules.md": tuple((f"docs/{name}.svg", f"docs/{name}.svg", r"fill: #\w+") for name in ("first_list", "shared_edge", "top_left")),
+    "docs/rules.md": tuple(
+        (f"docs/{name}.svg", f"docs/{name}.svg", r"fill: #\w+") for name in ("first_list", "shared_edge", "top_left")
+    ),
 }
 
 
@@ -48,21 +53,26 @@ def steps_of(blocks: list[Block]) -> list[Step]:
     steps = []
     for block, following in zip(blocks, [*blocks[1:], None]):
         if block.language == "python":
-            steps.append(Step(block.line, "python", block.text, "".join(f"{line}\n" for line in printed_by(block, following))))
+            steps.append(
+                Step(block.line, "python", block.text, "".join(f"{line}\n" for line in printed_by(block, following)))
+            )
         printed = answer_of(block) if block.language == "console" else None
         steps += [Step(block.line, "sh", command, printed) for command in commands_of(block) if not reason_of(command)]
     return steps
 
 
 def programs_of(page: str) -> dict[str, str]:
-    """The programs that the page's commands call `program.c` and `program.cpp`: its examples, or the first one that is whole."""
+    """The programs that the page's commands call `program.c` and `program.cpp`: its examples, or the first
+    one that is whole."""
     found = {block.language: block.text for block in reversed(blocks_of(page)) if "int main" in block.text}
-    return {**found, **{language: examples.program_of(page, language) for of, language in examples.AROUND if of == page}}
+    return {
+        **found, **{language: examples.program_of(page, language) for of, language in examples.AROUND if of == page}
+    }
 
 
 def folder_for(page: str, python: str) -> str:
-    """A folder with links to all that stands at the top of the repository, a copy of docs/, and the page's programs. Commands may write
-    into it, and `python3` is the one that has what the page needs."""
+    """A folder with links to all that stands at the top of the repository, a copy of docs/, and the page's programs.
+    Commands may write into it, and `python3` is the one that has what the page needs."""
     name = os.path.basename(page).split(".")[0].lower()
     folder = os.path.join(OUT, "pages", name)
     shutil.rmtree(folder, ignore_errors=True)
@@ -142,7 +152,8 @@ def check_list(text: bytes) -> None:
 
 
 def check_lists(page: str) -> str:
-    """Each draw list of a page, in a block or in a table, is drawn as the rules say, or refused with the line that the page shows."""
+    """Each draw list of a page, in a block or in a table, is drawn as the rules say, or refused with the line
+    that the page shows."""
     lists = [block.text for block in blocks_of(page) if block.language == "json"]
     table = re.findall(r"^\| `([\[{].*?)` \| (?:`(trirast: .*?)`)?", places.text_of(page), re.MULTILINE)
     for text in lists:

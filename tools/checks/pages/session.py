@@ -2,8 +2,9 @@
 
     python3 session.py < steps.json > answers.json
 
-A step is a kind and a text: a command for the shell, or an example in Python, which goes on where the one before it ended. An answer is
-an exit status and what was printed. After a step that failed no other is taken. It stands alone, so that any Python can run it.
+A step is a kind and a text: a command for the shell, or an example in Python, which goes on where the one before it
+ended. An answer is an exit status and what was printed. After a step that failed no other is taken. It stands alone, so
+that any Python can run it.
 """
 
 import contextlib
@@ -33,7 +34,9 @@ def in_shell(command: str, environment: Dict[str, str]) -> Answer:
     exported = command.split("#")[0].strip().partition("export ")[2]
     if exported:
         name, _equals, value = exported.partition("=")
-        shown = subprocess.run(["bash", "-c", f'printf %s "{value}"'], env=environment, stdout=subprocess.PIPE, check=True)
+        shown = subprocess.run(
+            ["bash", "-c", f'printf %s "{value}"'], env=environment, stdout=subprocess.PIPE, check=True
+        )
         environment[name] = shown.stdout.decode()
         return 0, ""
     done = subprocess.run(["bash", "-c", command], env=environment, stdout=subprocess.PIPE, stderr=subprocess.PIPE)

@@ -1,10 +1,11 @@
-"""Runs the commands and examples of README.md and docs/ as they stand, and compares what they write with what the pages show.
+"""Runs the commands and examples of README.md and docs/ as they stand, and compares what they write with
+what the pages show.
 
     PYTHONPATH=python/src python3 -m pytest tools/checks/pages [-k PAGE]
 
-page.py has the list of pages, not_run.py what no test runs and why. Each page has a folder out/pages/NAME with links to the repository.
-A block without a language is commands for the shell, `console` a command and its output, `text` the output of the example above it, or
-no example. What is missing on a machine is skipped.
+page.py has the list of pages, not_run.py what no test runs and why. Each page has a folder out/pages/NAME with links to
+the repository. A block without a language is commands for the shell, `console` a command and its output, `text` the
+output of the example above it, or no example. What is missing on a machine is skipped.
 """
 
 from __future__ import annotations
@@ -40,7 +41,10 @@ def check_covered() -> None:
     for page in PAGES:
         for block in blocks_of(page):
             pair = page, block.language
-            must(block.language in RUN or pair in examples.AROUND or pair in ELSEWHERE, f"{page}:{block.line}: {block.language}")
+            must(
+                block.language in RUN or pair in examples.AROUND or pair in ELSEWHERE,
+                f"{page}:{block.line}: {block.language}",
+            )
 
 
 def check_not_run() -> None:

@@ -1,4 +1,5 @@
-"""A page in headless Chromium, by the DevTools protocol over a WebSocket (RFC 6455). Python's standard library alone."""
+"""A page in headless Chromium, by the DevTools protocol over a WebSocket (RFC 6455). Python's standard
+library alone."""
 
 from __future__ import annotations
 
@@ -55,7 +56,10 @@ class Page:
         self._last += 1
         text = json.dumps({"id": self._last, "method": method, "params": parameters}).encode()
         size = len(text)
-        short = struct.pack(">BB", TEXT_FRAME, MASKED | size) if size < 126 else struct.pack(">BBH", TEXT_FRAME, MASKED | 126, size)
+        short = (
+            struct.pack(">BB", TEXT_FRAME, MASKED | size)
+            if size < 126 else struct.pack(">BBH", TEXT_FRAME, MASKED | 126, size)
+        )
         self._socket.sendall(short + bytes(4) + text)
         while True:
             answer = json.loads(self._message())
@@ -116,19 +120,27 @@ def a_folder() -> Iterator[str]:
 
 @contextlib.contextmanager
 def page_of(address: str, width: int, height: int) -> Iterator[Page]:
-    """A file, or another address of this machine, opened in headless Chromium without a network. Raises MissingError without Chromium."""
+    """A file, or another address of this machine, opened in headless Chromium without a network. Raises MissingError
+    without Chromium."""
     program = chromium()
     if program is None:
         raise MissingError("Chromium")
     if ":" not in address:
         address = "file://" + os.path.abspath(address)
     with a_folder() as home:
-        options = ["--headless=new", "--no-sandbox", "--disable-gpu", "--hide-scrollbars", "--force-device-scale-factor=1",
-                   "--remote-debugging-port=0", "--host-resolver-rules=MAP * ~NOTFOUND, EXCLUDE 127.0.0.1", f"--user-data-dir={home}"]
-        with subprocess.Popen([program, *options, address], stdout=subprocess.DEVNULL, stderr=subprocess.DEVNULL) as browser:
+        options = [
+            "--headless=new", "--no-sandbox", "--disable-gpu", "--hide-scrollbars", "--force-device-scale-factor=1",
+            "--remote-debugging-port=0", "--host-resolver-rules=MAP * ~NOTFOUND, EXCLUDE 127.0.0.1",
+            f"--user-data-dir={home}",
+        ]
+        with subprocess.Popen(
+            [program, *options, address], stdout=subprocess.DEVNULL, stderr=subprocess.DEVNULL
+        ) as browser:
             try:
                 page = Page(port_in(os.path.join(home, "DevToolsActivePort"), browser))
-                page.call("Emulation.setDeviceMetricsOverride", width=width, height=height, deviceScaleFactor=1, mobile=False)
+                page.call(
+                    "Emulation.setDeviceMetricsOverride", width=width, height=height, deviceScaleFactor=1, mobile=False
+                )
                 yield page
             finally:
                 browser.terminate()

@@ -25,7 +25,8 @@ class Options:
     folder: str
     lists: int = 20
     dask_lists: int = 8
-    # Runs in which a worker is killed every three seconds, and of each kind of output runs that are killed at any moment.
+    # Runs in which a worker is killed every three seconds, and of each kind of output runs that are
+    # killed at any moment.
     kills: int = 1
     rounds: int = 1
 
@@ -55,7 +56,8 @@ def dask() -> Any:
 def local_cluster(workers: int) -> Iterator[str]:
     """The address of a cluster of processes on this machine."""
     with dask().LocalCluster(
-        n_workers=workers, threads_per_worker=1, processes=True, host="127.0.0.1", dashboard_address=None, silence_logs=50
+        n_workers=workers, threads_per_worker=1, processes=True, host="127.0.0.1", dashboard_address=None,
+        silence_logs=50,
     ) as cluster:
         yield cluster.scheduler_address
 

@@ -7,4 +7,6 @@ import pytest
 
 def pytest_addoption(parser: pytest.Parser) -> None:
     parser.addoption("--long", action="store_true", help="more lists, and more runs that are killed")
-    parser.addoption("--rounds", type=int, metavar="N", help="runs of each kind of output that are killed at any moment")
+    parser.addoption(
+        "--rounds", type=int, metavar="N", help="runs of each kind of output that are killed at any moment"
+    )

@@ -1,4 +1,5 @@
-"""Runs that are killed at any moment, once or twice: each --resume ends well, with the bytes of a run that was not stopped.
+"""Runs that are killed at any moment, once or twice: each --resume ends well, with the bytes of a run
+that was not stopped.
 
     PYTHONPATH=python/src python3 -m tools.checks.poster.kills --folder FOLDER [--rounds 4]
 
@@ -44,8 +45,14 @@ class Kills:
         if out and out.endswith(".pgm"):
             self.of_depths(scene)
         self.to = os.path.join(self.folder, "to")
-        names = [word for option, name in (("-o", out), ("--tiles", tiles)) if name for word in (option, os.path.join(self.to, name))]
-        self.command = [sys.executable, "-m", "trirast.poster", scene, "--window", str(WINDOW), "--workers", "2", *names]
+        names = [
+            word
+            for option, name in (("-o", out), ("--tiles", tiles)) if name
+            for word in (option, os.path.join(self.to, name))
+        ]
+        self.command = [
+            sys.executable, "-m", "trirast.poster", scene, "--window", str(WINDOW), "--workers", "2", *names
+        ]
         self.journal = f"{os.path.join(self.to, out or tiles or '')}.resume"
         self.pick = random.Random(f"kills {number}")
         self.stages: Dict[str, int] = {}
@@ -55,7 +62,9 @@ class Kills:
         self.wait_for(self.journal, child)
         drawing = time.monotonic()
         must(child.wait(SECONDS) == 0, "a run failed")
-        self.seconds, self.drawing, self.wanted = time.monotonic() - begun, time.monotonic() - drawing, folder_files(self.to)
+        self.seconds, self.drawing, self.wanted = (
+            time.monotonic() - begun, time.monotonic() - drawing, folder_files(self.to)
+        )
 
     def of_depths(self, path: str) -> None:
         """Makes of a file of arrays one that shows depths."""
@@ -69,7 +78,9 @@ class Kills:
         os.makedirs(self.to)
 
     def resume(self) -> None:
-        done = subprocess.run([*self.command, "--resume"], stdout=subprocess.DEVNULL, stderr=subprocess.PIPE, timeout=SECONDS)
+        done = subprocess.run(
+            [*self.command, "--resume"], stdout=subprocess.DEVNULL, stderr=subprocess.PIPE, timeout=SECONDS
+        )
         must(done.returncode == 0, f"status {done.returncode}: {done.stderr.decode()[-400:]}")
 
     def start(self, *words: str) -> subprocess.Popen[bytes]:
@@ -133,7 +144,10 @@ def check_kills(options: Options, number: int) -> str:
     for each in range(options.rounds):
         kills.round(each)
     shutil.rmtree(kills.folder)
-    return f"{options.rounds} rounds; killed with {', '.join(f'{stage}: {count}' for stage, count in sorted(kills.stages.items()))}"
+    return (
+        f"{options.rounds} rounds; killed with "
+        f"{', '.join(f'{stage}: {count}' for stage, count in sorted(kills.stages.items()))}"
+    )
 
 
 def cases(options: Options) -> Iterator[Case]:

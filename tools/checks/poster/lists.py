@@ -1,7 +1,7 @@
 """Generated draw lists by which posters are compared with the program. A seed gives the same lists each time.
 
-They are as large as a list can be, up to 4096 pixels, and have what crosses windows: triangles of all sizes, scissors, depth tests
-and blending, vertices outside of the picture and at both ends of the guard band.
+They are as large as a list can be, up to 4096 pixels, and have what crosses windows: triangles of all sizes, scissors,
+depth tests and blending, vertices outside of the picture and at both ends of the guard band.
 """
 
 from __future__ import annotations
@@ -45,7 +45,9 @@ def a_cloud(pick: random.Random, width: int, height: int, depths: list[int]) -> 
         ]
         if pick.random() < 0.3:
             # On the border of a pixel or through its centre, and often on a window's border.
-            place = [coordinate // 128 * 128 if pick.random() < 0.5 else coordinate // 16384 * 16384 for coordinate in place]
+            place = [
+                coordinate // 128 * 128 if pick.random() < 0.5 else coordinate // 16384 * 16384 for coordinate in place
+            ]
         vertices.append(place + generated_lists.some_values(pick, depths))
     return vertices
 

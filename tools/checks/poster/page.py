@@ -2,7 +2,8 @@
 
     PYTHONPATH=python/src python3 -m tools.checks.poster.page --folder FOLDER
 
-Where a pixel of a level is a pixel of the page, the screenshot has to have the level's pixels. The screenshots are left in FOLDER.
+Where a pixel of a level is a pixel of the page, the screenshot has to have the level's pixels. The
+screenshots are left in FOLDER.
 """
 
 from __future__ import annotations
@@ -84,7 +85,9 @@ def levels_of(pixels: Any) -> list[Any]:
 def wait_for_tiles(page: Page) -> None:
     """Waits until all tiles that the page shows are loaded."""
     end = time.monotonic() + SECONDS
-    while not page.run("[...document.images].length > 0 && [...document.images].every((i) => i.complete && i.naturalWidth)"):
+    while not page.run(
+        "[...document.images].length > 0 && [...document.images].every((i) => i.complete && i.naturalWidth)"
+    ):
         must(time.monotonic() < end, "tiles are not loaded")
         time.sleep(0.05)
 
@@ -118,7 +121,9 @@ def set_scale(page: Page, scale: float) -> None:
 def check_page(folder: str) -> str:
     """The page is looked at as it opens, zoomed by the wheel, dragged, and at three levels."""
     value = json.loads(text_of("examples", "mesh.json"))
-    pixels = np.frombuffer(program_file(value)[-3 * value["width"] * value["height"] :], np.uint8).reshape(value["height"], value["width"], 3)
+    pixels = np.frombuffer(program_file(value)[-3 * value["width"] * value["height"] :], np.uint8).reshape(
+        value["height"], value["width"], 3
+    )
     tiles = os.path.join(folder, "page")
     shutil.rmtree(tiles, ignore_errors=True)
     poster.draw_poster(poster.scene_of_list(json.dumps(value).encode()), tiles=tiles, window=200)
@@ -142,7 +147,10 @@ def check_page(folder: str) -> str:
         page.call("Input.dispatchKeyEvent", type="keyDown", key="0")
         must(abs(page.run("scale") - before) < 1e-9, "the key 0 does not show the whole poster")
         loaded = page.run("[...document.images].map((each) => each.src)")
-        must(bool(loaded) and all(name.startswith("file:///") for name in loaded), f"other files were loaded: {loaded[:3]}")
+        must(
+            bool(loaded) and all(name.startswith("file:///") for name in loaded),
+            f"other files were loaded: {loaded[:3]}",
+        )
     return f"{compared} pixels of screenshots compared"
 
 

@@ -38,7 +38,9 @@ WEIGHTS = (_threads.WEIGHT, 300)
 def draw(scene: poster.Scene, path: str, **how: Any) -> bytes:
     """The file of a poster. Nothing else is left beside it."""
     poster.draw_poster(scene, path, **how)
-    must(not os.path.exists(path + ".part") and not os.path.exists(path + ".resume"), "files are left beside the poster")
+    must(
+        not os.path.exists(path + ".part") and not os.path.exists(path + ".resume"), "files are left beside the poster"
+    )
     return content(path)
 
 
@@ -56,13 +58,19 @@ def check_list(seed: int, folder: str, scheduler: Optional[str], workers: int) -
     value, side = generated(seed)
     wanted = program_file(value)
     path = os.path.join(folder, "list.ppm")
-    scene = as_arrays(value, os.path.join(folder, "list.npz")) if seed % 2 else poster.scene_of_list(json.dumps(value).encode())
+    scene = (
+        as_arrays(value, os.path.join(folder, "list.npz"))
+        if seed % 2 else poster.scene_of_list(json.dumps(value).encode())
+    )
     with mock.patch.object(_threads, "WEIGHT", WEIGHTS[seed // 4 % 2]):
         got = draw(scene, path, window=side, workers=workers, scheduler=scheduler)
     must(got == wanted, f"seed {seed}, window {side}, {workers} workers, weight {WEIGHTS[seed // 4 % 2]}: other bytes")
     if seed % 5 == 0:
         png = draw(scene, os.path.join(folder, "list.png"), window=side, workers=workers, scheduler=scheduler)
-        must(png_pixels(png) == wanted[-len(png_pixels(png)) :], f"seed {seed}, window {side}: other pixels in the PNG file")
+        must(
+            png_pixels(png) == wanted[-len(png_pixels(png)) :],
+            f"seed {seed}, window {side}: other pixels in the PNG file",
+        )
 
 
 def check_by_threads(options: Options) -> str:
@@ -126,7 +134,10 @@ def check_wide(options: Options) -> str:
     for seed in range(count):
         pick = random.Random(f"wide {seed}")
         scene = a_wide_list(pick)
-        got = draw(poster.scene_of_list(json.dumps(scene).encode()), os.path.join(options.folder, "wide.ppm"), window=pick.choice((256, 300, 512)))
+        got = draw(
+            poster.scene_of_list(json.dumps(scene).encode()), os.path.join(options.folder, "wide.ppm"),
+            window=pick.choice((256, 300, 512)),
+        )
         header = b"P5\n%d %d\n65535\n" if scene.get("output") == "depth" else b"P6\n%d %d\n255\n"
         header %= (scene["width"], scene["height"])
         must(got.startswith(header), f"seed {seed}: another header")
@@ -149,7 +160,10 @@ def png_pixels(file: bytes) -> bytes:
     width, height, bits, colours = struct.unpack(">IIBB", file[16:26])
     at, stream = 8, b""
     while at < len(file):
-        (length,), kind, data = struct.unpack(">I", file[at : at + 4]), file[at + 4 : at + 8], file[at + 8 : at + 8 + struct.unpack(">I", file[at : at + 4])[0]]
+        (length,), kind, data = (
+            struct.unpack(">I", file[at : at + 4]), file[at + 4 : at + 8],
+            file[at + 8 : at + 8 + struct.unpack(">I", file[at : at + 4])[0]],
+        )
         must(struct.unpack(">I", file[at + 8 + length : at + 12 + length])[0] == zlib.crc32(kind + data), "a wrong CRC")
         stream += data if kind == b"IDAT" else b""
         at += 12 + length
@@ -185,7 +199,9 @@ def check_tile_folder(folder: str, pixels: Any) -> int:
         if level == 0:
             break
         pixels, level = mean_of_four(pixels), level - 1
-    there = {os.path.relpath(os.path.join(place, name), folder) for place, _, files in os.walk(folder) for name in files}
+    there = {
+        os.path.relpath(os.path.join(place, name), folder) for place, _, files in os.walk(folder) for name in files
+    }
     must(there == names, f"other files: {sorted(there ^ names)[:5]}")
     return len(names) - 1
 
@@ -193,7 +209,9 @@ def check_tile_folder(folder: str, pixels: Any) -> int:
 def check_tiles(options: Options) -> str:
     """Tiles of the finest level are the poster's pixels, and those of each coarser one the mean of four."""
     count = 0
-    for seed, (width, height, side) in enumerate(((1, 1, 64), (256, 256, 256), (257, 900, 100), (1500, 1100, 512), (2049, 77, 64))):
+    for seed, (width, height, side) in enumerate(
+        ((1, 1, 64), (256, 256, 256), (257, 900, 100), (1500, 1100, 512), (2049, 77, 64))
+    ):
         value = {**generated(f"tiles {seed}")[0], "width": width, "height": height, "output": "color"}
         folder = os.path.join(options.folder, "tiles")
         shutil.rmtree(folder, ignore_errors=True)
@@ -208,10 +226,17 @@ def check_tiles(options: Options) -> str:
 
 def check_guard_band(options: Options) -> None:
     """A triangle that cannot be moved into a window that it meets is refused by name, and no file is made."""
-    vertices = [[-8388608, 0, 0, 9, 9, 9, 9], [8388607, 0, 0, 9, 9, 9, 9], [8388607, 99999, 0, 9, 9, 9, 9], [0, 0, 0, 9, 9, 9, 9]]
-    value: DrawList = {"width": 4096, "height": 4096, "draws": [{"vertices": vertices, "triangles": [[3, 3, 3], [0, 1, 2]]}]}
+    vertices = [
+        [-8388608, 0, 0, 9, 9, 9, 9], [8388607, 0, 0, 9, 9, 9, 9], [8388607, 99999, 0, 9, 9, 9, 9],
+        [0, 0, 0, 9, 9, 9, 9],
+    ]
+    value: DrawList = {
+        "width": 4096, "height": 4096, "draws": [{"vertices": vertices, "triangles": [[3, 3, 3], [0, 1, 2]]}]
+    }
     path = os.path.join(options.folder, "refused.ppm")
-    must(draw(poster.scene_of_list(json.dumps(value).encode()), path, window=1024) == program_file(value), "other bytes")
+    must(
+        draw(poster.scene_of_list(json.dumps(value).encode()), path, window=1024) == program_file(value), "other bytes"
+    )
     os.remove(path)
     scene = poster.scene_of_list(json.dumps({**value, "width": 32768}).encode())
     try:

@@ -1,4 +1,5 @@
-"""Runs that are stopped, or lose workers or the scheduler: the poster has the same bytes, or is not there and can be resumed.
+"""Runs that are stopped, or lose workers or the scheduler: the poster has the same bytes, or is not
+there and can be resumed.
 
     PYTHONPATH=python/src python3 -m tools.checks.poster.stopped --folder FOLDER [--kills 1]
 
@@ -47,7 +48,10 @@ def write_scene(path: str, seed: int = 1, side: int = SIDE, triangles: int = TRI
     centres = pick.integers(0, 256 * side, (triangles, 1, 2))
     corners = np.clip(centres + pick.integers(-8192, 8192, (triangles, 3, 2)), -8388608, 8388607).reshape(-1, 2)
     vertices = np.concatenate((corners, pick.integers(0, 256, (3 * triangles, 5))), 1).astype(np.int32)
-    value = {"width": side, "height": side, "samples": 4, "draws": [{"triangles": triangles, "blend": "over", "depth_test": "not_equal"}]}
+    value = {
+        "width": side, "height": side, "samples": 4,
+        "draws": [{"triangles": triangles, "blend": "over", "depth_test": "not_equal"}],
+    }
     poster.save_arrays(path, vertices, np.arange(3 * triangles, dtype=np.int32).reshape(-1, 3), value)
 
 
@@ -167,7 +171,10 @@ def check_other_list(runs: Runs) -> None:
     done = subprocess.run([*command, "--resume"], capture_output=True, timeout=SECONDS)
     must(done.returncode == 1 and b"ResumeError" in done.stderr, f"status {done.returncode}: {done.stderr!r}")
     must(not os.path.exists(out), "a file stands under the final name")
-    must(runs.run("-o", out, "--resume") == 0 and content(out) == runs.wanted_of("ppm"), "the refused run spoiled what was left")
+    must(
+        runs.run("-o", out, "--resume") == 0 and content(out) == runs.wanted_of("ppm"),
+        "the refused run spoiled what was left",
+    )
 
 
 # ---- Dask
@@ -209,7 +216,8 @@ def check_killed_workers(runs: Runs, number: int) -> str:
 
 
 def kill_workers(child: subprocess.Popen[bytes], seconds: float, most: int = 1 << 30) -> int:
-    """Kills each worker of a run as soon as it is there, until the run ends or enough are killed. Returns how many were."""
+    """Kills each worker of a run as soon as it is there, until the run ends or enough are killed.
+    Returns how many were."""
     killed, end = 0, time.monotonic() + seconds
     while child.poll() is None and killed < most and time.monotonic() < end:
         for worker in workers_of(child.pid):
@@ -222,7 +230,10 @@ def kill_workers(child: subprocess.Popen[bytes], seconds: float, most: int = 1 <
 
 def must_be_quiet(status: int, errors: bytes) -> None:
     """A run passed, and wrote nothing but the line that each run ends with."""
-    must(status == 0 and errors.count(b"\n") == 1 and errors.endswith(b" pixels\n"), f"status {status}: {errors[-500:]!r}")
+    must(
+        status == 0 and errors.count(b"\n") == 1 and errors.endswith(b" pixels\n"),
+        f"status {status}: {errors[-500:]!r}",
+    )
 
 
 def check_killed_as_they_start(runs: Runs) -> str:
@@ -232,7 +243,9 @@ def check_killed_as_they_start(runs: Runs) -> str:
     command = [sys.executable, "-m", "trirast.poster", runs.small_scene, "--workers", "2", "-o"]
     must(subprocess.run([*command, wanted], timeout=SECONDS).returncode == 0, "the run failed")
     begun = time.monotonic()
-    with subprocess.Popen([*command, out, "--scheduler", "local"], stdout=subprocess.DEVNULL, stderr=subprocess.PIPE) as child:
+    with subprocess.Popen(
+        [*command, out, "--scheduler", "local"], stdout=subprocess.DEVNULL, stderr=subprocess.PIPE
+    ) as child:
         killed = kill_workers(child, SECONDS, KILLED)
         _, errors = child.communicate(timeout=SECONDS)
     must_be_quiet(child.returncode, errors)
@@ -242,13 +255,16 @@ def check_killed_as_they_start(runs: Runs) -> str:
 
 
 def check_left_behind(runs: Runs) -> None:
-    """An error that nobody asks for, of a future that is left behind to the end of the process: the run says nothing of it."""
+    """An error that nobody asks for, of a future that is left behind to the end of the process: the run
+    says nothing of it."""
     dask()
     out = runs.path("left_behind.ppm")
-    program = ("import asyncio, sys, trirast.poster._command as command\n"
-               "left_behind = asyncio.new_event_loop().create_future()\n"
-               "left_behind.set_exception(TimeoutError('Timeout'))\n"
-               f"sys.exit(command.main([{runs.small_scene!r}, '-o', {out!r}, '--scheduler', 'local', '--workers', '1']))")
+    program = (
+        "import asyncio, sys, trirast.poster._command as command\n"
+        "left_behind = asyncio.new_event_loop().create_future()\n"
+        "left_behind.set_exception(TimeoutError('Timeout'))\n"
+        f"sys.exit(command.main([{runs.small_scene!r}, '-o', {out!r}, '--scheduler', 'local', '--workers', '1']))"
+    )
     done = subprocess.run([sys.executable, "-c", program], capture_output=True, timeout=SECONDS)
     must_be_quiet(done.returncode, done.stderr)
     must(os.path.exists(out), "no file")
@@ -258,9 +274,11 @@ def check_none_starts(runs: Runs) -> str:
     """No worker lives: one line and status 1, within a bounded time, and no file."""
     dask()
     out = runs.path("none_starts.ppm")
-    program = ("import sys, trirast.poster._local_workers as local, trirast.poster._command as command\n"
-               "local.ENDED = 3\n"
-               f"sys.exit(command.main([{runs.small_scene!r}, '-o', {out!r}, '--scheduler', 'local', '--workers', '2']))")
+    program = (
+        "import sys, trirast.poster._local_workers as local, trirast.poster._command as command\n"
+        "local.ENDED = 3\n"
+        f"sys.exit(command.main([{runs.small_scene!r}, '-o', {out!r}, '--scheduler', 'local', '--workers', '2']))"
+    )
     begun = time.monotonic()
     with subprocess.Popen([sys.executable, "-c", program], stdout=subprocess.DEVNULL, stderr=subprocess.PIPE) as child:
         try:
@@ -343,7 +361,9 @@ def check_hung_scheduler(runs: Runs) -> None:
         program = ("import sys, trirast.poster._dask as engine, trirast.poster._command as command\n"
                    "engine.ANSWER = engine.COME_BACK = 3\n"
                    f"sys.exit(command.main([{runs.scene!r}, '-o', {out!r}, '--scheduler', {address!r}]))")
-        with subprocess.Popen([sys.executable, "-c", program], stdout=subprocess.DEVNULL, stderr=subprocess.PIPE) as child:
+        with subprocess.Popen(
+            [sys.executable, "-c", program], stdout=subprocess.DEVNULL, stderr=subprocess.PIPE
+        ) as child:
             wait_for(lambda: lines_of(out + ".resume") > 3, child)
             scheduler.send_signal(signal.SIGSTOP)
             _, errors = child.communicate(timeout=SECONDS)
@@ -360,7 +380,9 @@ def check_lost_for_good(runs: Runs) -> str:
                    "engine.window_pixels, engine.SENT = (lambda part: os._exit(1)), 2\n"
                    f"sys.exit(command.main([{runs.scene!r}, '-o', {out!r}, '--scheduler', {address!r}]))")
         done = subprocess.run([sys.executable, "-c", program], capture_output=True, timeout=SECONDS)
-    must(done.returncode == 1 and b"WorkerLostError" in done.stderr, f"status {done.returncode}: {done.stderr[-500:]!r}")
+    must(
+        done.returncode == 1 and b"WorkerLostError" in done.stderr, f"status {done.returncode}: {done.stderr[-500:]!r}"
+    )
     must(not os.path.exists(out), "a file stands under the final name")
     return done.stderr.decode().splitlines()[-1][:100]
 
@@ -370,7 +392,10 @@ def check_no_scheduler(runs: Runs) -> None:
     dask()
     command = runs.command("-o", runs.path("none.ppm"), "--scheduler", f"tcp://127.0.0.1:{a_free_port()}")
     done = subprocess.run(command, capture_output=True, timeout=SECONDS)
-    must(done.returncode == 1 and b"SchedulerLostError" in done.stderr, f"status {done.returncode}: {done.stderr[-500:]!r}")
+    must(
+        done.returncode == 1 and b"SchedulerLostError" in done.stderr,
+        f"status {done.returncode}: {done.stderr[-500:]!r}",
+    )
 
 
 def cases(options: Options) -> Iterator[Case]:

@@ -154,10 +154,13 @@ void draw_triangle(const trirast_canvas &canvas, const trirast_draw &draw, const
 }
 
 // One draw of triangles, with indices of 32 bits.
-trirast_status draw_batch(const trirast_canvas &canvas, const trirast_proved_batch &batch, const std::uint32_t *first_id) {
+trirast_status draw_batch(const trirast_canvas &canvas, const trirast_proved_batch &batch,
+                          const std::uint32_t *first_id) {
     const auto *vertices = static_cast<const trirast_vertex *>(batch.vertices);
     const auto *indices = static_cast<const std::uint32_t *>(batch.indices);
-    if (batch.draw_count != 1 || (batch.vertex_stride != 0 && batch.vertex_stride != 16) || batch.in_order != 0 || batch.index_size == 2) return TRIRAST_STATUS_BAD_STRIDE;
+    if (batch.draw_count != 1 || (batch.vertex_stride != 0 && batch.vertex_stride != 16) || batch.in_order != 0 ||
+        batch.index_size == 2)
+        return TRIRAST_STATUS_BAD_STRIDE;
     for (std::size_t k = 0; k + 2 < batch.index_count; k += 3) {
         const std::uint32_t id = first_id ? *first_id + static_cast<std::uint32_t>(k / 3) : 0;
         draw_triangle(canvas, batch.draws[0], vertices[indices[k]], vertices[indices[k + 1]], vertices[indices[k + 2]],
@@ -196,8 +199,8 @@ trirast_status trirast_proved_canvas_draw(trirast_canvas *canvas, const trirast_
     return draw_batch(*canvas, *batch, nullptr);
 }
 
-trirast_status trirast_proved_canvas_draw_ids(trirast_canvas *canvas, const trirast_proved_batch *batch, uint32_t first_id,
-                                              trirast_error *) {
+trirast_status trirast_proved_canvas_draw_ids(trirast_canvas *canvas, const trirast_proved_batch *batch,
+                                              uint32_t first_id, trirast_error *) {
     return draw_batch(*canvas, *batch, &first_id);
 }
 

@@ -1,4 +1,5 @@
-"""Checks of the page besides random figures: its size, links, fields, draw lists, the examples, narrow and dark views, old browsers."""
+"""Checks of the page besides random figures: its size, links, fields, draw lists, the examples, narrow and dark
+views, old browsers."""
 
 from __future__ import annotations
 
@@ -19,8 +20,14 @@ MAX_BYTES = 350_000
 PHONE = (390, 844)
 MAX_FUNCTION_LINES = 40
 SIGNS = {"+": "1", "0": "0", "−": "-1"}
-LINK = "A=300,400&B=2500,300&C=200,2600&D=2700,2900&samples=1&cull=back&turned=yes&diagonal=AD&primitives=quad&scissor=1,2,9,11&at=5,6,0"
-ODD_LINKS = ("A=1,2", "A=x,y&samples=3&cull=all&scissor=1,2,3&at=99,99,99", "A=99999999,-99999999", "%%%", "a&&=&=,", "tab=examples&example=toString")
+LINK = (
+    "A=300,400&B=2500,300&C=200,2600&D=2700,2900&samples=1&cull=back&turned=yes&diagonal=AD"
+    "&primitives=quad&scissor=1,2,9,11&at=5,6,0"
+)
+ODD_LINKS = (
+    "A=1,2", "A=x,y&samples=3&cull=all&scissor=1,2,3&at=99,99,99", "A=99999999,-99999999", "%%%", "a&&=&=,",
+    "tab=examples&example=toString",
+)
 # A list is drawn anew here, by the page's own modules, so that all of a depth's bits are seen.
 DRAW = """(async () => {
   const { pixelsOf } = await import('./draw_list.js');
@@ -47,7 +54,9 @@ def check_size() -> str:
 
 def check_functions(name: str, text: str) -> None:
     """Each function, at the top of a file or a class, ends within some lines, at a brace under its first line."""
-    for found in re.finditer(r"^( {0,2})(?:(?:export |async )*function |(?:static |async )*[#\w]+\().*\{\n", text, re.MULTILINE):
+    for found in re.finditer(
+        r"^( {0,2})(?:(?:export |async )*function |(?:static |async )*[#\w]+\().*\{\n", text, re.MULTILINE
+    ):
         lines = text[found.end() :].split(f"\n{found[1]}}}")[0].count("\n") + 3
         must(lines <= MAX_FUNCTION_LINES, f"{name}: {found[0].strip()} has {lines} lines")
 
@@ -85,7 +94,10 @@ def wait(explorer: Explorer, holds: str) -> None:
 
 def wait_for_cards(explorer: Explorer) -> None:
     """Waits until each example is drawn."""
-    there = "Object.keys(page.examples.lists).every((name) => document.querySelector(`#gallery [data-name=${name}][data-drawn]`))"
+    there = (
+        "Object.keys(page.examples.lists).every((name) => document.querySelector(`#gallery "
+        "[data-name=${name}][data-drawn]`))"
+    )
     wait(explorer, f"page.examples.chosen && {there}")
 
 
@@ -103,12 +115,18 @@ def check_controls(explorer: Explorer, address: str) -> str:
     for label, value in (("x of A", 777), ("y of D", -100), ("right edge of the scissor", 13)):
         set_field(explorer, label, value)
     figure = figure_in(explorer.page.run("page.text()"))
-    must(figure.points[0][0] == 777 and figure.points[3][1] == -100 and (figure.scissor or ())[2] == 13, f"fields made {figure}")
+    must(
+        figure.points[0][0] == 777 and figure.points[3][1] == -100 and (figure.scissor or ())[2] == 13,
+        f"fields made {figure}",
+    )
     check_shown(explorer)
     switches = explorer.page.run("[...document.querySelectorAll('#switches input')].map((e) => [e.name, e.value])")
     for name, value in switches:
         explorer.page.run(f"document.querySelector('#switches input[name={name}][value=\"{value}\"]').click()")
-        must(explorer.page.run(f"document.querySelector('#switches input[name={name}]:checked').value") == value, f"{name} is not {value}")
+        must(
+            explorer.page.run(f"document.querySelector('#switches input[name={name}]:checked').value") == value,
+            f"{name} is not {value}",
+        )
         check_shown(explorer)
     figures = explorer.page.run("[...document.getElementById('shown').options].map((e) => e.value).filter(Boolean)")
     for name in figures:
@@ -122,19 +140,29 @@ def check_chosen(explorer: Explorer, address: str) -> str:
     """Keys and the mouse choose a sample, and the tables say of it what the grid does."""
     explorer.load(address)
     explorer.page.run("document.getElementById('grid').focus()")
-    for key, place in (("ArrowRight", [8, 4, 0]), ("ArrowDown", [8, 5, 0]), (" ", [8, 5, 1]), ("ArrowLeft", [7, 5, 1]), ("ArrowUp", [7, 4, 1])):
+    for key, place in (
+        ("ArrowRight", [8, 4, 0]), ("ArrowDown", [8, 5, 0]), (" ", [8, 5, 1]), ("ArrowLeft", [7, 5, 1]),
+        ("ArrowUp", [7, 4, 1]),
+    ):
         explorer.key(key)
         must(explorer.page.run("page.figure.chosen") == place, f"{key} chose {explorer.page.run('page.figure.chosen')}")
     explorer.key("Tab")
-    must(explorer.page.run("document.activeElement.dataset.name") == "A", "Tab does not go from the grid to the first vertex")
+    must(
+        explorer.page.run("document.activeElement.dataset.name") == "A",
+        "Tab does not go from the grid to the first vertex",
+    )
     sample = "document.querySelector('[data-at=\"11,5,2\"]')"
-    x, y, width, height = explorer.page.run(f"['x', 'y', 'width', 'height'].map((key) => {sample}.getBoundingClientRect()[key])")
+    x, y, width, height = explorer.page.run(
+        f"['x', 'y', 'width', 'height'].map((key) => {sample}.getBoundingClientRect()[key])"
+    )
     for kind in ("mousePressed", "mouseReleased"):
         explorer.page.mouse(kind, x + width / 2, y + height / 2, button="left", clickCount=1)
     must(explorer.page.run("page.figure.chosen") == [11, 5, 2], "a click chose another sample")
     texts = explorer.page.run("[...document.querySelectorAll('#edges .sign')].map((each) => each.textContent)")
     signs, wanted = [SIGNS[text] for text in texts], explorer.page.run(f"{sample}.dataset.signs")
-    must(wanted == ";".join(",".join(signs[k : k + 3]) for k in (0, 3)), f"the table has {signs}, and the grid {wanted}")
+    must(
+        wanted == ";".join(",".join(signs[k : k + 3]) for k in (0, 3)), f"the table has {signs}, and the grid {wanted}"
+    )
     return "six keys, a click, six signs"
 
 
@@ -143,10 +171,15 @@ def check_examples(explorer: Explorer, address: str) -> str:
     explorer.load(address, "tab=examples")
     wait_for_cards(explorer)
     names = explorer.page.run("Object.keys(page.examples.lists)")
-    must(sorted(f"examples/{name}.json" for name in names) == places.files("examples", "*.json"), f"the page has {names}")
+    must(
+        sorted(f"examples/{name}.json" for name in names) == places.files("examples", "*.json"), f"the page has {names}"
+    )
     for name in names:
         explorer.page.run(f"document.querySelector('#gallery [data-name={name}]').click()")
-        drawn = {key: base64.b64decode(text) for key, text in explorer.page.run(DRAW.replace("NAME", json.dumps(name))).items()}
+        drawn = {
+            key: base64.b64decode(text)
+            for key, text in explorer.page.run(DRAW.replace("NAME", json.dumps(name))).items()
+        }
         picture = picture_file.decode(run_program(json.loads(places.text_of("examples", f"{name}.json"))).output)
         check_example(name, picture, drawn)
     explorer.must_be_silent()
@@ -167,7 +200,10 @@ def check_example(name: str, picture: picture_file.PictureFile, drawn: dict[str,
 
 def set_view(explorer: Explorer, size: tuple[int, int], theme: str, is_phone: bool) -> None:
     page = explorer.page
-    page.call("Emulation.setDeviceMetricsOverride", width=size[0], height=size[1], deviceScaleFactor=2 if is_phone else 1, mobile=is_phone)
+    page.call(
+        "Emulation.setDeviceMetricsOverride", width=size[0], height=size[1], deviceScaleFactor=2 if is_phone else 1,
+        mobile=is_phone,
+    )
     page.call("Emulation.setTouchEmulationEnabled", enabled=is_phone)
     page.call("Emulation.setEmulatedMedia", features=[{"name": "prefers-color-scheme", "value": theme}])
 
@@ -184,7 +220,9 @@ def check_view(explorer: Explorer, address: str, folder: str, theme: str, is_pho
             must(width <= there, f"{tab} {example} is {width} wide on {there}")
             explorer.screenshot(os.path.join(folder, f"{example or tab}_{theme}{'_phone' if is_phone else ''}.png"))
         explorer.load(address)
-        dark = sum(explorer.page.run("getComputedStyle(document.body).backgroundColor.match(/\\d+/g).map(Number)")) < 200
+        dark = (
+            sum(explorer.page.run("getComputedStyle(document.body).backgroundColor.match(/\\d+/g).map(Number)")) < 200
+        )
         must(dark == (theme == "dark"), "the other theme")
         check_shown(explorer)
         if is_phone:
@@ -209,12 +247,17 @@ def check_finger(explorer: Explorer) -> None:
 
 def check_lacking(explorer: Explorer, address: str, folder: str) -> str:
     """Without 64-bit memory the page says what it needs, and shows nothing else."""
-    script = explorer.page.call("Page.addScriptToEvaluateOnNewDocument", source="WebAssembly.validate = () => false;")["identifier"]
+    script = explorer.page.call(
+        "Page.addScriptToEvaluateOnNewDocument", source="WebAssembly.validate = () => false;"
+    )["identifier"]
     try:
         must(explorer.load(address) == "lacking", "the page starts without 64-bit memory")
         text = str(explorer.page.run("document.getElementById('lacking').innerText"))
         must("64-bit memory" in text and "Chrome" in text and "Firefox" in text, f"it says: {text}")
-        must(explorer.page.run("getComputedStyle(document.getElementById('explorer')).display") == "none", "the explorer is still shown")
+        must(
+            explorer.page.run("getComputedStyle(document.getElementById('explorer')).display") == "none",
+            "the explorer is still shown",
+        )
         explorer.screenshot(os.path.join(folder, "lacking.png"))
     finally:
         explorer.page.call("Page.removeScriptToEvaluateOnNewDocument", identifier=script)
@@ -226,5 +269,8 @@ def check_alone(explorer: Explorer, address: str) -> str:
     explorer.load(address, "tab=examples")
     wait(explorer, "page.examples.chosen")
     loaded: list[Any] = explorer.page.run("performance.getEntriesByType('resource').map((each) => each.name)")
-    must(bool(loaded) and all(name.startswith(address) or name.startswith("data:") for name in loaded), f"other files: {loaded}")
+    must(
+        bool(loaded) and all(name.startswith(address) or name.startswith("data:") for name in loaded),
+        f"other files: {loaded}",
+    )
     return f"{len(loaded)} files"

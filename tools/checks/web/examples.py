@@ -2,8 +2,8 @@
 
     python3 -m tools.checks.web.examples PATH
 
-The file is gzipped JSON: an object of objects with the keys `shows` and `list`, in the order of the table of that page. Two runs give
-the same bytes.
+The file is gzipped JSON: an object of objects with the keys `shows` and `list`, in the order of the table of that page.
+Two runs give the same bytes.
 """
 
 from __future__ import annotations
@@ -27,7 +27,9 @@ def examples() -> dict[str, dict[str, Any]]:
     there = {os.path.splitext(os.path.basename(path))[0] for path in files("examples", "*.json")}
     if set(table) != there:
         raise ValueError(f"examples/README.md and the folder differ: {sorted(set(table) ^ there)}")
-    return {name: {"shows": shows, "list": json.loads(text_of(EXAMPLES, f"{name}.json"))} for name, shows in table.items()}
+    return {
+        name: {"shows": shows, "list": json.loads(text_of(EXAMPLES, f"{name}.json"))} for name, shows in table.items()
+    }
 
 
 def main() -> None:

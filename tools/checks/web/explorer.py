@@ -34,7 +34,8 @@ READ = """(() => {
   const list = document.getElementById('list-text').value;
   document.getElementById('list').close();
   return {
-    text: page.text(), list, refused: document.getElementById('refused').hidden ? '' : document.getElementById('refused').textContent,
+    text: page.text(), list,
+    refused: document.getElementById('refused').hidden ? '' : document.getElementById('refused').textContent,
     samples: all('#grid .sample').map((e) => [e.dataset.at, e.getAttribute('cx') * 256, e.getAttribute('cy') * 256,
                                               e.dataset.covers, e.dataset.drawn, e.dataset.signs]),
     edges: all('#grid .edge').map((e) => [e.classList.contains('of1') ? 1 : 2, e.dataset.kind]),
@@ -51,7 +52,8 @@ HANDLE = """(() => {
   const box = group.querySelector('.grip').getBoundingClientRect();
   const at = [Math.round(box.x + box.width / 2), Math.round(box.y + box.height / 2)];
   const above = document.elementFromPoint(...at);
-  return { at, isFree: Boolean(above) && above.closest('.handle') === group, scale: document.getElementById('grid').getScreenCTM().a };
+  const isFree = Boolean(above) && above.closest('.handle') === group;
+  return { at, isFree, scale: document.getElementById('grid').getScreenCTM().a };
 })()"""
 
 
@@ -104,7 +106,8 @@ class Explorer:
     loads: int = 0
 
     def load(self, address: str, text: str = "") -> str:
-        """Opens an address with the text of a link, as another page than the one before. Returns `ready` or `lacking`."""
+        """Opens an address with the text of a link, as another page than the one before. Returns
+        `ready` or `lacking`."""
         self.loads += 1
         new = f"{address}?{self.loads}"
         self.page.call("Page.navigate", url=f"{new}#{text}")
@@ -141,7 +144,9 @@ class Explorer:
 
     def focus(self, name: str) -> None:
         """Puts the focus on a handle."""
-        self.page.run(f"[...document.querySelectorAll('.handle')].find((e) => e.dataset.name === {json.dumps(name)}).focus()")
+        self.page.run(
+            f"[...document.querySelectorAll('.handle')].find((e) => e.dataset.name === {json.dumps(name)}).focus()"
+        )
 
     def screenshot(self, path: str) -> None:
         with open(path, "wb") as file:

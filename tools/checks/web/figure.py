@@ -1,4 +1,5 @@
-"""Figures of the coverage explorer: their links, their draw lists, and what the program or the reference makes of each of their samples."""
+"""Figures of the coverage explorer: their links, their draw lists, and what the program or the reference makes of each
+of their samples."""
 
 from __future__ import annotations
 
@@ -41,7 +42,9 @@ class Figure:
     def text(self) -> str:
         """What stands behind the # of a link."""
         parts = {name: f"{x},{y}" for name, (x, y) in zip(NAMES, self.points)}
-        parts.update(samples=str(self.samples), cull=self.cull, turned="yes" if self.is_turned else "no", diagonal=self.diagonal)
+        parts.update(
+            samples=str(self.samples), cull=self.cull, turned="yes" if self.is_turned else "no", diagonal=self.diagonal
+        )
         parts["primitives"] = "quad" if self.is_quad else "triangles"
         if self.scissor:
             parts["scissor"] = ",".join(map(str, self.scissor))
@@ -68,7 +71,9 @@ class Figure:
             vertices = [vertex(x, y, 0, tints["quad"]) for x, y in self.points]
             drawn = {**state, "vertices": vertices, "quads": [[NAMES.index(name) for name in first + second[1]]]}
         else:
-            corners = [(point, tint) for triangle, tint in zip(self.triangles(), tints["triangles"]) for point in triangle]
+            corners = [
+                (point, tint) for triangle, tint in zip(self.triangles(), tints["triangles"]) for point in triangle
+            ]
             drawn = draw([vertex(x, y, 0, tint) for (x, y), tint in corners], [[0, 1, 2], [3, 4, 5]], **state)
         return draw_list(COLUMNS, ROWS, drawn, samples=self.samples, clear=tints["cell"])
 
@@ -83,15 +88,17 @@ def figure_in(text: str) -> Figure:
 
     scissor = given.get("scissor")
     return Figure(
-        points=tuple(point(name) for name in NAMES), samples=int(given.get("samples", "4")), cull=given.get("cull", "none"),
-        is_turned=given.get("turned") == "yes", diagonal=given.get("diagonal", "BC"), is_quad=given.get("primitives") == "quad",
+        points=tuple(point(name) for name in NAMES), samples=int(given.get("samples", "4")),
+        cull=given.get("cull", "none"), is_turned=given.get("turned") == "yes", diagonal=given.get("diagonal", "BC"),
+        is_quad=given.get("primitives") == "quad",
         scissor=tuple(map(int, scissor.split(","))) if scissor else None,
     )
 
 
 def some_points(pick: random.Random, samples: int) -> tuple[Point, ...]:
-    """Four vertices. Of three figures one has them on rows and columns of samples, so that samples lie on edges, and some of their edges
-    are horizontal. Of two figures one has them in the four quarters of the grid, so that most of these are convex."""
+    """Four vertices. Of three figures one has them on rows and columns of samples, so that samples lie on edges, and
+    some of their edges are horizontal. Of two figures one has them in the four quarters of the grid, so that most of
+    these are convex."""
     is_on_samples, is_spread = pick.randrange(3) == 0, pick.random() < 0.5
     points: list[Point] = []
     for name in NAMES:
@@ -110,13 +117,15 @@ def some_figure(pick: random.Random) -> Figure:
     samples = pick.choice(CANVAS.counts)
     columns, rows = sorted(pick.choices(range(COLUMNS + 1), k=2)), sorted(pick.choices(range(ROWS + 1), k=2))
     return Figure(
-        some_points(pick, samples), samples, pick.choice(("none", *CULLS)), pick.random() < 0.5, pick.choice(tuple(TRIANGLES)),
-        pick.random() < 0.3, (columns[0], rows[0], columns[1], rows[1]) if pick.random() < 0.3 else None,
+        some_points(pick, samples), samples, pick.choice(("none", *CULLS)), pick.random() < 0.5,
+        pick.choice(tuple(TRIANGLES)), pick.random() < 0.3,
+        (columns[0], rows[0], columns[1], rows[1]) if pick.random() < 0.3 else None,
     )
 
 
 def run_program(scene: DrawList) -> answers.Answer:
-    """The program's answer to a list. One with a number of samples that the program does not take is drawn by the reference."""
+    """The program's answer to a list. One with a number of samples that the program does not take is drawn
+    by the reference."""
     if scene.get("samples", 1) in LIST.counts:
         return answers.drawn(PROGRAM, encode(scene))
     try:
@@ -150,8 +159,10 @@ def drawn_samples(figure: Figure) -> list[list[str]]:
 def red_and_green(figure: Figure, sample_mask: int) -> DrawList:
     """The first triangle in red and the second in green, which do not hide each other, on black."""
     draws = [
-        draw([vertex(x, y) for x, y in corners], write=[k == 0, k == 1, False], cull=figure.cull, sample_mask=sample_mask,
-             scissor=list(figure.scissor or (0, 0, COLUMNS, ROWS)))
+        draw(
+            [vertex(x, y) for x, y in corners], write=[k == 0, k == 1, False], cull=figure.cull,
+            sample_mask=sample_mask, scissor=list(figure.scissor or (0, 0, COLUMNS, ROWS)),
+        )
         for k, corners in enumerate(figure.triangles())
     ]
     return draw_list(COLUMNS, ROWS, *draws, samples=figure.samples, clear=BLACK)
@@ -178,7 +189,9 @@ def wanted_samples(figure: Figure, is_refused: bool) -> dict[str, tuple[str, str
             for sample, (x, y) in enumerate(SAMPLES[figure.samples]):
                 point, pixel = (UNIT * column + x, UNIT * row + y), COLUMNS * row + column
                 signs = ";".join(signs_at(corners, point) for corners in figure.triangles())
-                wanted[f"{column},{row},{sample}"] = (covered[sample][pixel], "00" if is_refused else drawn[sample][pixel], signs)
+                wanted[f"{column},{row},{sample}"] = (
+                    covered[sample][pixel], "00" if is_refused else drawn[sample][pixel], signs
+                )
     return wanted
 
 

@@ -16,11 +16,23 @@ MUTANTS = (
     ("vertices snap to 1/128", "figure.js", "Math.round(value) || 0", "2 * Math.round(value / 2)"),
     ("a bottom edge is marked as a top one", "coverage.js", "py < ry ? 'top'", "py > ry ? 'top'"),
     ("a right edge is marked as a left one", "coverage.js", "Math.sign(excess) > 0", "Math.sign(excess) < 0"),
-    ("the scissor has its right edge inside", "draw_list.js", "scissor: draw.scissor ??", "scissor: draw.scissor?.map((edge, k) => edge + (k === 2)) ??"),
+    (
+        "the scissor has its right edge inside", "draw_list.js", "scissor: draw.scissor ??",
+        "scissor: draw.scissor?.map((edge, k) => edge + (k === 2)) ??",
+    ),
     ("a figure is never reversed", "figure.js", "turned === 'yes' ?", "turned === 'never' ?"),
-    ("signs are those of the other triangle", "grid.js", "of.map(({ values }) => values", "[...of].reverse().map(({ values }) => values"),
-    ("a list without its scissor is drawn and given away", "figure.js", "if (figure.scissor) draw.scissor", "if (false) draw.scissor"),
-    ("an arrow key moves by 1/16", "handle.js", "event.shiftKey ? UNIT : this.step", "event.shiftKey ? UNIT : 16 * this.step"),
+    (
+        "signs are those of the other triangle", "grid.js", "of.map(({ values }) => values",
+        "[...of].reverse().map(({ values }) => values",
+    ),
+    (
+        "a list without its scissor is drawn and given away", "figure.js", "if (figure.scissor) draw.scissor",
+        "if (false) draw.scissor",
+    ),
+    (
+        "an arrow key moves by 1/16", "handle.js", "event.shiftKey ? UNIT : this.step",
+        "event.shiftKey ? UNIT : 16 * this.step",
+    ),
     ("a sample is marked as drawn wherever it is covered", "grid.js", "bits(of, 'drawn')", "bits(of, 'covers')"),
 )
 

@@ -1,4 +1,5 @@
-"""Random figures in the explorer, moved by mouse and keys: each sample, edge and pixel that it shows against the program."""
+"""Random figures in the explorer, moved by mouse and keys: each sample, edge and pixel that it shows
+against the program."""
 
 from __future__ import annotations
 
@@ -11,7 +12,9 @@ from tools import picture_file
 from tools.checks.cases import CheckError, must
 from tools.reference.renderer import SAMPLES
 from tools.checks.web.explorer import SHIFT, Explorer
-from tools.checks.web.figure import COLUMNS, MARGIN, NAMES, ROWS, UNIT, Figure, figure_in, run_program, some_figure, wanted_edges, wanted_samples
+from tools.checks.web.figure import (
+    COLUMNS, MARGIN, NAMES, ROWS, UNIT, Figure, figure_in, run_program, some_figure, wanted_edges, wanted_samples
+)
 
 ARROWS = {"ArrowLeft": (-1, 0), "ArrowRight": (1, 0), "ArrowUp": (0, -1), "ArrowDown": (0, 1)}
 CORNERS = ("upper left", "lower right")
@@ -25,7 +28,8 @@ def tints_of(scene: Any) -> dict[str, Any]:
 
 
 def check_pixels(seen: Any, figure: Figure) -> bool:
-    """The draw list is the figure's, and the page has the program's pixels or its error. Returns whether the list is refused."""
+    """The draw list is the figure's, and the page has the program's pixels or its error. Returns whether
+    the list is refused."""
     scene = json.loads(seen["list"])
     must(scene == figure.draw_list(tints_of(scene)), f"another draw list: {json.dumps(scene)}")
     answer = run_program(scene)
@@ -49,7 +53,10 @@ def check_shown(explorer: Explorer) -> Counter[str]:
         shown = {at: (covers, drawn, signs) for at, _, _, covers, drawn, signs in seen["samples"]}
         must(shown.keys() == wanted.keys(), "other samples")
         differ = [at for at in wanted if shown[at] != wanted[at]]
-        must(not differ, f"{len(differ)} samples differ, first {differ[:1]}: {[(shown[at], wanted[at]) for at in differ[:1]]}")
+        must(
+            not differ,
+            f"{len(differ)} samples differ, first {differ[:1]}: {[(shown[at], wanted[at]) for at in differ[:1]]}",
+        )
         for at, x, y, *_ in seen["samples"]:
             column, row, sample = map(int, at.split(","))
             ox, oy = SAMPLES[figure.samples][sample]
@@ -131,6 +138,7 @@ def check_positions(explorer: Explorer, address: str, count: int, seed: Sequence
         seen["scissors"] += cut(explorer, pick, figure)
         seen += check_shown(explorer)
     return (
-        f"{count} figures, a vertex dragged in {seen['dragged']}, moved by keys in {seen['keys']}, {seen['scissors']} scissors moved, "
+        f"{count} figures, a vertex dragged in {seen['dragged']}, moved by keys in {seen['keys']}, "
+        f"{seen['scissors']} scissors moved, "
         f"{seen['refused']} refused; {seen['samples']} samples, {seen['drawn']} drawn, {seen['edge']} on an edge's line"
     )

@@ -31,7 +31,9 @@ TARGET = "wasm64-unknown-unknown"
 FIGURES, MANY_FIGURES = 60, 200
 VIEWS = (("light", False), ("dark", False), ("light", True), ("dark", True))
 # One mutant of each file is enough for the shorter form.
-SOME_MUTANTS = {next(mutant[0] for mutant in MUTANTS if mutant[1] == file) for file in {mutant[1] for mutant in MUTANTS}}
+SOME_MUTANTS = {
+    next(mutant[0] for mutant in MUTANTS if mutant[1] == file) for file in {mutant[1] for mutant in MUTANTS}
+}
 
 
 def what_is_missing(rt: str) -> str | None:
@@ -111,7 +113,8 @@ def test_no_other_server(page: Explorer, address: str) -> None:
 
 
 @pytest.mark.parametrize(("file", "old", "new"), [
-    pytest.param(*mutant[1:], id=mutant[0], marks=[] if mutant[0] in SOME_MUTANTS else [pytest.mark.long]) for mutant in MUTANTS
+    pytest.param(*mutant[1:], id=mutant[0], marks=[] if mutant[0] in SOME_MUTANTS else [pytest.mark.long])
+    for mutant in MUTANTS
 ])
 def test_mutant(page: Explorer, file: str, old: str, new: str) -> None:
     check_mutant(page, file, old, new)
