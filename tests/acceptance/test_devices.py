@@ -36,7 +36,8 @@ def run_limited(text: str, room: int, arguments: tuple[str, ...], **streams: Any
 
     # Python ignores the signal of a file that is too large, and so does then the program.
     return subprocess.run(
-        [PROGRAM, *arguments], input=text.encode(), timeout=60, preexec_fn=limit, restore_signals=False, check=False, **streams
+        [PROGRAM, *arguments], input=text.encode(), timeout=60, preexec_fn=limit, restore_signals=False, check=False,
+        **streams,
     )
 
 
@@ -79,8 +80,8 @@ def test_reports_each_read_that_fails() -> None:
 COLUMN = draw_list(1, 33, draw(f"[0,0,{WHITE}],[5120,0,{WHITE}],[0,5120,{WHITE}]"))
 COLUMN_FILE = colour_file(1, 33, "FFFFFF" * 19 + "000000" * 14)
 
-# 65 by 65 pixels, and depth 258 in the pixels of a triangle over the upper left half of 64 by 64 of them and a little more: row j has
-# it in pixels 0 to 63 - j, and else the clear depth.
+# 65 by 65 pixels, and depth 258 in the pixels of a triangle over the upper left half of 64 by 64 of them and a little
+# more: row j has it in pixels 0 to 63 - j, and else the clear depth.
 DEPTHS = (
     '{"width":65,"height":65,"output":"depth","draws":[{"depth_write":true,"vertices":'
     '[[0,0,258,0,0,0,0],[16640,0,258,0,0,0,0],[0,16640,258,0,0,0,0]],"triangles":[[0,1,2]]}]}'
@@ -105,7 +106,8 @@ def test_reports_how_much_went_out_at_each_byte(workers: str) -> None:
 
 @pytest.mark.parametrize("workers", ["1", "7"])
 def test_reports_how_much_went_out_of_a_larger_picture(workers: str) -> None:
-    """At the ends of the header and of the tile rows, and beside them: the header has 13 bytes, and a tile row 32 * 195."""
+    """At the ends of the header and of the tile rows, and beside them: the header has 13 bytes, and a
+    tile row 32 * 195."""
     assert len(HALF_FILE) == 12_688
     for room in (0, 1, 5, 12, 13, 14, 6252, 6253, 6254, 12_492, 12_493, 12_687):
         check_cut(HALF, HALF_FILE, room, "--workers", workers)

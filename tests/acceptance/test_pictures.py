@@ -153,7 +153,9 @@ def test_draws_in_list_order(draws: tuple[str, str], pixels: str) -> None:
 @pytest.mark.parametrize(
     ("colour", "pixels"),
     [
-        pytest.param("255,255,255,128", "808080 808080 000000  808080 000000 000000  000000 000000 000000", id="half white"),
+        pytest.param(
+            "255,255,255,128", "808080 808080 000000  808080 000000 000000  000000 000000 000000", id="half white"
+        ),
         pytest.param("255,255,255,0", BLACK, id="no alpha"),
         pytest.param("255,255,255,255", CORNER, id="full alpha"),
     ],

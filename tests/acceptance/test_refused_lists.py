@@ -35,10 +35,22 @@ MOST_BYTES = 67_108_864
         ),
         (b'{"width":1,"height":1,"draws":[{"vertices":[[0,0,0,0,0,0]],"triangles":[]}]}', "4 WrongKind in draw 0"),
         (b'{"width":1,"height":1,"draws":[{"vertices":[],"triangles":[],"cull":"Back"}]}', "5 OutOfRange in draw 0"),
-        (b'{"width":1,"height":1,"draws":[{"vertices":[[0,0,65536,0,0,0,0]],"triangles":[[0,0,1]]}]}', "5 OutOfRange in draw 0"),
-        (b'{"width":1,"height":1,"draws":[{"vertices":[[8388608,0,0,0,0,0,0]],"triangles":[]}]}', "5 OutOfRange in draw 0"),
-        (b'{"width":1,"height":1,"draws":[{"vertices":[[0,-8388609,0,0,0,0,0]],"triangles":[]}]}', "5 OutOfRange in draw 0"),
-        (b'{"width":1,"height":1,"draws":[{"vertices":[[0,0,0,0,0,0,0]],"triangles":[[0,0,1]]}]}', "6 BadIndex in draw 0"),
+        (
+            b'{"width":1,"height":1,"draws":[{"vertices":[[0,0,65536,0,0,0,0]],"triangles":[[0,0,1]]}]}',
+            "5 OutOfRange in draw 0",
+        ),
+        (
+            b'{"width":1,"height":1,"draws":[{"vertices":[[8388608,0,0,0,0,0,0]],"triangles":[]}]}',
+            "5 OutOfRange in draw 0",
+        ),
+        (
+            b'{"width":1,"height":1,"draws":[{"vertices":[[0,-8388609,0,0,0,0,0]],"triangles":[]}]}',
+            "5 OutOfRange in draw 0",
+        ),
+        (
+            b'{"width":1,"height":1,"draws":[{"vertices":[[0,0,0,0,0,0,0]],"triangles":[[0,0,1]]}]}',
+            "6 BadIndex in draw 0",
+        ),
     ],
 )
 def test_reports_the_first_fault_of_a_list(text: bytes, fault: str) -> None:
@@ -95,7 +107,8 @@ def test_refuses_lists_past_their_limits(counts: tuple[tuple[int, int], ...], fa
 
 def test_refuses_more_than_32768_quads() -> None:
     vertices = (
-        "[128,128,0,255,255,255,255],[640,128,0,255,255,255,255],[640,640,0,255,255,255,255],[128,640,0,255,255,255,255]"
+        "[128,128,0,255,255,255,255],[640,128,0,255,255,255,255],"
+        "[640,640,0,255,255,255,255],[128,640,0,255,255,255,255]"
     )
     quads = ",".join(["[0,1,2,3]"] * 32_769)
     text = f'{{"width":3,"height":3,"draws":[{{"vertices":[{vertices}],"quads":[{quads}]}}]}}'

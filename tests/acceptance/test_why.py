@@ -13,7 +13,8 @@ from tests.acceptance.program import call_why
 TABLE = b"""pixel (1, 0)
 sample 0 at (1.500, 0.500), in 1/256 pixel (384, 128)
   begins             (0, 0, 0) depth 65535
-  draw    0 triangle     0  drawn         fragment (255, 255, 255) alpha 255 depth 0; writes RGB-; now (255, 255, 255) depth 65535
+  draw    0 triangle     0  drawn         fragment (255, 255, 255) alpha 255 depth 0; \
+writes RGB-; now (255, 255, 255) depth 65535
   ends               (255, 255, 255) depth 65535
 colour (255, 255, 255)
 """
@@ -27,7 +28,8 @@ colour (0, 0, 0)
 """
 
 JSON = (
-    b'{"x":1,"y":0,"color":[255,255,255],"samples":[{"sample":0,"position":[384,128],"begin":{"color":[0,0,0],"depth":65535},'
+    b'{"x":1,"y":0,"color":[255,255,255],"samples":[{"sample":0,"position":[384,128],'
+    b'"begin":{"color":[0,0,0],"depth":65535},'
     b'"events":[{"draw":0,"triangle":0,"result":"drawn","reasons":[],'
     b'"fragment":{"color":[255,255,255],"alpha":255,"depth":0},"before":{"color":[0,0,0],"depth":65535},'
     b'"after":{"color":[255,255,255],"depth":65535}}],"end":{"color":[255,255,255],"depth":65535}}]}\n'
