@@ -1,8 +1,8 @@
 """Blend equations, by the words of the rule: integers of 0 to 255, each equation rounded once, to the nearest.
 
-A factor is a numerator over 255, and the second renderer says which. The numbers of factors and operations are Direct3D 11's. Whatever
-an equation reads of a stored pixel is what was stored before the draw. Rounding is a choice of this rule: Direct3D and Vulkan leave it
-open.
+A factor is a numerator over 255, and the second renderer says which. The numbers of factors and operations are Direct3D
+11's. Whatever an equation reads of a stored pixel is what was stored before the draw. Rounding is a choice of this
+rule: Direct3D and Vulkan leave it open.
 """
 
 from __future__ import annotations
@@ -56,7 +56,9 @@ def equation_of(draw: Draw) -> Equation:
 def factor(number: int, channel: int, source: Pixel, stored: Pixel, constant: Sequence[int]) -> int:
     """A factor of this channel, 3 for alpha, as a numerator over 255."""
     rules = OF_ALPHA if channel == blending.ALPHA else OF_COLORS
-    return rules[number](source[channel], source[blending.ALPHA], stored[channel], stored[blending.ALPHA], constant[channel])
+    return rules[number](
+        source[channel], source[blending.ALPHA], stored[channel], stored[blending.ALPHA], constant[channel]
+    )
 
 
 def channel_of(new: int, old: int, by: int, other: int, operation: int) -> int:
@@ -90,8 +92,8 @@ def box_of(vertices: Sequence[Vertex]) -> tuple[range, range]:
 
 
 def pixels(scene: DrawList) -> bytes:
-    """Red, green, blue and alpha of a list's pixels, row by row, one after another. Its triangles are pairs that make rectangles of whole
-    pixels, each of one colour."""
+    """Red, green, blue and alpha of a list's pixels, row by row, one after another. Its triangles are pairs that make
+    rectangles of whole pixels, each of one colour."""
     width = scene["width"]
     red, green, blue = scene.get("clear", (0, 0, 0))
     cleared: Pixel = (red, green, blue, scene.get("clear_alpha", 0))

@@ -2,8 +2,9 @@
 
     python3 -m conformance.compare A.json B.json [..] [--html page.html]
 
-The table has a row for each subject and number of samples, and a column for each file. What changed between the first file and the last
-is listed: subjects, and lists that differ in one of the two alone. Subjects whose lists are not the same are named, and not compared.
+The table has a row for each subject and number of samples, and a column for each file. What changed between the first
+file and the last is listed: subjects, and lists that differ in one of the two alone. Subjects whose lists are not the
+same are named, and not compared.
 
 Exit status 0: nothing changed. 1: something did. 2: a file has no results.
 """
@@ -84,10 +85,15 @@ def changes(files: Sequence[Json], rows: Sequence[Row]) -> list[str]:
     """What changed from the first file to the last, a line each."""
     lines = [f"{row.title} ({row.samples}): {row.change()}" for row in rows if row.change()]
     same = {row.name for row in rows if row.counts_the_same()}
-    first, last = ({case: n for case, n in cases_of(one).items() if case.rpartition("/")[0] in same} for one in (files[0], files[-1]))
+    first, last = (
+        {case: n for case, n in cases_of(one).items() if case.rpartition("/")[0] in same}
+        for one in (files[0], files[-1])
+    )
     lines += [f"new: {case} ({count:,} differ)" for case, count in last.items() if case not in first]
     lines += [f"differs no more: {case}" for case in first if case not in last]
-    return lines + [f"{row.title} ({row.samples}): {OTHER_LISTS}, not compared" for row in rows if not row.is_comparable()]
+    return lines + [
+        f"{row.title} ({row.samples}): {OTHER_LISTS}, not compared" for row in rows if not row.is_comparable()
+    ]
 
 
 def column_of(results: Json) -> str:
@@ -104,14 +110,19 @@ def counts(results: Json) -> str:
 
 def section_of(files: Sequence[Json]) -> Section:
     head = ("subject", "samples a pixel", "compared", *map(column_of, files))
-    return Section("Side by side", head, lambda _report: (), lambda row: any(cell not in ("0", ABSENT, NOT_ASKED) for cell in row[3:]))
+    return Section(
+        "Side by side", head, lambda _report: (),
+        lambda row: any(cell not in ("0", ABSENT, NOT_ASKED) for cell in row[3:]),
+    )
 
 
 def text(files: Sequence[Json]) -> str:
     rows, section = rows_of(files), section_of(files)
     lines = [*map(counts, files), "", *text_table(section, [row.cells() for row in rows]), ""]
     found = changes(files, rows)
-    return "\n".join([*lines, *(["What changed from the first to the last"] + found if found else ["Nothing changed."])])
+    return "\n".join(
+        [*lines, *(["What changed from the first to the last"] + found if found else ["Nothing changed."])]
+    )
 
 
 def page(files: Sequence[Json]) -> str:
@@ -120,11 +131,18 @@ def page(files: Sequence[Json]) -> str:
     parts = [f'<p class="{"differs" if cases_of(one) else "agrees"}">{escape(counts(one))}</p>' for one in files]
     for row in rows:
         shown = [
-            panel.of_characters(example["around"], f"{column_of(results)}: {example['list']}, sample {example['sample']}")
-            for results, subject in zip(files, row.found) if subject and subject["exact"] for example in subject["examples"][:1]
+            panel.of_characters(
+                example["around"], f"{column_of(results)}: {example['list']}, sample {example['sample']}"
+            )
+            for results, subject in zip(
+                files, row.found
+            ) if subject and subject["exact"] for example in subject["examples"][:1]
         ]
         if shown:
-            parts += [f"<h2>{escape(row.title)}, samples a pixel: {row.samples}</h2>", f'<div class="figures">{"".join(shown)}</div>']
+            parts += [
+                f"<h2>{escape(row.title)}, samples a pixel: {row.samples}</h2>",
+                f'<div class="figures">{"".join(shown)}</div>',
+            ]
     parts += ["<h2>All subjects</h2>", html_table(section, [row.cells() for row in rows])]
     return document("Drivers side by side", parts)
 

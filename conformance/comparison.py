@@ -1,8 +1,8 @@
 """A driver's pictures compared with the program's, or with another driver's, list by list, and what is counted of them.
 
-With several samples the samples are compared one by one: a list is drawn with one sample index left in its masks and a black clear, so
-that the resolved pixel is a share of that sample's colour, of four samples a quarter. The suites' exact lists have colours whose shares
-are integers.
+With several samples the samples are compared one by one: a list is drawn with one sample index left in its masks and a
+black clear, so that the resolved pixel is a share of that sample's colour, of four samples a quarter. The suites' exact
+lists have colours whose shares are integers.
 """
 
 from __future__ import annotations
@@ -71,8 +71,8 @@ def kind_of(expected: bytes, drawn: bytes) -> str:
 
 @dataclass
 class Example:
-    """A list of a subject whose worst pixel is shown, the sample that differs there and how, and both sides' pictures. The list is
-    the one that the rules draw."""
+    """A list of a subject whose worst pixel is shown, the sample that differs there and how, and both sides' pictures.
+    The list is the one that the rules draw."""
 
     title: str
     kind: str
@@ -90,14 +90,16 @@ class Example:
 
     def colours(self) -> tuple[bytes, bytes]:
         """The sample's colour by the rules and by the driver, a quarter of it if there are four samples."""
-        expected, drawn = (colour_at(planes[self.sample], self.scene["width"], self.place) for planes in (self.expected, self.drawn))
+        expected, drawn = (
+            colour_at(planes[self.sample], self.scene["width"], self.place) for planes in (self.expected, self.drawn)
+        )
         return expected, drawn
 
 
 @dataclass(frozen=True)
 class Case:
-    """What was seen of one list: its number in its subject, its title, and how many samples or channels differ, of channels those that
-    differ by more than is allowed."""
+    """What was seen of one list: its number in its subject, its title, and how many samples or channels differ, of
+    channels those that differ by more than is allowed."""
 
     number: int
     title: str
@@ -114,7 +116,7 @@ class Tally:
     compared: int = 0  # samples of exact subjects, channels of the others
     differ: int = 0
     kinds: Counter[str] = field(default_factory=Counter)  # of exact subjects
-    examples: dict[str, Example] = field(default_factory=dict)  # one of each kind, in the order in which they were found
+    examples: dict[str, Example] = field(default_factory=dict)  # one of each kind, as they were found
     errors: Counter[int] = field(default_factory=Counter)  # of subjects that are not exact, by size
     left_out: Counter[str] = field(default_factory=Counter)
     cases: list[Case] = field(default_factory=list)  # the lists that differ
@@ -136,8 +138,12 @@ class Tally:
         return self.first
 
     def named_examples(self) -> list[tuple[str, Example]]:
-        """The examples with their names: the subject's own for the first, and with the kind behind it for the others."""
-        return [(f"{self.name}-{kind}" if n else self.name, example) for n, (kind, example) in enumerate(self.examples.items())]
+        """The examples with their names: the subject's own for the first, and with the kind behind it
+        for the others."""
+        return [
+            (f"{self.name}-{kind}" if n else self.name, example)
+            for n, (kind, example) in enumerate(self.examples.items())
+        ]
 
     @property
     def agrees(self) -> bool:
@@ -163,8 +169,11 @@ def by_kind(differing: list[list[int]], expected: list[bytes], drawn: list[bytes
     return kinds
 
 
-def compare_exactly(tally: Tally, title: str, scene: DrawList, rules: DrawList, program: Renderer, driver: Renderer) -> None:
-    """Compares what the driver makes of a list with what the program does. The example is the list that the rules draw."""
+def compare_exactly(
+    tally: Tally, title: str, scene: DrawList, rules: DrawList, program: Renderer, driver: Renderer
+) -> None:
+    """Compares what the driver makes of a list with what the program does. The example is the list that
+    the rules draw."""
     drawn = planes(driver, scene)
     expected = planes(program, scene)
     differing = [pixels_that_differ(*pair) for pair in zip(expected, drawn)]
@@ -176,7 +185,9 @@ def compare_exactly(tally: Tally, title: str, scene: DrawList, rules: DrawList, 
             tally.examples[kind] = Example(title, kind, rules, *worst(pixels), expected, drawn)
 
 
-def compare_values(tally: Tally, title: str, scene: DrawList, rules: DrawList, program: Candidate, driver: Candidate) -> None:
+def compare_values(
+    tally: Tally, title: str, scene: DrawList, rules: DrawList, program: Candidate, driver: Candidate
+) -> None:
     """Compares channels: red, green and blue, or alpha too."""
     drawn, expected = ((one.pixels if tally.suite.has_alpha else one.picture)(scene) for one in (driver, program))
     channels = 4 if tally.suite.has_alpha else 3
@@ -208,8 +219,8 @@ def beyond(tally: Tally) -> int:
 def compare_suite(
     suite: Suite, samples: int, program: Candidate, driver: Candidate, bits: int = 8, limit: int | None = None
 ) -> Tally:
-    """The tally of one subject, or of its first lists, with positions of this number of subpixel bits. A list that one of
-    the two cannot be asked is left out."""
+    """The tally of one subject, or of its first lists, with positions of this number of subpixel bits. A list that one
+    of the two cannot be asked is left out."""
     tally = Tally(suite, samples)
     compare = compare_exactly if suite.exact else compare_values
     identity = hashlib.sha256()

@@ -1,7 +1,7 @@
 """The machine's OpenGL driver as a renderer of draw lists.
 
-A draw whose triangles have one colour each, or that of their first vertex, is shaded flat; any other is shaded at each sample. With
-`glClipControl` depths reach the driver as they do by Direct3D and Vulkan, from 0 to 1.
+A draw whose triangles have one colour each, or that of their first vertex, is shaded flat; any other is shaded at each
+sample. With `glClipControl` depths reach the driver as they do by Direct3D and Vulkan, from 0 to 1.
 """
 
 from __future__ import annotations
@@ -25,7 +25,9 @@ from tools.places import text_of
 FIRST_VERTEX, LOWER_LEFT, ZERO_TO_ONE = 0x8E4D, 0x8CA1, 0x935F
 DEPTH_COMPONENT32F, TRIANGLE_STRIP = 0x8CAC, 5
 # OpenGL's numbers of the factors and the operations of an equation.
-ROWS_OF_FACTORS = re.findall(r"^    ROW\((\d+), \d+, \w+, (\w+)\)", text_of("conformance", "rasterize", "factors.hpp"), re.MULTILINE)
+ROWS_OF_FACTORS = re.findall(
+    r"^    ROW\((\d+), \d+, \w+, (\w+)\)", text_of("conformance", "rasterize", "factors.hpp"), re.MULTILINE
+)
 FACTORS = {int(number): int(opengl, 16) for number, opengl in ROWS_OF_FACTORS}
 OPERATIONS = {ADD: 0x8006, SUBTRACT: 0x800A, REVERSE_SUBTRACT: 0x800B, MIN: 0x8007, MAX: 0x8008}
 
@@ -117,7 +119,9 @@ class Driver:
         frames.begin(viewport)
         frames.clear(scene.get("clear", (0, 0, 0)), scene.get("clear_depth", 65535))
         if "clear_alpha" in scene:
-            self.library.glClearColor(*(channel / 255 for channel in (*scene.get("clear", (0, 0, 0)), scene["clear_alpha"])))
+            self.library.glClearColor(
+                *(channel / 255 for channel in (*scene.get("clear", (0, 0, 0)), scene["clear_alpha"]))
+            )
             self.library.glClear(gl.COLOR_BUFFER_BIT)
         for draw in scene["draws"]:
             self.set_state(draw, samples)

@@ -1,8 +1,8 @@
 """Differences that are expected of a driver, in a file, so that only new ones turn its CI red.
 
-A line names lists: a subject with its samples a pixel, a slash, and the list's number or a pattern, as `scissor-4/12` or `scissor-*/*`.
-A number behind it is how many samples, or channels past what is allowed, may differ in each of these lists; without it any number may.
-What follows `#` is a comment.
+A line names lists: a subject with its samples a pixel, a slash, and the list's number or a pattern, as `scissor-4/12`
+or `scissor-*/*`. A number behind it is how many samples, or channels past what is allowed, may differ in each of these
+lists; without it any number may. What follows `#` is a comment.
 """
 
 from __future__ import annotations

@@ -1,4 +1,5 @@
-"""The history of a sample by the rules: what each triangle does to it, and why, as the program `trirast_why` reports it."""
+"""The history of a sample by the rules: what each triangle does to it, and why, as the program
+`trirast_why` reports it."""
 
 from __future__ import annotations
 

@@ -46,7 +46,9 @@ def with_edges(kind: type[renderer.Edge]) -> Callable[[], ContextManager[object]
     return lambda: mock.patch.object(renderer, "Edge", kind)
 
 
-def with_patterns(change: Callable[[tuple[renderer.Point, ...]], tuple[renderer.Point, ...]]) -> Callable[[], ContextManager[object]]:
+def with_patterns(
+    change: Callable[[tuple[renderer.Point, ...]], tuple[renderer.Point, ...]]
+) -> Callable[[], ContextManager[object]]:
     changed = {count: change(places) for count, places in renderer.SAMPLES.items() if count > 1}
     return lambda: mock.patch.dict(renderer.SAMPLES, changed)
 
@@ -105,7 +107,8 @@ def moved_scissor(draw: Draw) -> Draw:
 
 
 def scissor_by_samples(draw: Draw) -> Draw:
-    """A scissor that lets in samples of the right half of pixels on its left, and of the lower half of pixels above it."""
+    """A scissor that lets in samples of the right half of pixels on its left, and of the lower half of
+    pixels above it."""
     masks = {1 << sample: place for sample, place in enumerate(FOUR)}
     place = masks.get(draw.get("sample_mask", 15))
     if "scissor" not in draw or place is None:
@@ -148,8 +151,8 @@ def first_sample_everywhere(draw: Draw) -> Draw:
 
 
 def depths_elsewhere(place_of: Callable[[renderer.Point], renderer.Point]) -> Callable[[DrawList], DrawList]:
-    """Takes depths of sloping planes at a sample's other place: a draw becomes one for each sample, its plane moved. Its outline moves
-    too, by less than a pixel."""
+    """Takes depths of sloping planes at a sample's other place: a draw becomes one for each sample, its plane moved.
+    Its outline moves too, by less than a pixel."""
 
     def by_samples(draw: Draw) -> list[Draw]:
         if len({vertex[2] for vertex in draw["vertices"]}) <= 1:
@@ -254,8 +257,8 @@ def for_samples(count: int, change: Callable[[DrawList], DrawList]) -> Callable[
 
 @dataclass(frozen=True)
 class Mutant:
-    """What is otherwise: the list that is drawn, the list that is asked for, the setting, the setting's floating point depths, or the
-    rules themselves."""
+    """What is otherwise: the list that is drawn, the list that is asked for, the setting, the setting's floating point
+    depths, or the rules themselves."""
 
     change: Callable[[DrawList], DrawList] = lambda scene: scene
     asked: Callable[[DrawList], DrawList] = lambda scene: scene
@@ -294,7 +297,9 @@ MUTANTS: dict[str, Mutant] = {
     "floating point of 16 bits": Mutant(setting=lambda setting: replace(setting, depth_bits=16)),
     "depths mirrored": Mutant(for_samples(4, depths_elsewhere(mirrored))),
     "depths at the centre": Mutant(for_samples(4, depths_elsewhere(lambda _place: (128, 128)))),
-    "last vertex leads": Mutant(setting=lambda setting: replace(setting, leading=None if setting.leading is None else 2)),
+    "last vertex leads": Mutant(
+        setting=lambda setting: replace(setting, leading=None if setting.leading is None else 2)
+    ),
     "mask ignored": Mutant(mask_ignored),
     "mask of one sample ignored": Mutant(for_samples(1, mask_ignored)),
     "mask of one sample but 0 ignored": Mutant(for_samples(1, in_each_draw(mask_but_0_ignored))),

@@ -24,7 +24,8 @@ svg { border: 1px solid #999; background: #fff; max-width: 100%; } code { font-s
 .scissor { fill: none; stroke: #00796b; stroke-width: 1.5; stroke-dasharray: 5 3; }
 .key span { display: inline-block; width: 0.8em; height: 0.8em; border-radius: 50%; margin: 0 0.3em 0 1em; }
 """
-KEY = """<p class="key">Left and middle: a sample has the colour of its triangle, and is a ring if nothing is drawn there. Right:
+KEY = """<p class="key">Left and middle: a sample has the colour of its triangle, and is a ring if nothing is drawn \
+there. Right:
 <span style="background:#d62728"></span>drawn by the driver alone
 <span style="background:#1f3fd6"></span>missing <span style="background:#c21fd6"></span>of another triangle
 <span style="background:#bbbbbb"></span>equal. Lines are the list's triangles, dashed boxes its scissors, and the framed
@@ -33,7 +34,8 @@ pixel is the worst.</p>"""
 
 @dataclass(frozen=True)
 class Values:
-    """Values of one kind at samples against exact fractions: how many, the greatest error in its unit, how many are wrong, and why."""
+    """Values of one kind at samples against exact fractions: how many, the greatest error in its unit, how many
+    are wrong, and why."""
 
     title: str
     samples: int
@@ -156,11 +158,17 @@ def near_rows(report: Report) -> Iterator[Row]:
     for tally in report.near():
         greatest, allowed = max(tally.errors, default=0), tally.suite.tolerance(tally.samples)
         limit = "-" if allowed is None else str(allowed)
-        yield tally.suite.title, str(tally.samples), str(tally.lists), f"{tally.compared:,}", str(greatest), limit, histogram(tally)
+        yield tally.suite.title, str(tally.samples), str(tally.lists), f"{tally.compared:,}", str(
+            greatest
+        ), limit, histogram(tally)
 
 
-EXACT_HEAD = ("subject", "samples a pixel", "lists", "compared", "differ", "share", "of these", "first list that differs")
-NEAR_HEAD = ("subject", "samples a pixel", "lists", "channels", "greatest difference", "allowed", "channels by difference")
+EXACT_HEAD = (
+    "subject", "samples a pixel", "lists", "compared", "differ", "share", "of these", "first list that differs"
+)
+NEAR_HEAD = (
+    "subject", "samples a pixel", "lists", "channels", "greatest difference", "allowed", "channels by difference"
+)
 VALUES_HEAD = ("values", "samples a pixel", "compared", "greatest error", "wrong", "unit", "explained")
 ROUNDING_IS_OPEN = (
     "How an interpolated value and a blend are rounded is open in Direct3D 11, OpenGL and Vulkan: a channel that "
@@ -260,7 +268,10 @@ def html_table(section: Section, rows: Sequence[Row]) -> str:
 
 
 def html_history(found: History) -> str:
-    lines = [f"<p>By the rules, at {html.escape(found.position)}: from {html.escape(found.begin)} to {html.escape(found.end)}.</p>"]
+    lines = [
+        f"<p>By the rules, at {html.escape(found.position)}: from {html.escape(found.begin)} "
+        f"to {html.escape(found.end)}.</p>"
+    ]
     rows = (f"<tr>{''.join(map(cell, row))}</tr>" for row in found.rows)
     return "\n".join([*lines, "<table>", f"<tr>{''.join(cell(name, 'th') for name in HEAD)}</tr>", *rows, "</table>"])
 

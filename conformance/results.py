@@ -1,4 +1,5 @@
-"""What was measured of a driver as one JSON value, by docs/conformance.schema.json, so that other programs can read it."""
+"""What was measured of a driver as one JSON value, by docs/conformance.schema.json, so that other
+programs can read it."""
 
 from __future__ import annotations
 
@@ -44,15 +45,16 @@ def subject_of(report: Report, tally: Tally) -> Json:
 def as_json(report: Report) -> Json:
     """The results of one run."""
     return {
-        "format": FORMAT, "interface": report.interface, "device": report.device(), "said": [list(pair) for pair in report.said],
-        "compared_with": report.compared_with, "bits": report.bits, "samples_compared": report.samples_compared(),
+        "format": FORMAT, "interface": report.interface, "device": report.device(),
+        "said": [list(pair) for pair in report.said], "compared_with": report.compared_with, "bits": report.bits,
+        "samples_compared": report.samples_compared(),
         "samples_that_differ": sum(tally.differ for tally in report.differing()),
         "findings": [list(row) for row in report.findings],
         "subjects": [subject_of(report, tally) for tally in report.tallies],
         "values": [
             {
-                "title": row.title, "samples": row.samples, "values": row.values, "greatest": row.greatest, "wrong": row.wrong,
-                "unit": row.unit, "explained": row.explained, "refused": row.refused,
+                "title": row.title, "samples": row.samples, "values": row.values, "greatest": row.greatest,
+                "wrong": row.wrong, "unit": row.unit, "explained": row.explained, "refused": row.refused,
             }
             for row in report.values
         ],
@@ -87,5 +89,10 @@ def name_of(subject: Json) -> str:
 
 
 def cases_of(results: Json) -> dict[str, int]:
-    """The lists that differ, by their names, each with how many of its samples do, or of its channels by more than is allowed."""
-    return {f"{name_of(subject)}/{case['list']}": case["differ"] for subject in results["subjects"] for case in subject["cases"]}
+    """The lists that differ, by their names, each with how many of its samples do, or of its channels by
+    more than is allowed."""
+    return {
+        f"{name_of(subject)}/{case['list']}": case["differ"]
+        for subject in results["subjects"]
+        for case in subject["cases"]
+    }

@@ -1,13 +1,14 @@
-"""Draws suites of draw lists through the machine's OpenGL driver and through the program, and reports where they differ.
+"""Draws suites of draw lists through the machine's OpenGL driver and through the program, and reports
+where they differ.
 
-    python3 -m conformance.run [--driver llvmpipe|zink|default] [--suite NAME ..] [--bits N] [--html report.html] [--json results.json]
-        [--expected FILE]
+    python3 -m conformance.run [--driver llvmpipe|zink|default] [--suite NAME ..] [--bits N] [--html report.html]
+        [--json results.json] [--expected FILE]
 
 The report goes to standard output, and the first list of each subject that differs to conformance/out.
 docs/conformance.md says what is asked and what equal means. EGL and OpenGL are called by ctypes.
 
-Exit status 0: coverage agreed. 1: a sample differed; with --expected, one of a list that the file does not name. 2: no sample was
-compared, for example because there is no such driver or no program.
+Exit status 0: coverage agreed. 1: a sample differed; with --expected, one of a list that the file does not name. 2: no
+sample was compared, for example because there is no such driver or no program.
 """
 
 from __future__ import annotations
@@ -33,7 +34,9 @@ from tools.opengl.gl import MESA, Unavailable
 from tools.places import PROGRAM, TOP, WHY_PROGRAM, is_built
 
 LISTS = os.path.join(TOP, "conformance", "out")
-MUTANT_HELP = "compare with the rules as this mutant changes them, to see if it explains what differs: " + ", ".join(DRAWABLE)
+MUTANT_HELP = (
+    "compare with the rules as this mutant changes them, to see if it explains what differs: " + ", ".join(DRAWABLE)
+)
 BITS_HELP = "round the lists' positions to N subpixel bits first, for a driver that keeps fewer than 8 (default 8)"
 
 
@@ -53,11 +56,13 @@ def write_list(folder: str, name: str, example: Example) -> str:
 
 
 def measure(
-    program: Candidate, driver: Candidate, chosen: Sequence[suites.Suite], folder: str, bits: int = 8, limit: int | None = None,
-    why: str = WHY_PROGRAM, interface: str = "OpenGL",
+    program: Candidate, driver: Candidate, chosen: Sequence[suites.Suite], folder: str, bits: int = 8,
+    limit: int | None = None, why: str = WHY_PROGRAM, interface: str = "OpenGL",
 ) -> Report:
     """The report of a driver over these suites, or over the first lists of each."""
-    tallies = [compare_suite(suite, samples, program, driver, bits, limit) for suite in chosen for samples in suite.samples]
+    tallies = [
+        compare_suite(suite, samples, program, driver, bits, limit) for suite in chosen for samples in suite.samples
+    ]
     examples = [named for tally in tallies for named in tally.named_examples()]
     files = {name: write_list(folder, name, example) for name, example in examples}
     found = findings(program.through(PLAIN), driver.through(PLAIN))
@@ -65,13 +70,14 @@ def measure(
     missing = "" if os.access(why, os.X_OK) else NO_PROGRAM.format(os.path.relpath(why))
     with_whom = dict(program.said()).get("renderer", "the rules")
     return Report(
-        driver.said(), found, tallies, files, driver.left_out(), histories(why, coverage), missing, interface, with_whom, bits
+        driver.said(), found, tallies, files, driver.left_out(), histories(why, coverage), missing, interface,
+        with_whom, bits,
     )
 
 
 def publish(report: Report, options: argparse.Namespace) -> int:
-    """Prints the report, and writes it as one HTML file, as JSON, and as a file of expected differences where names are given. Returns
-    the exit status."""
+    """Prints the report, and writes it as one HTML file, as JSON, and as a file of expected differences where names are
+    given. Returns the exit status."""
     report.mutant = options.mutant
     # A file that cannot be read ends the run before anything is printed.
     allowed = expected.parse(text_of(options.expected)) if options.expected else None
@@ -108,7 +114,9 @@ def add_shared(parser: argparse.ArgumentParser, names: Sequence[str]) -> None:
     parser.add_argument("--bits", type=int, choices=range(9), default=8, metavar="N", help=BITS_HELP)
     parser.add_argument("--html", metavar="FILE", help="write the report as one HTML file too")
     parser.add_argument("--json", metavar="FILE", help="write the results as JSON too, by docs/conformance.schema.json")
-    parser.add_argument("--expected", metavar="FILE", help="differences that are expected: exit status 1 for others alone")
+    parser.add_argument(
+        "--expected", metavar="FILE", help="differences that are expected: exit status 1 for others alone"
+    )
     parser.add_argument("--write-expected", metavar="FILE", help="write what differs as such a file")
     parser.add_argument("--mutant", choices=DRAWABLE, default="", metavar="NAME", help=MUTANT_HELP)
     parser.add_argument("--program", default=PROGRAM, help="default bin/trirast")

@@ -12,8 +12,8 @@ OF_LISTS = (1, 4)
 
 
 def alone(scene: DrawList, sample: int, place: Sequence[int]) -> DrawList:
-    """The list with one sample whose pixels have the colours of this sample, which lies at this place of a pixel: all is moved until it
-    lies in the centre."""
+    """The list with one sample whose pixels have the colours of this sample, which lies at this place of a pixel: all
+    is moved until it lies in the centre."""
 
     def masked(draw: Draw) -> Draw:
         return {**draw, "sample_mask": draw.get("sample_mask", all_samples(scene)) >> sample & 1}
@@ -21,8 +21,11 @@ def alone(scene: DrawList, sample: int, place: Sequence[int]) -> DrawList:
     return {**move(each_draw(scene, masked), 128 - place[0], 128 - place[1]), "samples": 1}
 
 
-def resolved(scene: DrawList, patterns: Mapping[int, Sequence[Sequence[int]]], picture: Callable[[DrawList], bytes]) -> bytes:
-    """The picture of a list with any number of samples, by what draws lists with one and with four: the mean, to the nearest."""
+def resolved(
+    scene: DrawList, patterns: Mapping[int, Sequence[Sequence[int]]], picture: Callable[[DrawList], bytes]
+) -> bytes:
+    """The picture of a list with any number of samples, by what draws lists with one and with four: the
+    mean, to the nearest."""
     count = scene.get("samples", 1)
     if count in OF_LISTS:
         return picture(scene)

@@ -223,7 +223,9 @@ class OpenGl(unittest.TestCase):
 
     def test_states(self) -> None:
         self.assertEqual(DrawState.of({}), DrawState("none", "always", False, False, (True, True, True), 15, None))
-        state = DrawState.of({"cull": "back", "blend": "over", "depth_test": "less", "depth_write": True, "scissor": [0, 1, 2, 3]})
+        state = DrawState.of(
+            {"cull": "back", "blend": "over", "depth_test": "less", "depth_write": True, "scissor": [0, 1, 2, 3]}
+        )
         self.assertEqual(state, DrawState("back", "less", True, True, (True, True, True), 15, [0, 1, 2, 3]))
 
 
@@ -308,7 +310,8 @@ class Reports(unittest.TestCase):
             self.assertNotIn(word, shown)
         self.assertIn("One &lt;scissor&gt;", shown)
         self.assertNotIn("One <scissor>", shown)
-        self.assertEqual(shown.count("<svg"), 15)  # three pictures of each kind: two of the exact subjects, one of the near one
+        # Three pictures of each kind: two of the exact subjects, one of the near one.
+        self.assertEqual(shown.count("<svg"), 15)
 
     def test_what_is_open_and_what_is_left_out_is_said(self) -> None:
         with tempfile.TemporaryDirectory() as folder:

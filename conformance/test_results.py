@@ -1,5 +1,5 @@
-"""Tests of results as data: the JSON against its schema, the comparison of two files, files of expected differences, and answers that
-were damaged.
+"""Tests of results as data: the JSON against its schema, the comparison of two files, files of expected differences,
+and answers that were damaged.
 
     python3 -m pytest conformance/test_results.py
 """
@@ -26,7 +26,9 @@ from conformance.comparison import VALUE, compare_suite
 from conformance.d3d11 import pictures, run
 from conformance.d3d11.direct3d import asked
 from conformance.d3d11.stand_in import draw_by
-from conformance.d3d11.streams import PICTURE, Answer, Answers, read_answers, read_requests, write_answers, write_requests
+from conformance.d3d11.streams import (
+    PICTURE, Answer, Answers, read_answers, read_requests, write_answers, write_requests
+)
 from conformance.model import Model
 from conformance.report import Report, page
 from conformance.results import Json
@@ -43,7 +45,10 @@ def one_scissor(_rng: object, samples: int) -> Lists:
         yield f"a scissor from {left}", scene([draw(rectangle(0, 0, 8, 8), scissor=[left, 2, 5, 5])], samples, 8, 8)
 
 
-SUITES = (suites.Suite("one-scissor", "One scissor", one_scissor), suites.Suite("near", "Near", one_scissor, (1,), exact=False, tolerances=(1,)))
+SUITES = (
+    suites.Suite("one-scissor", "One scissor", one_scissor),
+    suites.Suite("near", "Near", one_scissor, (1,), exact=False, tolerances=(1,)),
+)
 
 
 def few_findings() -> ContextManager[object]:
@@ -127,7 +132,9 @@ class SideBySide(unittest.TestCase):
 
     def test_a_subject_that_one_file_lacks(self) -> None:
         less = {**self.RULES, "subjects": self.RULES["subjects"][1:]}
-        self.assertIn(("One scissor", "1", "128", "-", "12"), [row.cells() for row in compare.rows_of([less, self.MOVED])])
+        self.assertIn(
+            ("One scissor", "1", "128", "-", "12"), [row.cells() for row in compare.rows_of([less, self.MOVED])]
+        )
 
     def test_the_page_has_the_count_first_and_then_pictures(self) -> None:
         shown = compare.page([self.RULES, self.MOVED])
@@ -152,8 +159,8 @@ class ExpectedDifferences(unittest.TestCase):
 
     def test_only_new_ones_count(self) -> None:
         for text, new in (
-            ("scissor-4/*", {}), ("scissor-4/12 55\nscissor-4/3 2", {}), ("scissor-4/12 54\nscissor-4/3", {"scissor-4/12": 55}),
-            ("", self.CASES), ("scissor-1/*", self.CASES),
+            ("scissor-4/*", {}), ("scissor-4/12 55\nscissor-4/3 2", {}),
+            ("scissor-4/12 54\nscissor-4/3", {"scissor-4/12": 55}), ("", self.CASES), ("scissor-1/*", self.CASES),
         ):
             self.assertEqual(expected.judge(self.CASES, expected.parse(text)).new, new, text)
         self.assertEqual(expected.judge({}, expected.parse("scissor-4/3")).unused, ["scissor-4/3"])
@@ -181,15 +188,19 @@ class Equations(unittest.TestCase):
         for x, q in ((127, 0), (128, 1), (-128, 0), (255 * 255, 255), (2 * 255 * 255, 255), (-255 * 255, 0)):
             equation = OPERATIONS["add"] if x >= 0 else OPERATIONS["reverse_subtract"]
             one, two = (abs(x), 0) if abs(x) <= 255 else (255, 255 if abs(x) == 65025 else 510)
-            value = blending.channel_of(one, 0, 1, 0, equation) if two == 0 else blending.channel_of(one, 0, two, 0, equation)
+            value = (
+                blending.channel_of(one, 0, 1, 0, equation)
+                if two == 0 else blending.channel_of(one, 0, two, 0, equation)
+            )
             self.assertEqual(value, q, x)
 
     def test_each_factor(self) -> None:
         new, old, constant = (200, 100, 50, 64), (10, 20, 30, 230), (1, 2, 3, 4)
         values = {
-            "zero": (0, 0), "one": (255, 255), "source_color": (100, 64), "inverse_source_color": (155, 191), "source_alpha": (64, 64),
-            "inverse_source_alpha": (191, 191), "stored_alpha": (230, 230), "inverse_stored_alpha": (25, 25), "stored_color": (20, 230),
-            "inverse_stored_color": (235, 25), "source_alpha_saturated": (25, 255), "constant": (2, 4), "inverse_constant": (253, 251),
+            "zero": (0, 0), "one": (255, 255), "source_color": (100, 64), "inverse_source_color": (155, 191),
+            "source_alpha": (64, 64), "inverse_source_alpha": (191, 191), "stored_alpha": (230, 230),
+            "inverse_stored_alpha": (25, 25), "stored_color": (20, 230), "inverse_stored_color": (235, 25),
+            "source_alpha_saturated": (25, 255), "constant": (2, 4), "inverse_constant": (253, 251),
         }
         self.assertEqual(set(values), set(FACTORS))
         for name, pair in values.items():
@@ -257,7 +268,9 @@ class DepthEnds(unittest.TestCase):
     def test_a_triangle_is_cut(self) -> None:
         corners = [vertex((0, 0), z=-256), vertex((2560, 0), z=2304), vertex((0, 2560), z=-256)]
         (kept,) = within_depths(scene([draw([corners])], 1, 16, 16), False)["draws"]
-        self.assertEqual(sorted(tuple(corner[:3]) for corner in kept["vertices"]), [(256, 0, 0), (256, 2304, 0), (2560, 0, 2304)])
+        self.assertEqual(
+            sorted(tuple(corner[:3]) for corner in kept["vertices"]), [(256, 0, 0), (256, 2304, 0), (2560, 0, 2304)]
+        )
 
     def test_within_the_range_nothing_changes(self) -> None:
         listed = scene([draw(rectangle(0, 0, 8, 8, z=65535)), draw(rectangle(0, 0, 8, 8, z=0))], 1, 8, 8)
@@ -300,7 +313,11 @@ class Damaged(unittest.TestCase):
     def moved(whole: bytes, listed: list[bytes]) -> bytes:
         """The answers with the colour of one pixel of the first list at the pixel beside it."""
         answers = read_answers(whole, listed)
-        first = next(k for k, one in enumerate(answers.answers) if one.status == PICTURE and len(pictures.decode(one.data, 64)) == 192)
+        first = next(
+            k
+            for k, one in enumerate(answers.answers)
+            if one.status == PICTURE and len(pictures.decode(one.data, 64)) == 192
+        )
         picture = bytearray(pictures.decode(answers.answers[first].data, 64))
         at = 3 * (8 * 2 + 2)
         picture[at - 3 : at], picture[at : at + 3] = picture[at : at + 3], picture[at - 3 : at]

@@ -1,4 +1,5 @@
-"""A picture as runs: words of red, green, blue and one less than the number of pixels that have them, at most 256 in a word."""
+"""A picture as runs: words of red, green, blue and one less than the number of pixels that have them, at
+most 256 in a word."""
 
 from __future__ import annotations
 

@@ -14,7 +14,9 @@ EXE = os.path.join(TOP, "conformance", "out", "rasterize.exe")
 WINE_FOLDER = os.path.join(OUT, "wine")
 # -a takes a display that is free. Debian's `wine` starts the 64-bit program.
 WINE = ("xvfb-run", "-a", "wine")
-ENVIRONMENT = {"WINEPREFIX": WINE_FOLDER, "WINEDEBUG": "-all", "LIBGL_ALWAYS_SOFTWARE": "1", "WINEDLLOVERRIDES": "mscoree,mshtml="}
+ENVIRONMENT = {
+    "WINEPREFIX": WINE_FOLDER, "WINEDEBUG": "-all", "LIBGL_ALWAYS_SOFTWARE": "1", "WINEDLLOVERRIDES": "mscoree,mshtml="
+}
 MAX_SECONDS = 600
 
 
@@ -44,13 +46,17 @@ def draw(requests: bytes, arguments: Sequence[str]) -> bytes:
 
 
 def ran(arguments: Sequence[str], requests: bytes = b"", given: Mapping[str, str] | None = None) -> bytes:
-    """What a program writes to standard output, in this environment or in this process's own. Raises `CannotRun` with its line."""
+    """What a program writes to standard output, in this environment or in this process's own. Raises
+    `CannotRun` with its line."""
     try:
         run = subprocess.run(arguments, input=requests, capture_output=True, timeout=MAX_SECONDS, env=given)
     except (OSError, subprocess.TimeoutExpired) as error:
         raise CannotRun(str(error)) from None
     if run.returncode != 0:
         lines = run.stderr.decode(errors="replace").strip().splitlines()
-        said = [line for line in lines if line.startswith(("rasterize: ", "usage: "))] or lines[-1:] or ["it wrote no line"]
+        said = (
+            [line for line in lines if line.startswith(("rasterize: ", "usage: "))] or lines[-1:]
+            or ["it wrote no line"]
+        )
         raise CannotRun(f"{os.path.basename(arguments[0])} ended with status {run.returncode}: {said[-1]}")
     return run.stdout

@@ -12,7 +12,8 @@ from conformance.suites.setting import Setting, w_of
 from conformance.suites.shapes import all_samples, is_flat
 from tools.draw_list import Draw, DrawList, Vertex, triangles_of
 
-# What an answer has: resolved colours, each sample's colour, each sample's stored depth, or resolved colours with their alpha.
+# What an answer has: resolved colours, each sample's colour, each sample's stored depth, or resolved
+# colours with their alpha.
 RESOLVED, COLOURS, DEPTHS, PIXELS = range(4)
 # Bits of a head's fifth word. Requests with the second or the third one need a stream of version 2.
 ANTICLOCKWISE, HAS_MORE, HAS_EQUATIONS = 1, 2, 4
@@ -35,16 +36,19 @@ def signed(word: int) -> int:
 
 
 def head_words(scene: DrawList, setting: Setting, output: int) -> list[int]:
-    """Width, height, samples, bits of a depth; flags; the viewport's left, top, width, height in pixels, and its move in 1/256 pixel;
-    the clear colour and the clear depth; the count of draws. If the flags say so, two more: the output, and how many words a vertex
-    has, 4 or 5; and one more: the clear colour's alpha."""
+    """Width, height, samples, bits of a depth; flags; the viewport's left, top, width, height in pixels, and its move
+    in 1/256 pixel; the clear colour and the clear depth; the count of draws. If the flags say so, two more: the output,
+    and how many words a vertex has, 4 or 5; and one more: the clear colour's alpha."""
     width, height = scene["width"], scene["height"]
     across, down = (width, height) if setting.viewport is None else (setting.viewport, setting.viewport)
     corner = (-((across - width) // 2), -((down - height) // 2))
     clear = (*scene.get("clear", (0, 0, 0)), scene.get("clear_depth", 65535))
     target = (width, height, scene.get("samples", 1), setting.depth_bits)
     has_more = output != RESOLVED or setting.perspective
-    flags = ANTICLOCKWISE * setting.anticlockwise_front | HAS_MORE * has_more | HAS_EQUATIONS * has_equations(scene, setting)
+    flags = (
+        ANTICLOCKWISE * setting.anticlockwise_front | HAS_MORE * has_more
+        | HAS_EQUATIONS * has_equations(scene, setting)
+    )
     more = (output, VERTEX_WORDS + setting.perspective) if has_more else ()
     alpha = (scene.get("clear_alpha", 0),) if flags & HAS_EQUATIONS else ()
     return [*target, flags, *corner, across, down, *setting.moved, *clear, len(scene["draws"]), *more, *alpha]
@@ -58,18 +62,23 @@ def has_equations(scene: DrawList, setting: Setting) -> bool:
 def equation_words(draw: Draw, setting: Setting) -> list[int]:
     """Triangles or a strip; the six numbers of the blend equation, as Direct3D 11 has them; the constant colour."""
     *numbers, red, green, blue, alpha = equation_of(draw)
-    return [STRIP if setting.strips and "strip" in draw else TRIANGLES, *numbers, signed(red | green << 8 | blue << 16 | alpha << 24)]
+    return [
+        STRIP if setting.strips and "strip" in draw else TRIANGLES, *numbers,
+        signed(red | green << 8 | blue << 16 | alpha << 24),
+    ]
 
 
 def state_words(draw: Draw, scene: DrawList, setting: Setting, indices: int) -> list[int]:
-    """Culling, depth test, depth write, blending, write mask, sample mask, whether colours are interpolated, whether there is a
-    scissor, the scissor; the counts of vertices and of indices."""
+    """Culling, depth test, depth write, blending, write mask, sample mask, whether colours are interpolated, whether
+    there is a scissor, the scissor; the counts of vertices and of indices."""
     write = sum(1 << channel for channel, wanted in enumerate(draw.get("write", (True,) * 3)) if wanted) | ALPHA
     return [
-        CULLS.index(draw.get("cull", "none")), TESTS.index(draw.get("depth_test", "always")), int(draw.get("depth_write", False)),
-        int(draw.get("blend", "none") == "over"), write, draw.get("sample_mask", all_samples(scene)),
+        CULLS.index(draw.get("cull", "none")), TESTS.index(draw.get("depth_test", "always")),
+        int(draw.get("depth_write", False)), int(draw.get("blend", "none") == "over"), write,
+        draw.get("sample_mask", all_samples(scene)),
         int(setting.leading is None and not is_flat(draw)),
-        int("scissor" in draw), *draw.get("scissor", (0, 0, scene["width"], scene["height"])), len(draw["vertices"]), indices,
+        int("scissor" in draw), *draw.get("scissor", (0, 0, scene["width"], scene["height"])), len(draw["vertices"]),
+        indices,
     ]
 
 
@@ -174,5 +183,8 @@ def read(data: bytes) -> tuple[DrawList, Setting]:
         any("strip" in draw for draw in draws),
         "" if all(0 <= vertex[2] <= 65535 for draw in draws for vertex in draw["vertices"]) else "cut",
     )
-    scene = {"width": width, "height": height, "samples": samples, "clear": [red, green, blue], "clear_depth": depth, **alpha, "draws": draws}
+    scene = {
+        "width": width, "height": height, "samples": samples, "clear": [red, green, blue], "clear_depth": depth,
+        **alpha, "draws": draws,
+    }
     return scene, setting

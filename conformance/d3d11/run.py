@@ -4,13 +4,14 @@
     python3 -m conformance.d3d11.run --write requests.bin
     python3 -m conformance.d3d11.run --read answers.bin [--against others.bin]
 
-By itself it runs rasterize.exe, on Windows directly and elsewhere under Wine. With --write the requests go to a file, which
-rasterize.exe draws on any machine, and --read compares its answers, with the same --suite and --bits. With --against they are compared
-with other answers to the same requests, and not with the program. docs/conformance.md says what is asked and what equal means.
+By itself it runs rasterize.exe, on Windows directly and elsewhere under Wine. With --write the requests go to a file,
+which rasterize.exe draws on any machine, and --read compares its answers, with the same --suite and --bits. With
+--against they are compared with other answers to the same requests, and not with the program. docs/conformance.md says
+what is asked and what equal means.
 
-Exit status 0: coverage agreed, and values did within what Direct3D allows. 1: a sample differed. 2: no sample was compared; a line on
-standard error has the cause, for streams with the name of the error: `NotAStream`, `OtherVersion`, `OtherSuite`, `CutShort`,
-`BadChecksum`, `Malformed`.
+Exit status 0: coverage agreed, and values did within what Direct3D allows. 1: a sample differed. 2: no sample was
+compared; a line on standard error has the cause, for streams with the name of the error: `NotAStream`, `OtherVersion`,
+`OtherSuite`, `CutShort`, `BadChecksum`, `Malformed`.
 """
 
 from __future__ import annotations
@@ -78,7 +79,9 @@ class Black:
 def answered(options: argparse.Namespace, requests: Sequence[bytes]) -> Direct3D:
     """Direct3D's answers, from a file or by the program. Raises `StreamError`, `CannotRun` or `OSError`."""
     stream = write_requests(requests, version_of(requests))
-    drawn = read_or_drawn(options, lambda: process.draw(stream, process.command(options.exe, options.device, options.run)))
+    drawn = read_or_drawn(
+        options, lambda: process.draw(stream, process.command(options.exe, options.device, options.run))
+    )
     return Direct3D(requests, read_answers(drawn, requests))
 
 
@@ -117,7 +120,9 @@ def arguments() -> argparse.Namespace:
     parser.add_argument("--device", type=device, default="hardware", help="hardware, warp, or the number of an adapter")
     add_streams(parser)
     parser.add_argument("--exe", default=process.EXE, help="default conformance/out/rasterize.exe")
-    parser.add_argument("--run", metavar="COMMAND", help=f"what runs the .exe; default {' '.join(process.WINE)}, nothing on Windows")
+    parser.add_argument(
+        "--run", metavar="COMMAND", help=f"what runs the .exe; default {' '.join(process.WINE)}, nothing on Windows"
+    )
     add_shared(parser, NAMES)
     return parser.parse_args()
 

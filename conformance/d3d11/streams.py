@@ -1,13 +1,14 @@
 """The two streams, of requests and of answers, which one machine writes and another one reads.
 
-All numbers are little-endian words of 32 bits. A stream of requests: its magic of 8 bytes, the version, the suite's identity of 32
-bytes, the count of requests, and for each its count of words and these. A stream of answers: its magic, the version, the identity of
-the requests, their count, the count of bytes that follow and in these what the device says of itself; then for each request a status,
-a count of bytes and the bytes: 0 and a picture's runs, 1 and in UTF-8 why there is none, or 2 and a word for each sample. Both end in the mark `ENDS` and the CRC-32
-of all bytes before it. conformance/rasterize/streams.hpp is the other side.
+All numbers are little-endian words of 32 bits. A stream of requests: its magic of 8 bytes, the version, the suite's
+identity of 32 bytes, the count of requests, and for each its count of words and these. A stream of answers: its magic,
+the version, the identity of the requests, their count, the count of bytes that follow and in these what the device says
+of itself; then for each request a status, a count of bytes and the bytes: 0 and a picture's runs, 1 and in UTF-8 why
+there is none, or 2 and a word for each sample. Both end in the mark `ENDS` and the CRC-32 of all bytes before it.
+conformance/rasterize/streams.hpp is the other side.
 
-The identity is the SHA-256 of the requests, so that answers cannot be compared with another suite than they were made for. A magic
-has the bytes that a system changes where it takes a stream for text.
+The identity is the SHA-256 of the requests, so that answers cannot be compared with another suite than they were made
+for. A magic has the bytes that a system changes where it takes a stream for text.
 """
 
 from __future__ import annotations

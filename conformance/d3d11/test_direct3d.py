@@ -24,8 +24,8 @@ from conformance.d3d11.direct3d import Direct3D, asked, drawn_by
 from conformance.d3d11.run import Black, requests_of
 from conformance.d3d11.stand_in import draw_by
 from conformance.d3d11.streams import (
-    REFUSED, Answer, Answers, BadChecksum, CutShort, Malformed, NotAStream, OtherSuite, OtherVersion, StreamError, identity_of,
-    read_answers, read_requests, write_answers, write_requests,
+    REFUSED, Answer, Answers, BadChecksum, CutShort, Malformed, NotAStream, OtherSuite, OtherVersion, StreamError,
+    identity_of, read_answers, read_requests, write_answers, write_requests,
 )
 from conformance.model import Model
 from conformance.program import as_bytes
@@ -116,8 +116,14 @@ class Streams(unittest.TestCase):
 
 class Requests(unittest.TestCase):
     def test_a_request_is_read_again(self) -> None:
-        shaded = [vertex((-8388608, 8388607), (1, 2, 3), 65535, 200), vertex((0, 1), (4, 5, 6)), vertex((2, 3), (7, 8, 255), 9, 0)]
-        state = {"cull": "back", "depth_test": "less", "depth_write": True, "blend": "over", "write": [True, False, True], "sample_mask": 5}
+        shaded = [
+            vertex((-8388608, 8388607), (1, 2, 3), 65535, 200), vertex((0, 1), (4, 5, 6)),
+            vertex((2, 3), (7, 8, 255), 9, 0),
+        ]
+        state = {
+            "cull": "back", "depth_test": "less", "depth_write": True, "blend": "over", "write": [True, False, True],
+            "sample_mask": 5,
+        }
         listed = scene([draw([shaded], **state, scissor=[1, 2, 3, 4])], 4, 8, 16, clear=[1, 2, 3], clear_depth=77)
         for setting in (PLAIN, Setting(2048, (-1, 255), True, 32)):
             self.assertEqual(requests.read(requests.request(listed, setting)), (listed, setting))
@@ -195,7 +201,9 @@ class Comparing(unittest.TestCase):
         listed = asked(lambda questions: compare_suite(suite, 4, Black(), questions, limit=3))
         driver = answered(listed, lambda _n: Answer(REFUSED, b"`sample` interpolation: not taken"))
         tally = compare_suite(suite, 4, Black(), driver, limit=3)
-        self.assertEqual((tally.lists, tally.compared, dict(tally.left_out)), (0, 0, {"`sample` interpolation: not taken": 3}))
+        self.assertEqual(
+            (tally.lists, tally.compared, dict(tally.left_out)), (0, 0, {"`sample` interpolation: not taken": 3})
+        )
 
     def test_values_within_and_beyond_what_is_allowed(self) -> None:
         for more, agrees in ((1, True), (2, False)):
@@ -260,9 +268,13 @@ class Reports(unittest.TestCase):
 class RecordedAnswers(unittest.TestCase):
     """Answers of rasterize.exe under Wine 8.0, with Mesa 22.3.6's llvmpipe, to the first list of the subjects below."""
 
-    SUBJECTS = ("top-left", "sample-positions", "culling", "anticlockwise", "scissor", "mask-of-one", "fraction", "negative-fraction", "clear")
+    SUBJECTS = (
+        "top-left", "sample-positions", "culling", "anticlockwise", "scissor", "mask-of-one", "fraction",
+        "negative-fraction", "clear",
+    )
     CHECKSUM = "8944cc488e0e984384900c7e9762f3e5bd09e7b2a50304efbfed740caa118ff2"
-    # llvmpipe's scissor; wined3d's sample mask, and its viewport with a negative fraction. In all other rows no sample differs.
+    # llvmpipe's scissor; wined3d's sample mask, and its viewport with a negative fraction. In all other
+    # rows no sample differs.
     DIFFER = {"scissor-4": 55, "mask-of-one-1": 11313, "negative-fraction-1": 751, "negative-fraction-4": 2867}
 
     def test_the_counts_of_the_recorded_answers(self) -> None:
@@ -308,7 +320,9 @@ class Command(unittest.TestCase):
     """The command of run.py, with streams that cannot be compared."""
 
     def run_with(self, *arguments: str) -> tuple[int, bytes, bytes]:
-        command = [sys.executable, "-m", "conformance.d3d11.run", "--suite", "clear", "--program", sys.executable, *arguments]
+        command = [
+            sys.executable, "-m", "conformance.d3d11.run", "--suite", "clear", "--program", sys.executable, *arguments
+        ]
         run = subprocess.run(command, cwd=TOP, capture_output=True)
         return run.returncode, run.stdout, run.stderr
 
@@ -320,8 +334,9 @@ class Command(unittest.TestCase):
                 listed = read_requests(file.read())[1]
             whole = write_answers(identity_of(listed), Answers("", [Answer(REFUSED, b"") for _ in listed]))
             for name, stream in (
-                ("CutShort", whole[:-1]), ("CutShort", b""), ("OtherVersion", with_version(whole, 3)), ("NotAStream", b"\0" * 100),
-                ("OtherSuite", small_answers(Streams.LISTED)), ("BadChecksum", whole + b"\0"),
+                ("CutShort", whole[:-1]), ("CutShort", b""), ("OtherVersion", with_version(whole, 3)),
+                ("NotAStream", b"\0" * 100), ("OtherSuite", small_answers(Streams.LISTED)),
+                ("BadChecksum", whole + b"\0"),
             ):
                 with open(path, "wb") as file:
                     file.write(stream)
@@ -345,8 +360,9 @@ class Rasterize(unittest.TestCase):
     def test_a_named_error(self) -> None:
         whole = write_requests(small_lists())
         for name, stream in (
-            ("CutShort", whole[:-1]), ("CutShort", whole[:70]), ("CutShort", b""), ("OtherVersion", with_version(whole, 3)),
-            ("NotAStream", small_answers(Streams.LISTED)), ("BadChecksum", whole[:-1] + b"\0"), ("BadChecksum", whole + bytes(4)),
+            ("CutShort", whole[:-1]), ("CutShort", whole[:70]), ("CutShort", b""),
+            ("OtherVersion", with_version(whole, 3)), ("NotAStream", small_answers(Streams.LISTED)),
+            ("BadChecksum", whole[:-1] + b"\0"), ("BadChecksum", whole + bytes(4)),
         ):
             with self.assertRaises(process.CannotRun) as raised:
                 process.draw(stream, process.command(process.EXE, "hardware", None))

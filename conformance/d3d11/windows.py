@@ -2,8 +2,9 @@
 
     python3 -m conformance.d3d11.windows dist/trirast-conformance-windows.zip
 
-It has rasterize.exe for Direct3D and rasterize-vulkan.exe, the requests of all subjects for each, a .cmd that draws them, and a page that
-says what to send back. The same sources give the same bytes. Exit status 2 if there is no such program.
+It has rasterize.exe for Direct3D and rasterize-vulkan.exe, the requests of all subjects for each, a .cmd that
+draws them, and a page that says what to send back. The same sources give the same bytes. Exit status 2 if
+there is no such program.
 """
 
 from __future__ import annotations
@@ -34,7 +35,9 @@ def windows_text(name: str) -> str:
     return text_of(FILES, name).replace("\n", "\r\n")
 
 
-def contents(exe: bytes, requests: Sequence[bytes], vulkan_exe: bytes, vulkan_requests: Sequence[bytes]) -> dict[str, bytes]:
+def contents(
+    exe: bytes, requests: Sequence[bytes], vulkan_exe: bytes, vulkan_requests: Sequence[bytes]
+) -> dict[str, bytes]:
     """The files of the archive."""
     page = windows_text("README.txt").format(
         requests=len(requests), identity=identity_of(requests).hex(), vulkan_requests=len(vulkan_requests),

@@ -3,8 +3,8 @@
 
 #include <cstdint>
 
-// A row has Direct3D 11's number of a factor; its number for alpha, since factors of colours are none for alpha there; its name in Vulkan
-// without VK_BLEND_FACTOR_; and OpenGL's number.
+// A row has Direct3D 11's number of a factor; its number for alpha, since factors of colours are none for alpha there;
+// its name in Vulkan without VK_BLEND_FACTOR_; and OpenGL's number.
 #define FACTORS(ROW)                        \
     ROW(1, 1, ZERO, 0x0000)                 \
     ROW(2, 2, ONE, 0x0001)                  \

@@ -17,10 +17,12 @@ WIDE = Setting(viewport=2048)
 
 @dataclass(frozen=True)
 class Suite:
-    """One subject: its lists for a number of samples, the settings under which they are drawn in turn, and what agreement means.
+    """One subject: its lists for a number of samples, the settings under which they are drawn in turn, and
+    what agreement means.
 
-    An exact subject asks for equal samples, any other for near ones: the specification of the interface allows the differences
-    `tolerances`, in 1/255 of a channel, for each of `samples`, or it gives none. With `has_alpha` alpha is compared as a channel too.
+    An exact subject asks for equal samples, any other for near ones: the specification of the interface allows the
+    differences `tolerances`, in 1/255 of a channel, for each of `samples`, or it gives none. With `has_alpha` alpha is
+    compared as a channel too.
     """
 
     name: str
@@ -40,8 +42,8 @@ class Suite:
         return self.tolerances[self.samples.index(samples)] if self.tolerances else None
 
     def lists(self, samples: int, bits: int = 8) -> Lists:
-        """Pairs of a list's title and the list, its positions rounded to this number of subpixel bits. Every tenth list comes first,
-        so that the first tenth of a subject has something of all its parts."""
+        """Pairs of a list's title and the list, its positions rounded to this number of subpixel bits. Every tenth list
+        comes first, so that the first tenth of a subject has something of all its parts."""
         made = list(self.make(random.Random(f"{self.make.__name__} {samples}"), samples))
         for first in range(10):
             for title, listed in made[first::10]:
@@ -77,34 +79,50 @@ BASIC = (
     Suite("depths", "Depths at samples", values.depths, exact=False, settings=(WIDE,)),
     Suite("resolve", "Resolve", values.resolve, (4,), exact=False),
 )
-# What every interface is asked since the suite knows blend equations, strips and depths past their ends. One blend differs by at most 1
-# where the specification leaves its rounding open; layers and the mean of four samples add up.
+# What every interface is asked since the suite knows blend equations, strips and depths past their ends. One blend
+# differs by at most 1 where the specification leaves its rounding open; layers and the mean of four samples add up.
 MORE = (
     Suite("steep-depths", "Depths of steep planes", planes.steep_depths, settings=(WIDE,)),
-    Suite("float-planes", "Planes finer than depths of 16 bits", planes.float_planes, settings=(replace(WIDE, depth_bits=32),)),
+    Suite(
+        "float-planes", "Planes finer than depths of 16 bits", planes.float_planes,
+        settings=(replace(WIDE, depth_bits=32),),
+    ),
     Suite("depth-ends", "Depths at their ends and past them", depth_ends.depth_ends, settings=(Setting(beyond="cut"),)),
     Suite("leading-vertex", "Flat colours of the first vertex", planes.leading_colours, settings=(Setting(leading=0),)),
     Suite("strips", "Triangle strips", primitives.strips, settings=(replace(WIDE, leading=0, strips=True),)),
     Suite("large-scissors", "Scissors far past the picture", primitives.large_scissors),
-    Suite("blend-table", "Blending, every alpha over every value", planes.blend_table, (1,), exact=False, tolerances=(1,)),
+    Suite(
+        "blend-table", "Blending, every alpha over every value", planes.blend_table, (1,), exact=False, tolerances=(1,)
+    ),
     Suite("equations", "Blend equations", blends.equations, (1,), exact=False, tolerances=(1,), has_alpha=True),
-    Suite("layered-alpha", "Alpha of blended layers", blends.layered_alpha, exact=False, tolerances=(4, 5), has_alpha=True),
+    Suite(
+        "layered-alpha", "Alpha of blended layers", blends.layered_alpha, exact=False, tolerances=(4, 5), has_alpha=True
+    ),
 )
-FLOAT_DEPTHS = Suite("float-depths", "Depth tests, depths of 32 bits", states.depth_tests, settings=(Setting(depth_bits=32),))
+FLOAT_DEPTHS = Suite(
+    "float-depths", "Depth tests, depths of 32 bits", states.depth_tests, settings=(Setting(depth_bits=32),)
+)
 OPENGL = (*BASIC, FLOAT_DEPTHS, *MORE)
 
 # In one channel of a pixel. Direct3D rounds to the nearest integer, and allows 0.6 of a unit in a conversion
-# (D3D11_FLOAT32_TO_INTEGER_TOLERANCE_IN_ULP) where the rules round a colour down, and a blend and a resolve to the nearest. A colour
-# or a depth differs so by at most 1. Of four samples the mean and its rounding add 1.1. A blend adds 1.1 to what was stored, and 2
-# more if colour and alpha are interpolated: lists have up to 16 layers without interpolation and up to 8 with it.
+# (D3D11_FLOAT32_TO_INTEGER_TOLERANCE_IN_ULP) where the rules round a colour down, and a blend and a resolve to the
+# nearest. A colour or a depth differs so by at most 1. Of four samples the mean and its rounding add 1.1. A blend adds
+# 1.1 to what was stored, and 2 more if colour and alpha are interpolated: lists have up to 16 layers without
+# interpolation and up to 8 with it.
 TOLERANCES = {"colours": (1, 2), "blending": (24, 25), "depths": (1, 2), "resolve": (1,)}
 FRACTIONS = ((1, 0), (0, 1), (128, 128), (255, 77), (37, 200), (96, 32))
 
 # What Direct3D is asked, and OpenGL is not.
 MORE_OF_DIRECT3D = (
-    Suite("anticlockwise", "Culling, anticlockwise in front", states.culling, settings=(Setting(anticlockwise_front=True),)),
+    Suite(
+        "anticlockwise", "Culling, anticlockwise in front", states.culling,
+        settings=(Setting(anticlockwise_front=True),),
+    ),
     Suite("mask-of-one", "Sample mask with one sample", states.sample_mask, (1,)),
-    Suite("fraction", "Viewport with a fraction", coverage.shared_edges, settings=tuple(Setting(moved=by) for by in FRACTIONS)),
+    Suite(
+        "fraction", "Viewport with a fraction", coverage.shared_edges,
+        settings=tuple(Setting(moved=by) for by in FRACTIONS),
+    ),
     Suite(
         "negative-fraction", "Viewport with a negative fraction", coverage.shared_edges,
         settings=tuple(Setting(WIDE.viewport, (-x, -y)) for x, y in FRACTIONS),

@@ -24,7 +24,8 @@ def any_pixel(rng: random.Random) -> tuple[tuple[int, int, int], int]:
 
 
 def stripes(rng: random.Random, across: bool) -> list[Triangle]:
-    """A column for each pixel of the picture's width, or a row for each of its height, each of another colour and alpha."""
+    """A column for each pixel of the picture's width, or a row for each of its height, each of another
+    colour and alpha."""
     shapes: list[Triangle] = []
     for n in range(SIDE):
         colour, alpha = any_pixel(rng)
@@ -37,7 +38,9 @@ def any_equation(rng: random.Random) -> Equation:
     factors = list(FACTORS.values())
     source, stored, alpha_source, alpha_stored = (rng.choice(factors) for _ in range(4))
     operation, alpha_operation = (rng.choice(list(OPERATIONS.values())) for _ in range(2))
-    return Equation(source, stored, operation, alpha_source, alpha_stored, alpha_operation, *(any_value(rng) for _ in range(4)))
+    return Equation(
+        source, stored, operation, alpha_source, alpha_stored, alpha_operation, *(any_value(rng) for _ in range(4))
+    )
 
 
 def name_of(equation: Equation) -> str:
@@ -65,5 +68,10 @@ def layered_alpha(rng: random.Random, samples: int) -> Lists:
         for _ in range(LAYERS):
             colour, alpha = any_pixel(rng)
             shown = colour if equation == OVER else tuple(channel * alpha // 255 for channel in colour)
-            draws.append(draw(rectangle(*box_of_pixels(rng, SIDE), (shown[0], shown[1], shown[2]), alpha=alpha), equation=list(equation)))
+            draws.append(
+                draw(
+                    rectangle(*box_of_pixels(rng, SIDE), (shown[0], shown[1], shown[2]), alpha=alpha),
+                    equation=list(equation),
+                )
+            )
         yield f"{name}, {n}", scene(draws, samples, SIDE, SIDE, clear_alpha=0)

@@ -154,7 +154,8 @@ def position_list(samples: int, axis: str, ends: bool = False) -> DrawList:
 
 
 def sample_positions(_rng: random.Random, samples: int) -> Lists:
-    """An edge at each of the 256 places of a pixel, so that the first rectangle past a sample shows where that sample lies."""
+    """An edge at each of the 256 places of a pixel, so that the first rectangle past a sample shows where
+    that sample lies."""
     for axis in ("x", "y"):
         yield f"rectangles that begin at each {axis}", position_list(samples, axis)
         yield f"rectangles that end at each {axis}", position_list(samples, axis, True)

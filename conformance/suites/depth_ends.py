@@ -48,7 +48,8 @@ def fan(corners: Sequence[Corner], rest: Sequence[int]) -> list[Triangle]:
 
 
 def parts(triangle: Triangle, clamps: bool) -> Iterator[Triangle]:
-    """The part of a triangle within the range of depths, as triangles; if it is clamped the parts past the ends too, at the ends."""
+    """The part of a triangle within the range of depths, as triangles; if it is clamped the parts past the ends
+    too, at the ends."""
     rest = triangle[0][3:]
     x, y, z = ([Fraction(corner[axis]) for corner in triangle] for axis in range(3))
     corners = list(zip(x, y, z))
@@ -68,7 +69,8 @@ def within_depths(scene: DrawList, clamps: bool) -> DrawList:
 
 
 def sloped(rng: random.Random, left: int, top: int, number: int) -> list[Triangle]:
-    """A cell whose depth changes along one axis and passes an end between two pixels, or reaches it at the cell's border."""
+    """A cell whose depth changes along one axis and passes an end between two pixels, or reaches it at
+    the cell's border."""
     along, slope = rng.randrange(2), STEP * rng.choice((-1, 1)) * rng.randint(1, LAST // CELL // STEP)
     crossing, end = rng.randrange(CELL + 1), rng.choice((0, LAST))
     corners = []
@@ -84,7 +86,12 @@ def depth_ends(rng: random.Random, samples: int) -> Lists:
         test = ("less_equal", "greater")[n % 2]
         places = [(left, top) for top in range(0, SIDE, CELL) for left in range(0, SIDE, CELL)]
         cells = [triangle for k, (left, top) in enumerate(places) for triangle in sloped(rng, left, top, k)]
-        depths = sorted({0, LAST, *(8 * rng.randrange(8191) + MARGIN for _ in range(LAYERS))}, reverse=test == "greater")
-        layers = [draw(rectangle(0, 0, SIDE, SIDE, own_colour(100 + k), depth), depth_test=test) for k, depth in enumerate(depths)]
+        depths = sorted(
+            {0, LAST, *(8 * rng.randrange(8191) + MARGIN for _ in range(LAYERS))}, reverse=test == "greater"
+        )
+        layers = [
+            draw(rectangle(0, 0, SIDE, SIDE, own_colour(100 + k), depth), depth_test=test)
+            for k, depth in enumerate(depths)
+        ]
         chosen = rng.sample(layers, 3)
         yield f"{test}, {n}", scene([draw(cells, depth_write=True), *chosen], samples, SIDE, SIDE, clear_depth=32768)

@@ -13,11 +13,13 @@ FARTHEST = (1 << 31) - 1 - FAR  # its greatest right and lower side, so that no 
 
 
 def strip(rng: random.Random, row: int, count: int, cull: str) -> Draw:
-    """A strip in zigzag along a row of 16 pixels, each vertex of its own colour. Some vertices are repeated, so that triangles have no
-    area and the sense of those behind them turns."""
+    """A strip in zigzag along a row of 16 pixels, each vertex of its own colour. Some vertices are repeated, so that
+    triangles have no area and the sense of those behind them turns."""
     top, corners = PIXEL * 16 * row, []
     for k in range(count):
-        x, y = PIXEL * SIDE * k // count + rng.randrange(-PIXEL, PIXEL), top + PIXEL * 16 * (k % 2) + rng.randrange(PIXEL)
+        x, y = (
+            PIXEL * SIDE * k // count + rng.randrange(-PIXEL, PIXEL), top + PIXEL * 16 * (k % 2) + rng.randrange(PIXEL)
+        )
         corners.append(vertex((x, y), own_colour(100 * row + k)))
     indices = [k for k in range(count) for _ in range(rng.choice((1, 1, 1, 2)))]
     return {"cull": cull, "vertices": corners, "strip": indices}
@@ -33,7 +35,10 @@ def far_side(rng: random.Random, place: int, first: bool) -> int:
     """A side of a scissor: the place itself, or one far past the picture."""
     if rng.getrandbits(1):
         return place
-    return -rng.choice((1, 255, 4097, FAR)) if first else rng.choice((SIDE, SIDE + 1, 16385, 32768, FAR, FAR + 64, 1 << 24, FARTHEST))
+    return (
+        -rng.choice((1, 255, 4097, FAR))
+        if first else rng.choice((SIDE, SIDE + 1, 16385, 32768, FAR, FAR + 64, 1 << 24, FARTHEST))
+    )
 
 
 def large_scissors(rng: random.Random, samples: int) -> Lists:

@@ -33,9 +33,11 @@ def w_of(vertex: int) -> int:
 
 
 def finest_depths(scene: DrawList) -> DrawList:
-    """The list with all depths multiplied by the greatest factor that leaves them in range. Its integers tell depths apart that differ
-    by less than 1/65535, as floating point does."""
-    greatest = max([scene.get("clear_depth", 65535), *(vertex[2] for draw in scene["draws"] for vertex in draw["vertices"])])
+    """The list with all depths multiplied by the greatest factor that leaves them in range. Its integers tell depths
+    apart that differ by less than 1/65535, as floating point does."""
+    greatest = max(
+        [scene.get("clear_depth", 65535), *(vertex[2] for draw in scene["draws"] for vertex in draw["vertices"])]
+    )
     factor = 65535 // max(greatest, 1)
     if factor == 1:
         return scene
@@ -47,7 +49,8 @@ def finest_depths(scene: DrawList) -> DrawList:
 
 
 def colour_by(scene: DrawList, leading: int) -> DrawList:
-    """The list whose triangles have the colour and the alpha of this one of their vertices. It has vertices of its own for each."""
+    """The list whose triangles have the colour and the alpha of this one of their vertices. It has vertices of
+    its own for each."""
 
     def coloured(triangle: Triangle) -> Triangle:
         return [[*corner[:3], *triangle[leading][3:]] for corner in triangle]
@@ -65,10 +68,11 @@ def within_picture(draw: Draw, width: int, height: int) -> Draw:
 
 @dataclass(frozen=True)
 class Setting:
-    """The viewport is the picture, or a square of `viewport` pixels around it; then it is moved by `moved`, in 1/256 pixel. Depths
-    are kept in integers of 16 bits, or in floating point of 32 bits. With `leading` a triangle has the colour of this one of its
-    vertices. In perspective vertices have a w, which the rules' coverage, depths and flat colours do not see. With `strips` a strip is
-    drawn as one. Depths past their ends are `cut`, by the triangle's part that has them, or `clamped`."""
+    """The viewport is the picture, or a square of `viewport` pixels around it; then it is moved by `moved`, in 1/256
+    pixel. Depths are kept in integers of 16 bits, or in floating point of 32 bits. With `leading` a triangle has the
+    colour of this one of its vertices. In perspective vertices have a w, which the rules' coverage, depths and flat
+    colours do not see. With `strips` a strip is drawn as one. Depths past their ends are `cut`, by the triangle's part
+    that has them, or `clamped`."""
 
     viewport: int | None = None
     moved: tuple[int, int] = (0, 0)

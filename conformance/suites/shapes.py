@@ -71,7 +71,9 @@ def halves(left: int, top: int, right: int, bottom: int) -> list[Points]:
     return [[(left, top), (right, top), (left, bottom)], [(right, top), (right, bottom), (left, bottom)]]
 
 
-def rectangle(left: int, top: int, right: int, bottom: int, colour: Colour = WHITE, z: int = 0, alpha: int = 255) -> list[Triangle]:
+def rectangle(
+    left: int, top: int, right: int, bottom: int, colour: Colour = WHITE, z: int = 0, alpha: int = 255
+) -> list[Triangle]:
     """An upright rectangle of one colour whose sides are given in pixels."""
     box = (PIXEL * left, PIXEL * top, PIXEL * right, PIXEL * bottom)
     return [flat(points, colour, z, alpha) for points in halves(*box)]
@@ -131,5 +133,7 @@ def point_near(rng: random.Random, low: int, high: int, samples: int) -> Point:
     """A point in the square from low to high pixels: half of them lie on a sample, or one step away from one."""
     if rng.getrandbits(1):
         return rng.randrange(PIXEL * low, PIXEL * high), rng.randrange(PIXEL * low, PIXEL * high)
-    x, y = (PIXEL * rng.randrange(low, high) + offset + rng.choice((-1, 0, 0, 1)) for offset in rng.choice(PLACES[samples]))
+    x, y = (
+        PIXEL * rng.randrange(low, high) + offset + rng.choice((-1, 0, 0, 1)) for offset in rng.choice(PLACES[samples])
+    )
     return x, y

@@ -4,7 +4,9 @@ from __future__ import annotations
 
 import random
 
-from conformance.suites.shapes import PIXEL, SIDE, Colour, Lists, Triangle, box_of_pixels, draw, rectangle, scene, vertex
+from conformance.suites.shapes import (
+    PIXEL, SIDE, Colour, Lists, Triangle, box_of_pixels, draw, rectangle, scene, vertex
+)
 from tools.draw_list import Draw
 
 LAYERS = 256

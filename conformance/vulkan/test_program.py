@@ -1,5 +1,5 @@
-"""Tests of the program `rasterize` for Vulkan: streams, devices and calls that it must refuse or that fail, and what a device draws.
-What needs a device is left out where there is none.
+"""Tests of the program `rasterize` for Vulkan: streams, devices and calls that it must refuse or that fail, and what a
+device draws. What needs a device is left out where there is none.
 
     python3 -m pytest conformance/vulkan/test_program.py
 """
@@ -49,7 +49,9 @@ def why_not_built() -> str:
     header = subprocess.run(["g++", "-E", "-include", "vulkan/vulkan.h", "-x", "c++", os.devnull], capture_output=True)
     if header.returncode:
         return "no vulkan/vulkan.h (libvulkan-dev), so the program for Vulkan is not built"
-    subprocess.run(["make", "-s", os.path.relpath(process.PROGRAM, TOP)], cwd=TOP, check=True, stdout=subprocess.DEVNULL)
+    subprocess.run(
+        ["make", "-s", os.path.relpath(process.PROGRAM, TOP)], cwd=TOP, check=True, stdout=subprocess.DEVNULL
+    )
     return ""
 
 
@@ -75,13 +77,17 @@ def ended_with(stream: bytes, *arguments: str) -> tuple[int, bytes, str]:
 # Vulkan's calls that `failing.c` lets fail, by how often a small stream of requests makes them at least.
 CALLS = {
     1: (
-        "vkCreateInstance", "vkCreateDevice", "vkCreateCommandPool", "vkCreateFence", "vkAllocateCommandBuffers", "vkCreateSampler",
-        "vkCreateDescriptorSetLayout", "vkCreateDescriptorPool", "vkAllocateDescriptorSets", "vkCreateComputePipelines",
+        "vkCreateInstance", "vkCreateDevice", "vkCreateCommandPool", "vkCreateFence", "vkAllocateCommandBuffers",
+        "vkCreateSampler", "vkCreateDescriptorSetLayout", "vkCreateDescriptorPool", "vkAllocateDescriptorSets",
+        "vkCreateComputePipelines",
     ),
-    2: ("vkEnumeratePhysicalDevices", "vkCreatePipelineLayout", "vkCreateRenderPass", "vkCreateFramebuffer", "vkCreateGraphicsPipelines"),
+    2: (
+        "vkEnumeratePhysicalDevices", "vkCreatePipelineLayout", "vkCreateRenderPass", "vkCreateFramebuffer",
+        "vkCreateGraphicsPipelines",
+    ),
     3: (
-        "vkCreateBuffer", "vkMapMemory", "vkCreateImage", "vkCreateImageView", "vkAllocateMemory", "vkCreateShaderModule",
-        "vkBeginCommandBuffer", "vkEndCommandBuffer", "vkQueueSubmit", "vkWaitForFences",
+        "vkCreateBuffer", "vkMapMemory", "vkCreateImage", "vkCreateImageView", "vkAllocateMemory",
+        "vkCreateShaderModule", "vkBeginCommandBuffer", "vkEndCommandBuffer", "vkQueueSubmit", "vkWaitForFences",
     ),
 }
 RESULTS = {-1: "OutOfMemory", -2: "OutOfDeviceMemory", -4: "DeviceLost", -3: "DeviceFailure"}
@@ -123,12 +129,13 @@ class Refused(unittest.TestCase):
         blended = request({**square(), "clear_alpha": 0}, PLAIN)
         for version, data in (
             (1, more),  # version 1 has no such flag
-            (1, with_words(plain, 4, 4)), (2, with_words(plain, 4, 8)), (2, with_words(more, 16, 4)), (2, with_words(more, 17, 6)),
-            *((2, with_words(blended, place, 16)) for place in range(32, 38)), (2, with_words(blended, 31, 2)),
+            (1, with_words(plain, 4, 4)), (2, with_words(plain, 4, 8)), (2, with_words(more, 16, 4)),
+            (2, with_words(more, 17, 6)), *((2, with_words(blended, place, 16)) for place in range(32, 38)),
+            (2, with_words(blended, 31, 2)),
             (2, with_words(blended, 16, 256)),  # the clear colour's alpha
             (2, with_words(more, 36, 0)), (2, with_words(more, 36, -256)),  # w is not positive
-            (1, with_words(plain, 0, 0)), (1, with_words(plain, 0, 16385)), (1, with_words(plain, 2, 33)), (1, with_words(plain, 3, 24)),
-            (1, with_words(plain, 11, 256)), (1, with_words(plain, 14, 65536)),
+            (1, with_words(plain, 0, 0)), (1, with_words(plain, 0, 16385)), (1, with_words(plain, 2, 33)),
+            (1, with_words(plain, 3, 24)), (1, with_words(plain, 11, 256)), (1, with_words(plain, 14, 65536)),
             (1, plain[:-4]), (1, plain + bytes(4)), (1, with_words(plain, len(plain) // 4 - 1, 6)),
         ):
             self.refuses("Malformed", write_requests([plain, data], version))
@@ -156,7 +163,9 @@ class Refused(unittest.TestCase):
 class CallsThatFail(unittest.TestCase):
     """Each call of Vulkan that can fail, once: one line with the error's name, exit status 2, and no answer."""
 
-    STREAM = write_requests([request(square(), PLAIN), request(square(), PERSPECTIVE, COLOURS), request(square(1), PLAIN, DEPTHS)], 2)
+    STREAM = write_requests(
+        [request(square(), PLAIN), request(square(), PERSPECTIVE, COLOURS), request(square(1), PLAIN, DEPTHS)], 2
+    )
 
     def test_a_device_that_is_lost_in_the_middle(self) -> None:
         with self.library() as library:
@@ -220,13 +229,22 @@ class Drawn(unittest.TestCase):
                     self.assertEqual(answered[n].status, REFUSED, way)
 
     def test_a_small_suite(self) -> None:
-        """Subjects of which the rules leave nothing open to a device with eight subpixel bits, first lists, against the rules."""
-        chosen = [BY_NAME[name] for name in ("sample-positions", "leading-vertex", "depth-ends", "strips", "layered-alpha")]
+        """Subjects of which the rules leave nothing open to a device with eight subpixel bits, first lists,
+        against the rules."""
+        chosen = [
+            BY_NAME[name] for name in ("sample-positions", "leading-vertex", "depth-ends", "strips", "layered-alpha")
+        ]
 
         def compare_all(driver: Candidate) -> list[Tally]:
-            return [compare_suite(suite, count, Model(), driver, limit=1) for suite in chosen for count in suite.samples]
+            return [
+                compare_suite(suite, count, Model(), driver, limit=1) for suite in chosen for count in suite.samples
+            ]
 
-        listed = asked(lambda questions: [compare_suite(suite, n, Black(), questions, limit=1) for suite in chosen for n in suite.samples])
+        listed = asked(
+            lambda questions: [
+                compare_suite(suite, n, Black(), questions, limit=1) for suite in chosen for n in suite.samples
+            ]
+        )
         stream = ran([process.PROGRAM], write_requests(listed, version_of(listed)))
         answers = read_answers(stream, listed)
         if "subpixel bits\t8\n" not in answers.about:
@@ -238,7 +256,9 @@ class Drawn(unittest.TestCase):
     def test_a_stored_depth(self) -> None:
         for bits, expected in ((16, struct.pack("<I", 12345)), (32, struct.pack("<f", 12345 / 65535))):
             for count in (1, 4):
-                listed = scene([draw([flat([(-512, -512), (2560, -512), (-512, 2560)], z=12345)], depth_write=True)], count, 2, 2)
+                listed = scene(
+                    [draw([flat([(-512, -512), (2560, -512), (-512, 2560)], z=12345)], depth_write=True)], count, 2, 2
+                )
                 (answer,) = self.answers([request(listed, Setting(64, depth_bits=bits), DEPTHS)])
                 self.assertEqual((answer.status, answer.data), (VALUES, expected * 4 * count))
 

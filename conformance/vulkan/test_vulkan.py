@@ -37,10 +37,14 @@ class Requests(unittest.TestCase):
     def test_a_request_without_the_new_words_is_the_old_one(self) -> None:
         for setting in (PLAIN, Setting(64, (3, -5), True, 32)):
             data = request(square(), setting)
-            self.assertEqual((version_of([data]), struct.unpack_from("<i", data, 16)[0]), (1, int(setting.anticlockwise_front)))
+            self.assertEqual(
+                (version_of([data]), struct.unpack_from("<i", data, 16)[0]), (1, int(setting.anticlockwise_front))
+            )
 
     def test_the_new_words(self) -> None:
-        for setting, output, more in ((PERSPECTIVE, RESOLVED, (0, 5)), (PLAIN, COLOURS, (1, 4)), (PERSPECTIVE, DEPTHS, (2, 5))):
+        for setting, output, more in (
+            (PERSPECTIVE, RESOLVED, (0, 5)), (PLAIN, COLOURS, (1, 4)), (PERSPECTIVE, DEPTHS, (2, 5))
+        ):
             data = request(square(), setting, output)
             words = struct.unpack(f"<{len(data) // 4}i", data)
             self.assertEqual((version_of([data]), words[4], words[16:18]), (2, HAS_MORE, more))
@@ -50,7 +54,10 @@ class Requests(unittest.TestCase):
 
     def test_a_request_is_read_again(self) -> None:
         coloured = scene([draw([[vertex((k, 0), own_colour(k)) for k in range(3)]])], 1, 8, 8)
-        whole = {"cull": "none", "depth_test": "always", "depth_write": False, "blend": "none", "write": [True] * 3, "sample_mask": 15}
+        whole = {
+            "cull": "none", "depth_test": "always", "depth_write": False, "blend": "none", "write": [True] * 3,
+            "sample_mask": 15,
+        }
         for setting in (PERSPECTIVE, Setting(leading=0), Setting(2048, depth_bits=32, leading=0, perspective=True)):
             read, found = requests.read(request(coloured, setting))
             self.assertEqual(found, setting)
@@ -81,7 +88,13 @@ class Subjects(unittest.TestCase):
         for name in ("pattern-positions", "pattern-edges", "pattern-scissor"):
             for count in (8, 16):
                 lists = [listed for _title, listed in BY_NAME[name].lists(count)]
-                channels = {channel for one in lists for drawn in one["draws"] for corner in drawn["vertices"] for channel in corner[3:6]}
+                channels = {
+                    channel
+                    for one in lists
+                    for drawn in one["draws"]
+                    for corner in drawn["vertices"]
+                    for channel in corner[3:6]
+                }
                 self.assertEqual({channel % count for channel in channels}, {0})
                 self.assertNotIn(0, channels)
 

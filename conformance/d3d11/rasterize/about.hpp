@@ -26,7 +26,8 @@ inline std::string driver_version(IDXGIAdapter* adapter) {
     LARGE_INTEGER version;
     if (FAILED(adapter->CheckInterfaceSupport(__uuidof(IDXGIDevice), &version))) return "not said";
     std::string text;
-    for (int shift = 48; shift >= 0; shift -= 16) text += (text.empty() ? "" : ".") + std::to_string(version.QuadPart >> shift & 0xffff);
+    for (int shift = 48; shift >= 0; shift -= 16)
+        text += (text.empty() ? "" : ".") + std::to_string(version.QuadPart >> shift & 0xffff);
     return text;
 }
 
@@ -40,9 +41,10 @@ inline std::string about(Device& device, const std::string& asked) {
     UINT qualities = 0;
     device.device->CheckMultisampleQualityLevels(COLORS, 4, &qualities);
     std::string wine = wine_version();
-    return "renderer\t" + utf8(said.Description) + "\nvendor and device\t" + hexadecimal(said.VendorId) + ", " + hexadecimal(said.DeviceId)
-           + "\ndriver version\t" + driver_version(adapter.get()) + "\ndevice asked for\t" + asked
-           + "\nfeature level\t" + hexadecimal(device.level) + "\nqualities of four samples\t" + std::to_string(qualities)
-           + "\nstandard pattern of four samples\t" + (device.has_standard_pattern ? "taken by its name" : "not taken; quality 0")
-           + "\nsystem\t" + (wine.empty() ? "Windows" : "Wine " + wine) + "\n";
+    return "renderer\t" + utf8(said.Description) + "\nvendor and device\t" + hexadecimal(said.VendorId) + ", "
+           + hexadecimal(said.DeviceId) + "\ndriver version\t" + driver_version(adapter.get()) + "\ndevice asked for\t"
+           + asked + "\nfeature level\t" + hexadecimal(device.level) + "\nqualities of four samples\t"
+           + std::to_string(qualities) + "\nstandard pattern of four samples\t"
+           + (device.has_standard_pattern ? "taken by its name" : "not taken; quality 0") + "\nsystem\t"
+           + (wine.empty() ? "Windows" : "Wine " + wine) + "\n";
 }

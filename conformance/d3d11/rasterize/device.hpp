@@ -27,7 +27,8 @@ public:
         Held<IDXGIAdapter1> adapter;
         D3D_DRIVER_TYPE kind = asked == "warp" ? D3D_DRIVER_TYPE_WARP : D3D_DRIVER_TYPE_HARDWARE;
         if (asked != "warp" && asked != "hardware") adapter = numbered(asked), kind = D3D_DRIVER_TYPE_UNKNOWN;
-        check(D3D11CreateDevice(adapter.get(), kind, nullptr, 0, levels, 1, D3D11_SDK_VERSION, device.put(), &level, context.put()),
+        check(D3D11CreateDevice(adapter.get(), kind, nullptr, 0, levels, 1, D3D11_SDK_VERSION, device.put(), &level,
+                                context.put()),
               "no device of feature level 11.0");
         set_up();
     }
@@ -45,7 +46,8 @@ public:
     }
 
     ID3D11RasterizerState* rasterizer(const State& state, bool is_anticlockwise_front, bool has_several) {
-        Held<ID3D11RasterizerState>& made = rasterizers[{state.cull, is_anticlockwise_front, state.is_scissored, has_several}];
+        Held<ID3D11RasterizerState>& made =
+            rasterizers[{state.cull, is_anticlockwise_front, state.is_scissored, has_several}];
         if (!made) {
             D3D11_RASTERIZER_DESC asked = {};
             asked.FillMode = D3D11_FILL_SOLID;
@@ -72,9 +74,9 @@ public:
     }
 
     ID3D11BlendState* blend(const State& state, const Equation& equation) {
-        Held<ID3D11BlendState>& made = blends[{state.blend, state.write_mask, equation.color_source, equation.color_stored,
-                                               equation.color_operation, equation.alpha_source, equation.alpha_stored,
-                                               equation.alpha_operation}];
+        Held<ID3D11BlendState>& made =
+            blends[{state.blend, state.write_mask, equation.color_source, equation.color_stored,
+                    equation.color_operation, equation.alpha_source, equation.alpha_stored, equation.alpha_operation}];
         if (!made) {
             D3D11_BLEND_DESC asked = {};
             asked.RenderTarget[0] = blend_of(state, equation);
@@ -111,37 +113,44 @@ private:
                     D3D11_BLEND_ONE, D3D11_BLEND_ZERO, D3D11_BLEND_OP_ADD, (UINT8)state.write_mask};
         return {!equation.replaces(), (D3D11_BLEND)equation.color_source, (D3D11_BLEND)equation.color_stored,
                 (D3D11_BLEND_OP)equation.color_operation, (D3D11_BLEND)alpha_factor(equation.alpha_source),
-                (D3D11_BLEND)alpha_factor(equation.alpha_stored), (D3D11_BLEND_OP)equation.alpha_operation, (UINT8)state.write_mask};
+                (D3D11_BLEND)alpha_factor(equation.alpha_stored), (D3D11_BLEND_OP)equation.alpha_operation,
+                (UINT8)state.write_mask};
     }
 
     static Held<IDXGIAdapter1> numbered(const std::string& number) {
         Held<IDXGIFactory1> factory;
         Held<IDXGIAdapter1> adapter;
         check(CreateDXGIFactory1(__uuidof(IDXGIFactory1), (void**)factory.put()), "list of adapters");
-        if (FAILED(factory->EnumAdapters1((UINT)std::stoul(number), adapter.put()))) throw Failure("NoAdapter: there is no adapter " + number);
+        if (FAILED(factory->EnumAdapters1((UINT)std::stoul(number), adapter.put())))
+            throw Failure("NoAdapter: there is no adapter " + number);
         return adapter;
     }
 
     // What is the same for every draw.
     void set_up() {
         Held<ID3DBlob> code = compile(shader_source(""), "vertex", "vs_4_0");
-        check(device->CreateVertexShader(code->GetBufferPointer(), code->GetBufferSize(), nullptr, vertex_shader.put()), "vertex shader");
+        check(device->CreateVertexShader(code->GetBufferPointer(), code->GetBufferSize(), nullptr, vertex_shader.put()),
+              "vertex shader");
         const D3D11_INPUT_ELEMENT_DESC layout[] = {
             {"POSITION", 0, DXGI_FORMAT_R32G32B32A32_FLOAT, 0, 0, D3D11_INPUT_PER_VERTEX_DATA, 0},
             {"COLOR", 0, DXGI_FORMAT_R8G8B8A8_UNORM, 0, 16, D3D11_INPUT_PER_VERTEX_DATA, 0}};
-        check(device->CreateInputLayout(layout, 2, code->GetBufferPointer(), code->GetBufferSize(), input.put()), "layout");
+        check(device->CreateInputLayout(layout, 2, code->GetBufferPointer(), code->GetBufferSize(), input.put()),
+              "layout");
         context->IASetInputLayout(input.get());
         context->VSSetShader(vertex_shader.get(), nullptr, 0);
         has_standard_pattern = takes_standard_pattern();
     }
 
-    static D3D11_TEXTURE2D_DESC texture(UINT width, UINT height, DXGI_FORMAT format, DXGI_SAMPLE_DESC samples, UINT bind) {
+    static D3D11_TEXTURE2D_DESC texture(UINT width, UINT height, DXGI_FORMAT format, DXGI_SAMPLE_DESC samples,
+                                        UINT bind) {
         return {width, height, 1, 1, format, samples, D3D11_USAGE_DEFAULT, bind, 0, 0};
     }
 
-    // Whether four samples can be asked to lie at the standard pattern; if not, at quality 0 they lie at the device's own.
+    // Whether four samples can be asked to lie at the standard pattern; if not, at quality 0 they lie
+    // at the device's own.
     bool takes_standard_pattern() {
-        D3D11_TEXTURE2D_DESC asked = texture(64, 64, COLORS, {4, (UINT)D3D11_STANDARD_MULTISAMPLE_PATTERN}, D3D11_BIND_RENDER_TARGET);
+        D3D11_TEXTURE2D_DESC asked =
+            texture(64, 64, COLORS, {4, (UINT)D3D11_STANDARD_MULTISAMPLE_PATTERN}, D3D11_BIND_RENDER_TARGET);
         Held<ID3D11Texture2D> tried;
         return SUCCEEDED(device->CreateTexture2D(&asked, nullptr, tried.put()));
     }
@@ -152,7 +161,8 @@ private:
         if (target.samples > 1 && has_standard_pattern) samples.Quality = (UINT)D3D11_STANDARD_MULTISAMPLE_PATTERN;
         UINT qualities = 0;
         device->CheckMultisampleQualityLevels(COLORS, target.samples, &qualities);
-        if (target.samples > 1 && !qualities) throw Refusal("a target with " + std::to_string(target.samples) + " samples");
+        if (target.samples > 1 && !qualities)
+            throw Refusal("a target with " + std::to_string(target.samples) + " samples");
         D3D11_TEXTURE2D_DESC asked = texture(target.width, target.height, COLORS, samples, D3D11_BIND_RENDER_TARGET);
         check(device->CreateTexture2D(&asked, nullptr, made.drawn.put()), "target");
         check(device->CreateRenderTargetView(made.drawn.get(), nullptr, made.color_view.put()), "view of the target");

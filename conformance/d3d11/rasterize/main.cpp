@@ -2,9 +2,9 @@
 //
 //     rasterize.exe [--device hardware|warp|N] < requests > answers
 //
-// The requests are read and checked whole, then drawn one after another. Exit status 0 if every request has its answer; 2 if
-// not, with one line on standard error that begins with the error's name. docs/conformance.md says how the streams are made and
-// compared.
+// The requests are read and checked whole, then drawn one after another. Exit status 0 if every request has its answer;
+// 2 if not, with one line on standard error that begins with the error's name. docs/conformance.md says how the streams
+// are made and compared.
 #include "about.hpp"
 #include "binary.hpp"
 #include "sheet.hpp"
@@ -13,7 +13,8 @@ namespace {
 
 void set_buffers(Device& device, const Request& request, Held<ID3D11Buffer>& vertices, Held<ID3D11Buffer>& indices) {
     if (request.indices.empty()) return;
-    vertices = device.buffer(request.vertices.data(), request.vertices.size() * sizeof(Vertex), D3D11_BIND_VERTEX_BUFFER);
+    vertices =
+        device.buffer(request.vertices.data(), request.vertices.size() * sizeof(Vertex), D3D11_BIND_VERTEX_BUFFER);
     indices = device.buffer(request.indices.data(), request.indices.size() * 4, D3D11_BIND_INDEX_BUFFER);
     ID3D11Buffer* one = vertices.get();
     UINT stride = sizeof(Vertex), offset = 0;
@@ -23,17 +24,21 @@ void set_buffers(Device& device, const Request& request, Held<ID3D11Buffer>& ver
 
 void begin(Device& device, const Request& request, Frame& frame) {
     const Viewport& asked = request.viewport;
-    D3D11_VIEWPORT viewport = {asked.left + asked.move_x / 256.f, asked.top + asked.move_y / 256.f, (float)asked.width, (float)asked.height, 0, 1};
+    D3D11_VIEWPORT viewport = {asked.left + asked.move_x / 256.f, asked.top + asked.move_y / 256.f, (float)asked.width,
+                               (float)asked.height, 0, 1};
     const Clear& clear = request.clear;
     const float color[4] = {clear.red / 255.f, clear.green / 255.f, clear.blue / 255.f, request.clear_alpha / 255.f};
     ID3D11RenderTargetView* view = frame.color_view.get();
     device.context->OMSetRenderTargets(1, &view, frame.depth_view.get());
     device.context->RSSetViewports(1, &viewport);
     device.context->ClearRenderTargetView(view, color);
-    device.context->ClearDepthStencilView(frame.depth_view.get(), D3D11_CLEAR_DEPTH, depth_value((int32_t)clear.depth), 0);
+    device.context->ClearDepthStencilView(frame.depth_view.get(), D3D11_CLEAR_DEPTH, depth_value((int32_t)clear.depth),
+                                          0);
 }
 
-Shading shading_of(const State& state, const Target& target) { return !state.is_shaded ? FLAT : target.samples > 1 ? BY_SAMPLE : BY_PIXEL; }
+Shading shading_of(const State& state, const Target& target) {
+    return !state.is_shaded ? FLAT : target.samples > 1 ? BY_SAMPLE : BY_PIXEL;
+}
 
 void set_state(Device& device, const Request& request, const State& state, const Equation& equation) {
     ID3D11DeviceContext* context = device.context.get();
@@ -42,7 +47,8 @@ void set_state(Device& device, const Request& request, const State& state, const
     const float constant[4] = {equation.constant_channel(0), equation.constant_channel(1), equation.constant_channel(2),
                                equation.constant_channel(3)};
     context->OMSetBlendState(device.blend(state, equation), constant, mask_of(state, request.target));
-    context->IASetPrimitiveTopology(equation.topology == STRIP ? D3D11_PRIMITIVE_TOPOLOGY_TRIANGLESTRIP : D3D11_PRIMITIVE_TOPOLOGY_TRIANGLELIST);
+    context->IASetPrimitiveTopology(equation.topology == STRIP ? D3D11_PRIMITIVE_TOPOLOGY_TRIANGLESTRIP
+                                                               : D3D11_PRIMITIVE_TOPOLOGY_TRIANGLELIST);
     context->PSSetShader(device.shader(shading_of(state, request.target)), nullptr, 0);
     D3D11_RECT box = {state.scissor[0], state.scissor[1], state.scissor[2], state.scissor[3]};
     context->RSSetScissorRects(1, &box);
@@ -64,9 +70,10 @@ void draw(Device& device, Sheet& sheet, const Request& request) {
         if (state.indices) device.context->DrawIndexed(state.indices, first, 0);
         first += state.indices;
     }
-    if (request.target.samples > 1) device.context->ResolveSubresource(frame.resolved.get(), 0, frame.drawn.get(), 0, COLORS);
-    sheet.take(request.target.samples > 1 ? frame.resolved.get() : frame.drawn.get(), request.target.width, request.target.height,
-               request.output == PIXELS);
+    if (request.target.samples > 1)
+        device.context->ResolveSubresource(frame.resolved.get(), 0, frame.drawn.get(), 0, COLORS);
+    sheet.take(request.target.samples > 1 ? frame.resolved.get() : frame.drawn.get(), request.target.width,
+               request.target.height, request.output == PIXELS);
 }
 
 void run(const std::string& asked) {
@@ -86,7 +93,8 @@ void run(const std::string& asked) {
 }
 
 bool is_device(const std::string& word) {
-    return word == "hardware" || word == "warp" || (!word.empty() && word.size() < 4 && word.find_first_not_of("0123456789") == word.npos);
+    return word == "hardware" || word == "warp" ||
+           (!word.empty() && word.size() < 4 && word.find_first_not_of("0123456789") == word.npos);
 }
 
 }  // namespace
