@@ -1,13 +1,15 @@
-// Times canvases on one thread by processor time, and prints the least of some rounds. bench/canvas.py builds and runs it.
+// Times canvases on one thread by processor time, and prints the least of some rounds. bench/canvas.py
+// builds and runs it.
 //
 //     canvas scene FILE ROUNDS      microseconds of clearing, of drawing and of resolving a scene
-//     canvas batches SIDE ROUNDS    nanoseconds of each of 10,000 batches of two triangles of 8 pixels, by colours and by ids
+//     canvas batches SIDE ROUNDS    nanoseconds of each of 10,000 batches of two triangles of 8 pixels, by
+//                                   colours and by ids
 //     canvas samples FILE ROUNDS N  microseconds of clearing and drawing a scene on a canvas of N samples a pixel
 //     canvas blend FILE ROUNDS BLEND CHANNELS
 //                                   the same with four samples, by a blend of a name on a canvas of 3 or 4 channels
 //
-// A FILE is three counts, a head and the arrays of a batch, as 32-bit integers: tools/checks/library/lists.py writes it, and scenes.c beside
-// it reads it.
+// A FILE is three counts, a head and the arrays of a batch, as 32-bit integers: tools/checks/library/lists.py writes
+// it, and scenes.c beside it reads it.
 #define _POSIX_C_SOURCE 200809L
 #include <stdio.h>
 #include <stdlib.h>
@@ -84,8 +86,10 @@ static void time_scene(const char *path, int rounds) {
     free_scene(&read), free(pixels), free(canvas.memory);
 }
 
-// Draws every sample of a pixel, also where a list, which has four at most, draws those four. With a blend it is that of each draw.
-static void time_samples(const char *path, int rounds, uint32_t samples, uint32_t channels, const trirast_blend *blend) {
+// Draws every sample of a pixel, also where a list, which has four at most, draws those four. With a blend it
+// is that of each draw.
+static void time_samples(const char *path, int rounds, uint32_t samples, uint32_t channels,
+                         const trirast_blend *blend) {
     scene read = scene_in(path);
     for (size_t k = 0; k < read.batch.draw_count; k++) {
         read.draws[k].skip_samples = 0;
@@ -110,18 +114,20 @@ typedef struct named_blend {
     trirast_blend blend;
 } named_blend;
 
-// Those of the header, and two that are chosen while the program runs: by a constant for colours and another equation for alpha, and the
-// stored channel less the new one by the stored alpha.
+// Those of the header, and two that are chosen while the program runs: by a constant for colours and another equation
+// for alpha, and the stored channel less the new one by the stored alpha.
 static trirast_blend blend_of(const char *name) {
     const named_blend all[] = {
         {"none", TRIRAST_BLEND_NONE},
         {"over", TRIRAST_BLEND_OVER},
         {"premultiplied", TRIRAST_BLEND_PREMULTIPLIED},
         {"add", TRIRAST_BLEND_ADD},
-        {"constant", {TRIRAST_FACTOR_CONSTANT, TRIRAST_FACTOR_INVERSE_CONSTANT, TRIRAST_OPERATION_ADD, TRIRAST_FACTOR_ONE,
-                      TRIRAST_FACTOR_INVERSE_SOURCE_ALPHA, TRIRAST_OPERATION_ADD, {64, 128, 192, 96}}},
-        {"subtract", {TRIRAST_FACTOR_STORED_ALPHA, TRIRAST_FACTOR_ONE, TRIRAST_OPERATION_REVERSE_SUBTRACT, TRIRAST_FACTOR_STORED_ALPHA,
-                      TRIRAST_FACTOR_ONE, TRIRAST_OPERATION_REVERSE_SUBTRACT, {0, 0, 0, 0}}},
+        {"constant",
+         {TRIRAST_FACTOR_CONSTANT, TRIRAST_FACTOR_INVERSE_CONSTANT, TRIRAST_OPERATION_ADD, TRIRAST_FACTOR_ONE,
+          TRIRAST_FACTOR_INVERSE_SOURCE_ALPHA, TRIRAST_OPERATION_ADD, {64, 128, 192, 96}}},
+        {"subtract",
+         {TRIRAST_FACTOR_STORED_ALPHA, TRIRAST_FACTOR_ONE, TRIRAST_OPERATION_REVERSE_SUBTRACT,
+          TRIRAST_FACTOR_STORED_ALPHA, TRIRAST_FACTOR_ONE, TRIRAST_OPERATION_REVERSE_SUBTRACT, {0, 0, 0, 0}}},
     };
     for (size_t k = 0; k < sizeof all / sizeof *all; k++)
         if (!strcmp(all[k].name, name)) return all[k].blend;
@@ -139,7 +145,8 @@ static void time_blend(const char *path, int rounds, const char *name, uint32_t 
 static void place(trirast_vertex vertices[4], uint32_t number, uint32_t side) {
     int32_t x = (int32_t)(number * 7919 % (side - 8)) * 256, y = (int32_t)(number * 104729 % (side - 8)) * 256;
     for (int k = 0; k < 4; k++) {
-        vertices[k] = (trirast_vertex){x + (k == 1 || k == 2 ? 2048 : 0), y + (k > 1 ? 2048 : 0), 100, (uint8_t)number, 90, 30, 255, 0};
+        vertices[k] = (trirast_vertex){
+            x + (k == 1 || k == 2 ? 2048 : 0), y + (k > 1 ? 2048 : 0), 100, (uint8_t)number, 90, 30, 255, 0};
     }
 }
 

@@ -1,17 +1,19 @@
 """Times canvases on the scenes of bench/scenes.py, and prints six tables.
 
-    python3 -m bench.canvas [--runs 5] [--scenes tiny mesh ..] [--tables parts batches samples ..] [--threads 1 4] [--small-pages]
+    python3 -m bench.canvas [--runs 5] [--scenes tiny mesh ..] [--tables parts batches samples ..] [--threads 1 4]
+        [--small-pages]
 
 Needs `make library` and gcc.
 
 parts: the least time of clearing, of drawing and of resolving each scene on a canvas, by processor time on one thread.
 batches: the processor time of a batch of two triangles of 8 pixels, of 10,000.
-samples: the instructions of a sample with 2, 8 and 16 samples a pixel by those of one with four, and its time so; clear and draw.
-Instructions need valgrind.
-blends: the instructions and the time of blend equations on canvases without and with alpha by those of over, four samples a pixel,
-one thread, and those with alpha by those without.
-frames: the processor time of a frame by examples/cpp/frames.cpp, one batch, beside one by crates/frames. Needs `make frames` and g++.
-scattered: the same of scenes of scattered triangles, cut into batches of fewer triangles, on one thread.
+samples: the instructions of a sample with 2, 8 and 16 samples a pixel by those of one with four, and its time so; clear
+and draw. Instructions need valgrind.
+blends: the instructions and the time of blend equations on canvases without and with alpha by those of over, four
+samples a pixel, one thread, and those with alpha by those without.
+frames: the processor time of a frame by examples/cpp/frames.cpp, one batch, beside one by crates/frames. Needs
+`make frames` and g++. scattered: the same of scenes of scattered triangles, cut into batches of fewer
+triangles, on one thread.
 
 With --small-pages Linux gives no program large pages, for which trirast.hpp asks.
 """
@@ -38,8 +40,8 @@ SIDES = (1024, 4096)
 PROGRAM = os.path.join(BENCH_OUT, "canvas")
 FRAMES_EXAMPLE = os.path.join(BENCH_OUT, "canvas_frames")
 TABLES = ("parts", "batches", "samples", "blends", "frames", "scattered")
-# The time of a frame is that of further frames by their number, so that reading the list does not count. The least number of these,
-# and the seconds that they take at least.
+# The time of a frame is that of further frames by their number, so that reading the list does not count. The least
+# number of these, and the seconds that they take at least.
 FRAMES = 6
 ENOUGH_SECONDS = 0.5
 # A frame of fewer seconds is lost in what a process takes.
@@ -105,7 +107,9 @@ Drawn = tuple[str, ...]
 def instructions(table: str, path: str, drawn: Drawn) -> int:
     """What clearing and drawing once takes, by callgrind."""
     calls = [f"--toggle-collect=trirast_proved_canvas_{call}" for call in ("clear", "draw")]
-    command = ["valgrind", "--tool=callgrind", "--callgrind-out-file=/dev/null", *calls, PROGRAM, table, path, "1", *drawn]
+    command = [
+        "valgrind", "--tool=callgrind", "--callgrind-out-file=/dev/null", *calls, PROGRAM, table, path, "1", *drawn
+    ]
     done = subprocess.run(command, check=True, capture_output=True, text=True)
     return int(done.stderr.rsplit("Collected :", 1)[1].split()[0])
 
@@ -115,13 +119,16 @@ def has_instructions() -> bool:
 
 
 def costs(table: str, name: str, each: Sequence[Drawn], rounds: int) -> list[dict[Drawn, float]]:
-    """The instructions of each way to draw a scene, if they can be counted, and the least times in microseconds, in turns."""
+    """The instructions of each way to draw a scene, if they can be counted, and the least times in
+    microseconds, in turns."""
     path = arrays_path(name)
     least = {drawn: float("inf") for drawn in each}
     for _ in range(rounds):
         for drawn in each:
             least[drawn] = min(least[drawn], timed(table, path, "3", *drawn)[0])
-    return [*([{drawn: float(instructions(table, path, drawn)) for drawn in each}] if has_instructions() else []), least]
+    return [
+        *([{drawn: float(instructions(table, path, drawn)) for drawn in each}] if has_instructions() else []), least
+    ]
 
 
 def print_samples(rounds: int) -> None:
@@ -170,7 +177,8 @@ def way_of_canvas(threads: int, *more: str) -> Way:
 
 
 def frames_of(source: str) -> int:
-    """The number of further frames of a list: the time of short ones is lost in that of a process, so there are more of them."""
+    """The number of further frames of a list: the time of short ones is lost in that of a process, so there
+    are more of them."""
     with open(source, "rb") as list_file:
         done = subprocess.run([FRAMES_EXAMPLE, "--frames", "3"], check=True, stdin=list_file, capture_output=True)
     least = float(done.stderr.split()[1]) / 1000
@@ -202,7 +210,9 @@ def print_frames(names: Sequence[str], rounds: int, threads: Sequence[int]) -> N
         source = source_of(name)
         for count in threads:
             frame, canvas = processor_times(source, (way_of_frames(count), way_of_canvas(count)), rounds)
-            cells = [f"{1000 * frame:.2f}", f"{1000 * canvas:.2f}", f"{canvas / frame:.2f}"] if frame > LEAST else ["-"] * 3
+            cells = (
+                [f"{1000 * frame:.2f}", f"{1000 * canvas:.2f}", f"{canvas / frame:.2f}"] if frame > LEAST else ["-"] * 3
+            )
             print(report.row([name, str(count), *cells]), flush=True)
 
 
@@ -251,7 +261,10 @@ def main() -> int:
     parser = argparse.ArgumentParser(description="Times canvases.")
     add_runs(parser, 5, "rounds of which the least counts")
     add_scenes(parser, SCENES)
-    parser.add_argument("--tables", nargs="+", choices=TABLES, default=TABLES, metavar="TABLE", help=f"{', '.join(TABLES)} (default all)")
+    parser.add_argument(
+        "--tables", nargs="+", choices=TABLES, default=TABLES, metavar="TABLE",
+        help=f"{', '.join(TABLES)} (default all)",
+    )
     parser.add_argument("--threads", type=int, nargs="+", default=(1, 4), help="of a frame (default 1 4)")
     parser.add_argument("--small-pages", action="store_true", help="without large pages")
     options = parser.parse_args()

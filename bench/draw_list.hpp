@@ -52,7 +52,8 @@ struct Scene {
     std::exit(1);
 }
 
-// ---- Reading ---------------------------------------------------------------------------------------------------------
+// ---- Reading
+// ---------------------------------------------------------------------------------------------------------
 
 class Reader {
 public:
@@ -154,7 +155,8 @@ inline Draw read_draw(Reader& in) {
                 int64_t v[7];
                 int k = 0;
                 in.array([&] { v[k++] = in.number(); });
-                Vertex vertex = {static_cast<int32_t>(v[0]), static_cast<int32_t>(v[1]), static_cast<uint16_t>(v[2]), {}};
+                Vertex vertex = {
+                    static_cast<int32_t>(v[0]), static_cast<int32_t>(v[1]), static_cast<uint16_t>(v[2]), {}};
                 for (int c = 0; c < 4; ++c) vertex.rgba[c] = static_cast<uint8_t>(v[3 + c]);
                 draw.vertices.push_back(vertex);
             });

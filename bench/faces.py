@@ -2,10 +2,10 @@
 
     PYTHONPATH=python/src /usr/bin/python3 -m bench.faces [--runs 5] [--dpi 100] [--memory]
 
-Needs `make library`, numpy and matplotlib. For each figure it gives the least processor times of some rounds of a canvas's
-draw(), by one thread: the whole figure, axes and labels too. The two take turns, so that a busy machine slows both, and
-both draw smoothly what matplotlib draws without antialiasing by default. With --memory each figure is drawn once by each in
-a process of its own, and the table has the greatest memory of the process in place of times.
+Needs `make library`, numpy and matplotlib. For each figure it gives the least processor times of some rounds of a
+canvas's draw(), by one thread: the whole figure, axes and labels too. The two take turns, so that a busy machine slows
+both, and both draw smoothly what matplotlib draws without antialiasing by default. With --memory each figure is drawn
+once by each in a process of its own, and the table has the greatest memory of the process in place of times.
 """
 
 from __future__ import annotations
@@ -47,7 +47,9 @@ def faces(axes: Any, alpha: float = 1.0, columns: int = COLUMNS, rows: int = ROW
 
 
 def mesh(axes: Any) -> None:
-    axes.pcolormesh(*bent_grid(COLUMNS, ROWS), np.random.default_rng(1).random((ROWS, COLUMNS)), antialiased=True, snap=False)
+    axes.pcolormesh(
+        *bent_grid(COLUMNS, ROWS), np.random.default_rng(1).random((ROWS, COLUMNS)), antialiased=True, snap=False
+    )
 
 
 def triangles(axes: Any) -> None:
@@ -123,22 +125,31 @@ def memory_row_of(name: str, dpi: int) -> str:
     found = []
     for backend in BOTH:
         program = f"from bench import faces; faces.canvas_of(faces.BOTH[{backend!r}], {name!r}, {dpi}).draw(); {MEMORY}"
-        found.append(int(subprocess.run([sys.executable, "-c", program], check=True, stdout=subprocess.PIPE).stdout) / 1024)
+        found.append(
+            int(subprocess.run([sys.executable, "-c", program], check=True, stdout=subprocess.PIPE).stdout) / 1024
+        )
     return f"| {name} | {found[0]:.0f} | {found[1]:.0f} | {found[1] / found[0]:.2f} |"
 
 
 def main() -> None:
     parser = argparse.ArgumentParser(description="Times figures with faces in matplotlib.")
     add_runs(parser, 5, "rounds of which the least counts")
-    parser.add_argument("--dpi", type=int, default=100, help="pixels per inch of figures of 6.4 by 4.8 inches (default 100)")
+    parser.add_argument(
+        "--dpi", type=int, default=100, help="pixels per inch of figures of 6.4 by 4.8 inches (default 100)"
+    )
     parser.add_argument("--memory", action="store_true", help="the memory of processes in place of times")
     options = parser.parse_args()
-    what = "Greatest memory of a process, MB" if options.memory else f"Least of {options.runs} rounds, milliseconds of a processor"
+    what = (
+        "Greatest memory of a process, MB"
+        if options.memory else f"Least of {options.runs} rounds, milliseconds of a processor"
+    )
     print(report.machine())
     print(f"{what}; {6.4 * options.dpi:.0f} x {4.8 * options.dpi:.0f} pixels.\n")
     report.print_head(("figure", "Agg", "trirast", "ratio"))
     for name in FIGURES:
-        print(memory_row_of(name, options.dpi) if options.memory else row_of(name, options.dpi, options.runs), flush=True)
+        print(
+            memory_row_of(name, options.dpi) if options.memory else row_of(name, options.dpi, options.runs), flush=True
+        )
     report.print_end()
 
 

@@ -2,8 +2,9 @@
 
     PYTHONPATH=python/src /usr/bin/python3 -m bench.gouraud [--runs 7] [--side 400]
 
-Needs `make library`, numpy and matplotlib. For each mesh it gives the least times of some rounds of a canvas's draw(), by one thread: the
-whole figure, axes and labels too. The two take turns, so that a busy machine slows both. The ratio is that of the processor times.
+Needs `make library`, numpy and matplotlib. For each mesh it gives the least times of some rounds of a canvas's draw(),
+by one thread: the whole figure, axes and labels too. The two take turns, so that a busy machine slows both. The ratio
+is that of the processor times.
 """
 
 from __future__ import annotations
@@ -40,7 +41,10 @@ def tripcolor(axes: Any, side: int, **more: Any) -> int:
     corners = (np.arange(count - 1)[:, None] * count + np.arange(count - 1)).ravel()
     upper, lower = ((corners, corners + 1, corners + count), (corners + count, corners + 1, corners + count + 1))
     triangles = np.concatenate([np.stack(half, 1) for half in (upper, lower)])
-    axes.tripcolor(Triangulation((x + moved[0]).ravel(), (y + moved[1]).ravel(), triangles), np.sin(30 * x * y).ravel(), shading="gouraud", **more)
+    axes.tripcolor(
+        Triangulation((x + moved[0]).ravel(), (y + moved[1]).ravel(), triangles), np.sin(30 * x * y).ravel(),
+        shading="gouraud", **more,
+    )
     return len(triangles)
 
 

@@ -1,10 +1,11 @@
-"""Times whole processes of programs that draw the same, in turns: the program by level of x86-64, and as it is installed.
+"""Times whole processes of programs that draw the same, in turns: the program by level of x86-64, and
+as it is installed.
 
     python3 -m bench.levels [--runs 9] [--scenes small ..] [--workers 1 4] PROGRAM ..
 
-For each scene and number of workers it gives the least processor time of each program, in brackets the least wall time, both in
-milliseconds, and the ratio of its processor time to that of the first program. Output is thrown away, after one run of each whose
-pictures are compared. Exit status 1 if a run fails or a picture differs.
+For each scene and number of workers it gives the least processor time of each program, in brackets the least wall time,
+both in milliseconds, and the ratio of its processor time to that of the first program. Output is thrown away, after one
+run of each whose pictures are compared. Exit status 1 if a run fails or a picture differs.
 
 Linux alone.
 """

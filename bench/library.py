@@ -2,11 +2,11 @@
 
     PYTHONPATH=python/src python3 -m bench.library [--runs 5] [--threads 4] [--scenes tiny mesh ..]
 
-Needs `make library`. For each scene it gives the least time of some rounds of: the program with one worker and with as many
-workers as threads, a whole process each; trirast_list_info, which reads the list and draws nothing; trirast_list_draw on one
-thread, which reads the list and draws its file into a buffer that is there; and trirast.draw of Python with the threads, which
-reads the image info, makes a buffer, and has each thread read the list and draw its part. The ways take turns, so that a busy
-machine slows them all. Linux alone.
+Needs `make library`. For each scene it gives the least time of some rounds of: the program with one worker and with as
+many workers as threads, a whole process each; trirast_list_info, which reads the list and draws nothing;
+trirast_list_draw on one thread, which reads the list and draws its file into a buffer that is there; and trirast.draw
+of Python with the threads, which reads the image info, makes a buffer, and has each thread read the list and draw its
+part. The ways take turns, so that a busy machine slows them all. Linux alone.
 """
 
 from __future__ import annotations

@@ -2,15 +2,18 @@
 
     python3 -m bench.limits [--runs 5] [--scenes small mesh smooth flat]
 
-Needs `make frames`, a C and a C++ compiler, and x86-64 with AVX2. One worker draws, by the build for x86-64-v2, whose vectors have 128 bits.
+Needs `make frames`, a C and a C++ compiler, and x86-64 with AVX2. One worker draws, by the build for x86-64-v2, whose
+vectors have 128 bits.
 
-- groups: two rows of a block at one sample of each pixel, sixteen samples, counted by the model of bench/model, which draws the same
-  blocks: those that a triangle meets, and those of which it changes a sample.
-- operations: the least number of operations on vectors of 128 bits for these groups by the arithmetic of crates/planes and crates/lanes
-  (`operations`, below), and stores, of which a processor makes one a cycle. Setup, coverage, bins and bytes of pixels are not in it.
+- groups: two rows of a block at one sample of each pixel, sixteen samples, counted by the model of bench/model, which
+  draws the same blocks: those that a triangle meets, and those of which it changes a sample.
+- operations: the least number of operations on vectors of 128 bits for these groups by the arithmetic of crates/planes
+  and crates/lanes (`operations`, below), and stores, of which a processor makes one a cycle. Setup, coverage, bins and
+  bytes of pixels are not in it.
 - memory: the list as it is kept, read once, and the picture's bytes, written once. Samples stay in caches.
 
-bench/machine.c measures operations and cycles in a second, and bytes from and to memory. The limit is the greatest of the three times.
+bench/machine.c measures operations and cycles in a second, and bytes from and to memory. The limit is the
+greatest of the three times.
 """
 
 from __future__ import annotations
@@ -34,13 +37,14 @@ SCENES = ("small", "mesh", "smooth", "flat")
 MACHINE = os.path.join(BENCH_OUT, "machine")
 COUNTING_MODEL = os.path.join(BENCH_OUT, "model_counts")
 COLUMNS = (
-    "scene", "groups met, drawn, millions", "samples drawn, millions", "operations, millions (ms)", "stores, millions (ms)",
-    "memory, MB (ms)", "frame, ms", "frame / limit",
+    "scene", "groups met, drawn, millions", "samples drawn, millions", "operations, millions (ms)",
+    "stores, millions (ms)", "memory, MB (ms)", "frame, ms", "frame / limit",
 )
 
 # Bytes of a vertex, of an index and of a triangle's rows in a list that was read (docs/architecture.md, Memory).
 VERTEX, INDEX, ROWS = 16, 4, 4
-# How the model numbers its ways to compute a depth or a colour. Colours have one more, for planes that are sure: no fraction is looked at.
+# How the model numbers its ways to compute a depth or a colour. Colours have one more, for planes that are sure: no
+# fraction is looked at.
 UNUSED, DEPTH_PLANE = 0, 2
 FLAT, PLANES = 0, 1
 
@@ -101,7 +105,9 @@ class Machine(NamedTuple):
 def build(target: str, source: str, *compilers_and_flags: str) -> None:
     compiler = next((name for name in compilers_and_flags if shutil.which(name)), None)
     if compiler is None:
-        raise SystemExit(f"limits: there is none of {', '.join(name for name in compilers_and_flags if name[0] != '-')}")
+        raise SystemExit(
+            f"limits: there is none of {', '.join(name for name in compilers_and_flags if name[0] != '-')}"
+        )
     flags = [flag for flag in compilers_and_flags if flag[0] == "-"]
     subprocess.run([compiler, *flags, "-o", target, os.path.join(TOP, "bench", *source.split("/"))], check=True)
 
@@ -116,7 +122,9 @@ def machine() -> Machine:
 def groups_of(source: str) -> list[Groups]:
     """The groups of a list's frame, by the model that counts them."""
     with open(source, "rb") as file:
-        done = subprocess.run([COUNTING_MODEL], stdin=file, stdout=subprocess.DEVNULL, stderr=subprocess.PIPE, check=True, text=True)
+        done = subprocess.run(
+            [COUNTING_MODEL], stdin=file, stdout=subprocess.DEVNULL, stderr=subprocess.PIPE, check=True, text=True
+        )
     lines = [line for line in done.stderr.splitlines() if line.startswith("depths")]
     return [Groups(*(int(number) for number in re.findall(r"\d+", line))) for line in lines]
 
@@ -143,7 +151,8 @@ def row_of(name: str, program: str, most: Machine, runs: int) -> str:
     by_operations, by_stores, by_memory = (f"({time / 1e6:.1f})" for time in times)
     return report.row((
         name, f"{met / 1e6:.2f}, {drawn / 1e6:.2f}", f"{samples / 1e6:.2f}", f"{operations / 1e6:.0f} {by_operations}",
-        f"{stores / 1e6:.1f} {by_stores}", f"{(kept + picture) / 1e6:.1f} {by_memory}", f"{frame / 1e6:.2f}", f"{frame / max(times):.1f}",
+        f"{stores / 1e6:.1f} {by_stores}", f"{(kept + picture) / 1e6:.1f} {by_memory}", f"{frame / 1e6:.2f}",
+        f"{frame / max(times):.1f}",
     ))
 
 
@@ -154,10 +163,16 @@ def main() -> int:
     add_any_scenes(parser, SCENES)
     options = parser.parse_args()
     scenes.write_all(options.scenes)
-    build(COUNTING_MODEL, "model/main.cpp", "g++", "clang++", "-std=c++17", "-O2", "-march=x86-64-v2", "-pthread", "-DCOUNT_GROUPS")
+    build(
+        COUNTING_MODEL, "model/main.cpp", "g++", "clang++", "-std=c++17", "-O2", "-march=x86-64-v2", "-pthread",
+        "-DCOUNT_GROUPS",
+    )
     most = machine()
     print(f"{report.machine()} One processor does at the most, in a nanosecond: {most.cycles:.2f} cycles,")
-    print(f"{most.vectors:.2f} operations on vectors of 128 bits, {most.read:.1f} bytes from memory and {most.written:.1f} to it.\n")
+    print(
+        f"{most.vectors:.2f} operations on vectors of 128 bits, {most.read:.1f} bytes from memory "
+        f"and {most.written:.1f} to it.\n"
+    )
     report.print_head(COLUMNS)
     for name in options.scenes:
         print(row_of(name, options.frames, most, options.runs), flush=True)

@@ -1,17 +1,20 @@
 """Times the program and llvmpipe, Mesa's software driver: single frames, and whole processes.
 
-    python3 -m bench.llvmpipe [--runs 5] [--workers 1 4] [--scenes smooth mesh ..] [--lists some.json ..] [--model PROGRAM] [--before PROGRAM]
+    python3 -m bench.llvmpipe [--runs 5] [--workers 1 4] [--scenes smooth mesh ..] [--lists some.json ..]
+        [--model PROGRAM] [--before PROGRAM]
 
 A frame of llvmpipe goes from its clear to the pixels read back, warm, with values at each sample as by the program; a
 frame of the program goes from a list that was read to its picture's last byte, thrown away (`crates/frames`). The two
-take turns, and the median of each one's turns counts, with the processor time of the whole process in brackets; the spread is from the
-fastest turn of ours to its slowest one, by the median. `--model` names a third program that takes `--frames N --workers N`, reads a list and prints `least_ms N` on standard error. A whole process
-of ours starts, reads the list, draws it once and ends; llvmpipe has no such number, since it reads no list. If there is a
-build of crates/frames for x86-64-v3 (`make frames CPU=x86-64-v3`) and the processor runs it, it takes turns with them, and
-so does crates/frames of another build with --before.
+take turns, and the median of each one's turns counts, with the processor time of the whole process in brackets; the
+spread is from the fastest turn of ours to its slowest one, by the median. `--model` names a third program that takes
+`--frames N --workers N`, reads a list and prints `least_ms N` on standard error. A whole process of ours starts, reads
+the list, draws it once and ends; llvmpipe has no such number, since it reads no list. If there is a build of
+crates/frames for x86-64-v3 (`make frames CPU=x86-64-v3`) and the processor runs it, it takes turns with them, and so
+does crates/frames of another build with --before.
 
-llvmpipe's numbers are floating point, so its pictures are near the program's and not equal: the last column is the share
-of pixels of which a channel is more than 4 away. Mesa's EGL and OpenGL are called by ctypes, so nothing is compiled.
+llvmpipe's numbers are floating point, so its pictures are near the program's and not equal: the last column is
+the share of pixels of which a channel is more than 4 away. Mesa's EGL and OpenGL are called by ctypes, so
+nothing is compiled.
 
 Exit status 2 if there is no llvmpipe or no program, or if the model draws other bytes.
 """
@@ -35,8 +38,8 @@ from tools.places import BENCH_OUT, EXAMPLES, FRAMES_OF_LEVEL, LEVEL, MODEL_PROG
 
 SCENES = (
     "smooth", "small", "mesh", "slivers", "blended", "flat", "flat_depth", "flat_blended", "large_mesh", "whole_values",
-    "thin_slivers", "level_rows", "depths_first", "levels", "levels_four", "levels_depth", "charts", "steps", "sprites", "dust",
-    "hidden_quads",
+    "thin_slivers", "level_rows", "depths_first", "levels", "levels_four", "levels_depth", "charts", "steps", "sprites",
+    "dust", "hidden_quads",
 )
 WORKERS = (1, 4)
 FRAMES_A_TURN = 3
@@ -175,7 +178,10 @@ class Table:
         driver.end()
         (wall, processor), (process, spent) = medians(theirs), medians(whole)
         frame, spread = median(frames), (max(frames) - min(frames)) / median(frames)
-        cells = [f"{1000 * wall:.2f} ({1000 * processor:.1f})", f"{1000 * frame:.2f}", f"{100 * spread:.0f} %", f"{frame / wall:.2f}"]
+        cells = [
+            f"{1000 * wall:.2f} ({1000 * processor:.1f})", f"{1000 * frame:.2f}", f"{100 * spread:.0f} %",
+            f"{frame / wall:.2f}",
+        ]
         for others, by_frame in ((earlier, False), (levels, True), (models, False)):
             if others:
                 ratio = median(others) / frame if by_frame else frame / median(others)
@@ -191,7 +197,9 @@ class Table:
 
     def print(self, lists: list[str]) -> None:
         others = ((BEFORE_COLUMNS, self.before), (LEVEL_COLUMNS, self.of_level), (MODEL_COLUMNS, self.model))
-        report.print_head([*COLUMNS, *(column for columns, program in others if program for column in columns), *LAST_COLUMNS])
+        report.print_head(
+            [*COLUMNS, *(column for columns, program in others if program for column in columns), *LAST_COLUMNS]
+        )
         for source in lists:
             if self.model:
                 check_model(self.model, self.program, source)
@@ -204,8 +212,12 @@ def parsed() -> argparse.Namespace:
     parser = argparse.ArgumentParser(description="Times the program and llvmpipe.")
     parser.add_argument("--program", default=PROGRAM, help="default bin/trirast")
     add_frames_program(parser, "--frames")
-    parser.add_argument("--of-level", help=f"the same for {LEVEL} (default: where make frames CPU={LEVEL} leaves it, if it is there)")
-    parser.add_argument("--model", help="the program of bench/model (default: where make model builds it, if it is there)")
+    parser.add_argument(
+        "--of-level", help=f"the same for {LEVEL} (default: where make frames CPU={LEVEL} leaves it, if it is there)"
+    )
+    parser.add_argument(
+        "--model", help="the program of bench/model (default: where make model builds it, if it is there)"
+    )
     add_before(parser, "crates/frames")
     add_runs(parser, 5, "turns of each program, of which the median counts")
     parser.add_argument("--workers", type=int, nargs="+", default=WORKERS, help="default 1 4")
@@ -226,10 +238,14 @@ def chosen_model(chosen: str | None) -> str | None:
 
 
 def program_of_level(chosen: str | None) -> str | None:
-    """The build for the higher level of x86-64 to time, or `None` if it is not there or the processor does not run it."""
+    """The build for the higher level of x86-64 to time, or `None` if it is not there or the processor
+    does not run it."""
     program = chosen or FRAMES_OF_LEVEL
     if not os.access(program, os.X_OK):
-        print(f"no program at {program}, so its columns are left out; run make frames CPU={LEVEL} for them", file=sys.stderr)
+        print(
+            f"no program at {program}, so its columns are left out; run make frames CPU={LEVEL} for them",
+            file=sys.stderr,
+        )
         return None
     with open(os.path.join(EXAMPLES, "triangle.json"), "rb") as file:
         if subprocess.run([program], stdin=file, stdout=subprocess.DEVNULL).returncode:

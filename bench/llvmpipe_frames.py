@@ -2,8 +2,9 @@
 
     python3 -m bench.llvmpipe_frames LIST PIXELS
 
-Writes the pixels of one frame to the file PIXELS, in red, green, blue and alpha, and llvmpipe's name to standard output. Each line
-on standard input is a number of frames to draw. The least wall time of one of them goes out as a line, with its processor time.
+Writes the pixels of one frame to the file PIXELS, in red, green, blue and alpha, and llvmpipe's name to standard
+output. Each line on standard input is a number of frames to draw. The least wall time of one of them goes out as a
+line, with its processor time.
 """
 
 from __future__ import annotations

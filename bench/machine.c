@@ -1,5 +1,5 @@
-// Measures what one processor of this machine does at the most: cycles, operations on vectors of 128 and of 256 bits, and bytes from and
-// to memory.
+// Measures what one processor of this machine does at the most: cycles, operations on vectors of 128 and of 256 bits,
+// and bytes from and to memory.
 //
 //     clang -O2 -mavx2 -o bench/out/machine bench/machine.c && bench/out/machine
 //
@@ -32,16 +32,17 @@ static double additions(void) {
     return (double)CHAINS * STEPS / (seconds() - begin);
 }
 
-#define TWELVE(operation)                                                                                            \
-    operation(0) operation(1) operation(2) operation(3) operation(4) operation(5) operation(6) operation(7) operation(8) \
-        operation(9) operation(10) operation(11)
+#define TWELVE(operation) \
+    operation(0) operation(1) operation(2) operation(3) operation(4) operation(5) operation(6) operation(7) \
+        operation(8) operation(9) operation(10) operation(11)
 
 // Additions of four or eight lanes, of which as many run at once as the processor can.
 static double vectors_of_128(void) {
     double begin = seconds();
     for (int step = 0; step < STEPS; ++step) {
 #define ADD(k) "vpaddd %%xmm15, %%xmm" #k ", %%xmm" #k "\n\t"
-        __asm__ volatile(TWELVE(ADD)::: "xmm0", "xmm1", "xmm2", "xmm3", "xmm4", "xmm5", "xmm6", "xmm7", "xmm8", "xmm9", "xmm10", "xmm11");
+        __asm__ volatile(TWELVE(ADD)::: "xmm0", "xmm1", "xmm2", "xmm3", "xmm4", "xmm5", "xmm6", "xmm7", "xmm8", "xmm9",
+                         "xmm10", "xmm11");
 #undef ADD
     }
     return (double)CHAINS * STEPS / (seconds() - begin);
@@ -51,7 +52,8 @@ static double vectors_of_256(void) {
     double begin = seconds();
     for (int step = 0; step < STEPS; ++step) {
 #define ADD(k) "vpaddd %%ymm15, %%ymm" #k ", %%ymm" #k "\n\t"
-        __asm__ volatile(TWELVE(ADD)::: "xmm0", "xmm1", "xmm2", "xmm3", "xmm4", "xmm5", "xmm6", "xmm7", "xmm8", "xmm9", "xmm10", "xmm11");
+        __asm__ volatile(TWELVE(ADD)::: "xmm0", "xmm1", "xmm2", "xmm3", "xmm4", "xmm5", "xmm6", "xmm7", "xmm8", "xmm9",
+                         "xmm10", "xmm11");
 #undef ADD
     }
     return (double)CHAINS * STEPS / (seconds() - begin);
@@ -63,7 +65,8 @@ static double read_bytes(void) {
     __m256i sum[4] = {_mm256_setzero_si256(), _mm256_setzero_si256(), _mm256_setzero_si256(), _mm256_setzero_si256()};
     double begin = seconds();
     for (size_t at = 0; at < BYTES; at += sizeof sum)
-        for (size_t k = 0; k < 4; ++k) sum[k] = _mm256_xor_si256(sum[k], _mm256_load_si256((const __m256i*)(memory + at) + k));
+        for (size_t k = 0; k < 4; ++k)
+            sum[k] = _mm256_xor_si256(sum[k], _mm256_load_si256((const __m256i*)(memory + at) + k));
     double taken = seconds() - begin;
     sum[0] = _mm256_xor_si256(_mm256_xor_si256(sum[0], sum[1]), _mm256_xor_si256(sum[2], sum[3]));
     volatile long long kept = _mm256_extract_epi64(sum[0], 0);

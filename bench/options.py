@@ -38,10 +38,14 @@ def add_runs(parser: ArgumentParser, default: int, meaning: str) -> None:
 
 def add_scenes(parser: ArgumentParser, names: Sequence[str], default: Sequence[str] = ()) -> None:
     """Scenes of these names, by default all of them."""
-    parser.add_argument("--scenes", nargs="+", choices=names, default=default or names, metavar="NAME", help=", ".join(names))
+    parser.add_argument(
+        "--scenes", nargs="+", choices=names, default=default or names, metavar="NAME", help=", ".join(names)
+    )
 
 
 def add_any_scenes(parser: ArgumentParser, default: Sequence[str]) -> None:
     """Scenes of bench/scenes.py, by default these."""
     choices = tuple(scenes.SCENES)
-    parser.add_argument("--scenes", nargs="+", choices=choices, default=default, metavar="NAME", help="default " + ", ".join(default))
+    parser.add_argument(
+        "--scenes", nargs="+", choices=choices, default=default, metavar="NAME", help="default " + ", ".join(default)
+    )

@@ -1,8 +1,8 @@
 // A plain rasterizer of the same rules, on one thread, to compare trirast's speed and bytes with.
 //
 // For each triangle it steps the three edge functions over the pixels of the bounding box by additions, and shades each
-// covered sample, so that long slivers cost it much. It keeps the whole picture with all its samples. bench/draw_list.hpp
-// reads the list, and trusts it. Nothing of it is proved.
+// covered sample, so that long slivers cost it much. It keeps the whole picture with all its samples.
+// bench/draw_list.hpp reads the list, and trusts it. Nothing of it is proved.
 //
 //     g++ -O2 -std=c++17 -o bench/out/plain bench/plain.cpp
 //     bench/out/plain < list.json > picture.ppm
@@ -16,7 +16,8 @@
 
 namespace {
 
-// ---- Drawing ---------------------------------------------------------------------------------------------------------
+// ---- Drawing
+// ---------------------------------------------------------------------------------------------------------
 
 int64_t side(const Vertex& a, const Vertex& b, int64_t x, int64_t y) {
     return (int64_t{b.x} - a.x) * (y - a.y) - (int64_t{b.y} - a.y) * (x - a.x);

@@ -1,7 +1,8 @@
-// Times frames of polygons on a canvas, by cairo and by AGG, and counts pixels that are wrong along shared edges. bench/polygons.py
-// writes the scenes and runs it.
+// Times frames of polygons on a canvas, by cairo and by AGG, and counts pixels that are wrong along shared edges.
+// bench/polygons.py writes the scenes and runs it.
 //
-//     polygons time SCENE THREADS TURNS      a line for each renderer: seconds of the wall and of the processor, the least of its turns
+//     polygons time SCENE THREADS TURNS      a line for each renderer: seconds of the wall and of the processor, the
+//                                            least of its turns
 //     polygons seams SCENE                   a line for each renderer: pixels that are not white if all polygons are
 #include "trirast.hpp"
 
@@ -46,7 +47,8 @@ struct Scene {
 
     template <class T>
     static void read(std::FILE *file, T *to, std::size_t count) {
-        if (std::fread(to, sizeof(T), count, file) != count) std::fputs("a scene ends too soon\n", stderr), std::exit(2);
+        if (std::fread(to, sizeof(T), count, file) != count)
+            std::fputs("a scene ends too soon\n", stderr), std::exit(2);
     }
 
     trirast_polygons in_c() const {
@@ -56,7 +58,8 @@ struct Scene {
         found.ring_ends = ring_ends.data(), found.ring_count = ring_ends.size();
         found.polygon_ends = polygon_ends.data(), found.polygon_count = polygon_ends.size();
         found.colors = reinterpret_cast<const std::uint8_t(*)[4]>(colors.data()), found.color_count = colors.size();
-        const bool is_blended = std::any_of(colors.begin(), colors.end(), [](const auto &color) { return color[3] < 255; });
+        const bool is_blended =
+            std::any_of(colors.begin(), colors.end(), [](const auto &color) { return color[3] < 255; });
         if (is_blended) found.state.blend = TRIRAST_BLEND_OVER;
         return found;
     }
@@ -64,7 +67,8 @@ struct Scene {
     // Whether a polygon lies outside of some rows of pixels: cairo and AGG leave those out that they do not draw.
     bool is_outside(std::size_t polygon, int first, int end) const {
         const Box &box = boxes[polygon];
-        return box.bottom <= 256 * (top + first) || box.top >= 256 * (top + end) || box.right <= 256 * left || box.left >= 256 * (left + width);
+        return box.bottom <= 256 * (top + first) || box.top >= 256 * (top + end) || box.right <= 256 * left ||
+               box.left >= 256 * (left + width);
     }
 
     struct Box {
@@ -147,8 +151,8 @@ public:
 private:
     void rows(int first, int end) {
         const int stride = 4 * scene_.width;
-        cairo_surface_t *surface = cairo_image_surface_create_for_data(pixels_.data() + std::size_t(first) * stride, CAIRO_FORMAT_RGB24,
-                                                                      scene_.width, end - first, stride);
+        cairo_surface_t *surface = cairo_image_surface_create_for_data(
+            pixels_.data() + std::size_t(first) * stride, CAIRO_FORMAT_RGB24, scene_.width, end - first, stride);
         cairo_t *cairo = cairo_create(surface);
         cairo_set_source_rgb(cairo, GROUND[0] / 255.0, GROUND[1] / 255.0, GROUND[2] / 255.0);
         cairo_paint(cairo);
@@ -238,7 +242,8 @@ void count_seams(const std::vector<Renderer> &renderers) {
     for (const Renderer &each : renderers) {
         const Pixels &pixels = each.frame(1);
         std::size_t wrong = 0;
-        for (std::size_t k = 0; k < pixels.size(); k += 4) wrong += pixels[k] != 255 || pixels[k + 1] != 255 || pixels[k + 2] != 255;
+        for (std::size_t k = 0; k < pixels.size(); k += 4)
+            wrong += pixels[k] != 255 || pixels[k + 1] != 255 || pixels[k + 2] != 255;
         std::printf("%s %zu\n", each.name.c_str(), wrong);
     }
 }

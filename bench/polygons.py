@@ -7,8 +7,9 @@ of each counts. cairo and AGG blend by the covered area of a pixel, which has 25
 have 5 and 17. Seams are pixels that are not white after all polygons of a partition were drawn in white over a dark
 ground.
 
-It needs `make library`, numpy, g++, and of Debian libcairo2-dev and libagg-dev; the worlds also gmt-gshhg-high (or -full) and
-python3-netcdf4, and are left out without them. Exit status 2 if the program cannot be built or ends with an error.
+It needs `make library`, numpy, g++, and of Debian libcairo2-dev and libagg-dev; the worlds also
+gmt-gshhg-high (or -full) and python3-netcdf4, and are left out without them. Exit status 2 if the program
+cannot be built or ends with an error.
 """
 
 from __future__ import annotations
@@ -32,7 +33,9 @@ EVEN_ODD, NONZERO = 0, 1
 RENDERERS = ("cairo", "agg", "4", "16")
 TURN = 2 * np.pi
 # Of land and water, by level.
-LEVEL_COLORS = np.array([(144, 184, 216, 255), (160, 192, 128, 255), (144, 184, 216, 255), (176, 208, 144, 255), (144, 184, 216, 255)])
+LEVEL_COLORS = np.array(
+    [(144, 184, 216, 255), (160, 192, 128, 255), (144, 184, 216, 255), (176, 208, 144, 255), (144, 184, 216, 255)]
+)
 
 Array = Any
 
@@ -85,7 +88,9 @@ def partition() -> Scene:
     middles = points[halves[:, 0]]
     labels = np.concatenate([((part[:, None] - seeds) ** 2).sum(2).argmin(1) for part in np.array_split(middles, 64)])
     outlines = [rings_around(halves[labels == region]) for region in np.unique(labels)]
-    return scene_of([[points[ring] for ring in rings] for rings in outlines], random_colors(pick, len(outlines), np.array([255])))
+    return scene_of(
+        [[points[ring] for ring in rings] for rings in outlines], random_colors(pick, len(outlines), np.array([255]))
+    )
 
 
 def rings_around(triangles: Array) -> list[list[int]]:
@@ -149,7 +154,10 @@ def glyphs() -> Scene:
         oval = [circle * (width, 0.6 * height), circle[::-1] * (width - stroke, 0.6 * height - stroke)]
         return [
             oval, [*oval, bar(-width, -height, stroke, 1.6 * height)],
-            [bar(-width, -height, stroke, 2 * height), bar(width - stroke, -height, stroke, 2 * height), bar(-width, -stroke / 2, 2 * width, stroke)],
+            [
+                bar(-width, -height, stroke, 2 * height), bar(width - stroke, -height, stroke, 2 * height),
+                bar(-width, -stroke / 2, 2 * width, stroke),
+            ],
             [bar(-stroke / 2, -height, stroke, 2 * height), bar(-width, -height, 2 * width, stroke)],
         ][kind]
 
@@ -180,7 +188,8 @@ def world(width: int, size: tuple[int, int], origin: tuple[int, int]) -> Scene:
 
 SCENES: dict[str, Callable[[], Scene]] = {
     "partition": partition, "buildings": buildings, "coast": coast, "glyphs": glyphs, "stars": stars,
-    "world": lambda: world(4096, (4096, 2048), (0, 0)), "world, a window": lambda: world(32768, (SIDE, SIDE), (15360, 2560)),
+    "world": lambda: world(4096, (4096, 2048), (0, 0)),
+    "world, a window": lambda: world(32768, (SIDE, SIDE), (15360, 2560)),
 }
 PARTITIONS = ("partition", "world", "world, a window")
 
@@ -189,8 +198,13 @@ def built() -> str:
     """Compiles the program over the shared library. Returns its path."""
     os.makedirs(BENCH_OUT, exist_ok=True)
     path = os.path.join(BENCH_OUT, "polygons")
-    found = subprocess.run(["pkg-config", "--cflags", "--libs", "cairo", "libagg"], stdout=subprocess.PIPE, check=True, text=True).stdout.split()
-    flags = ["-std=c++17", "-O3", f"-march={LEVEL}", "-Wall", "-Wextra", "-I", INCLUDE, os.path.join(TOP, "bench", "polygons.cpp"), "-o", path]
+    found = subprocess.run(
+        ["pkg-config", "--cflags", "--libs", "cairo", "libagg"], stdout=subprocess.PIPE, check=True, text=True
+    ).stdout.split()
+    flags = [
+        "-std=c++17", "-O3", f"-march={LEVEL}", "-Wall", "-Wextra", "-I", INCLUDE,
+        os.path.join(TOP, "bench", "polygons.cpp"), "-o", path,
+    ]
     folder = os.path.dirname(os.environ.get("TRIRAST_LIBRARY", SHARED_LIBRARY))
     subprocess.run(["g++", *flags, "-L", folder, "-ltrirast", f"-Wl,-rpath,{folder}", *found, "-pthread"], check=True)
     return path
@@ -207,13 +221,20 @@ def print_times(program: str, path: str, name: str, threads: int, turns: int) ->
     found = lines_of(program, "time", path, str(threads), str(turns))
     wall, processor = found["cairo"]
     ratios = [f"{found[each][0] / wall:.2f}, {found[each][1] / processor:.2f}" for each in RENDERERS[1:]]
-    print("| " + " | ".join([name, str(threads), f"{1e3 * wall:.0f}, {1e3 * processor:.0f}", *ratios]) + " |", flush=True)
+    print(
+        "| " + " | ".join([name, str(threads), f"{1e3 * wall:.0f}, {1e3 * processor:.0f}", *ratios]) + " |", flush=True
+    )
 
 
 def print_tables(options: argparse.Namespace, folder: str) -> None:
     program = built()
     print(f"{report.machine()}\n")
-    report.print_head(("Scene", "Threads", "cairo: ms of the wall, of the processor", "AGG by cairo", "4 samples by cairo", "16 samples by cairo"))
+    report.print_head(
+        (
+            "Scene", "Threads", "cairo: ms of the wall, of the processor", "AGG by cairo", "4 samples by cairo",
+            "16 samples by cairo",
+        )
+    )
     paths = {}
     for name in options.scenes:
         try:
@@ -230,7 +251,10 @@ def print_tables(options: argparse.Namespace, folder: str) -> None:
     for name in [name for name in PARTITIONS if name in paths]:
         width, height = np.fromfile(paths[name], np.int32, 2)
         counts = lines_of(program, "seams", paths[name])
-        print("| " + " | ".join([name, f"{width * height:,}", *(f"{counts[each][0]:,.0f}" for each in RENDERERS)]) + " |", flush=True)
+        print(
+            "| " + " | ".join([name, f"{width * height:,}", *(f"{counts[each][0]:,.0f}" for each in RENDERERS)]) + " |",
+            flush=True,
+        )
     report.print_end()
 
 

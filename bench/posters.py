@@ -1,9 +1,11 @@
-"""Times a poster: the drawing alone by 1, 2 and 4 threads, and the whole command with its memory, by threads and by Dask.
+"""Times a poster: the drawing alone by 1, 2 and 4 threads, and the whole command with its memory, by
+threads and by Dask.
 
     PYTHONPATH=python/src python3 -m bench.posters MAP.npz [--window 512] [--runs 1]
 
-It prints a line for each run: seconds, processor seconds, the load of the machine before, and the most memory of its own (RssAnon, so
-without mapped files) that the process and each of its workers had. Dask's runs are left out if it is not installed.
+It prints a line for each run: seconds, processor seconds, the load of the machine before, and the most memory of
+its own (RssAnon, so without mapped files) that the process and each of its workers had. Dask's runs are left out if
+it is not installed.
 """
 
 from __future__ import annotations
@@ -62,7 +64,9 @@ class Memory:
         self._is_done.set()
         self._thread.join()
         own = self.most.pop(self._process, 0) // MEGABYTE
-        return f"own memory {own} MB" + (f", of a worker at most {max(self.most.values()) // MEGABYTE} MB" if self.most else "")
+        return f"own memory {own} MB" + (
+            f", of a worker at most {max(self.most.values()) // MEGABYTE} MB" if self.most else ""
+        )
 
 
 def processor_seconds(who: int) -> float:
@@ -117,7 +121,10 @@ def main() -> None:
             time_command(options.map, f"command, {kind}, 4 threads", *side, "-o", f"OUT.{kind}", "--workers", "4")
         time_command(options.map, "command, tiles, 4 threads", *side, "--tiles", "OUT", "--workers", "4")
         if importlib.util.find_spec("distributed"):
-            time_command(options.map, "command, ppm, Dask, 4 processes", *side, "-o", "OUT.ppm", "--workers", "4", "--scheduler", "local")
+            time_command(
+                options.map, "command, ppm, Dask, 4 processes", *side, "-o", "OUT.ppm", "--workers", "4", "--scheduler",
+                "local",
+            )
 
 
 if __name__ == "__main__":

@@ -1,4 +1,5 @@
-"""Times what the Python package's copies of arrays cost beside drawing: a batch of 100,000 triangles on 1920 by 1080 pixels.
+"""Times what the Python package's copies of arrays cost beside drawing: a batch of 100,000 triangles on
+1920 by 1080 pixels.
 
     PYTHONPATH=python/src python3 -m bench.python_copies [--runs 15]
 
@@ -78,8 +79,13 @@ def main() -> None:
     for name, (vertices, triangles) in (("mesh", mesh()), ("loose", loose())):
         for kind, given in forms(vertices).items():
             copies = milliseconds(lambda: trirast.Draw(**given, triangles=triangles), runs)
-            draws = milliseconds(lambda: canvas.draw(**given, triangles=triangles, depth_test="less", depth_write=True), runs)
-            print(f"{name:6} {kind:29}  copies {copies:7.2f}  draws {draws:7.2f}  share {100 * copies / draws:5.1f} %", flush=True)
+            draws = milliseconds(
+                lambda: canvas.draw(**given, triangles=triangles, depth_test="less", depth_write=True), runs
+            )
+            print(
+                f"{name:6} {kind:29}  copies {copies:7.2f}  draws {draws:7.2f}  share {100 * copies / draws:5.1f} %",
+                flush=True,
+            )
 
 
 if __name__ == "__main__":

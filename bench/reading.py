@@ -1,13 +1,14 @@
 """Times reading beside parsers that only parse, and prints one table.
 
-    python3 -m bench.reading [--runs 5] [--scenes long_list mesh small] [--layouts plain commas lines] [--before PROGRAM]
+    python3 -m bench.reading [--runs 5] [--scenes long_list mesh small] [--layouts plain commas lines]
+        [--before PROGRAM]
 
-Needs `make bin/list_bench`. `list::read` checks a list and builds it; `serde_json` builds its tree of values, and simdjson its tape of
-values, or goes over all values on demand, and neither knows what a list is. The programs take turns, each reads the same bytes seven
-times a turn, and the least time of each counts. simdjson's columns need its library (Debian: libsimdjson-dev) and a C++ compiler, and
-are left out without them. A layout puts blanks into a scene's text: behind each comma, a vertex or a triangle a line with blanks
-behind commas, or an element a line; a text that is longer than a list may be is left out. With --before crates/list_bench of another
-build takes turns with them.
+Needs `make bin/list_bench`. `list::read` checks a list and builds it; `serde_json` builds its tree of values, and
+simdjson its tape of values, or goes over all values on demand, and neither knows what a list is. The programs take
+turns, each reads the same bytes seven times a turn, and the least time of each counts. simdjson's columns need its
+library (Debian: libsimdjson-dev) and a C++ compiler, and are left out without them. A layout puts blanks into a scene's
+text: behind each comma, a vertex or a triangle a line with blanks behind commas, or an element a line; a text that is
+longer than a list may be is left out. With --before crates/list_bench of another build takes turns with them.
 """
 
 from __future__ import annotations
@@ -30,7 +31,9 @@ LAYOUTS = ("plain", "commas", "lines", "elements")
 MOST_BYTES = 67_108_864
 COLUMNS = ("list", "MB", "`list::read`, ms", "GB/s", "serde_json's tree, ms", "ours / tree")
 BEFORE_COLUMNS = ("before, ms", "ours / before")
-PARSER_COLUMNS = ("simdjson's tape, ms", "ours / tape", "parser kept, ms", "ours / kept", "on demand, ms", "ours / on demand")
+PARSER_COLUMNS = (
+    "simdjson's tape, ms", "ours / tape", "parser kept, ms", "ours / kept", "on demand, ms", "ours / on demand"
+)
 
 
 def built_parser() -> bool:
@@ -94,7 +97,9 @@ def main() -> int:
     parser = argparse.ArgumentParser(description="Times reading beside parsers that only parse.")
     add_runs(parser, 5, "turns of seven rounds, of which the least counts")
     add_any_scenes(parser, SCENES)
-    parser.add_argument("--layouts", nargs="+", choices=LAYOUTS, default=LAYOUTS[:1], metavar="NAME", help="of " + ", ".join(LAYOUTS))
+    parser.add_argument(
+        "--layouts", nargs="+", choices=LAYOUTS, default=LAYOUTS[:1], metavar="NAME", help="of " + ", ".join(LAYOUTS)
+    )
     add_before(parser, "crates/list_bench")
     options = parser.parse_args()
     if not is_built(READER_PROGRAM, made_by="make bin/list_bench"):

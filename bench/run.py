@@ -5,8 +5,8 @@
 For each scene and tile side it gives the wall time with 1, 2 and 4 workers, the ratio to the time with one worker, the
 processor time, and the peak memory, all from this one call; times are the best of a few runs with the output thrown
 away. If g++ is there, bench/plain.cpp is built and its time stands next to it, and each picture of the program is
-compared with its picture, byte for byte. With --before each row is followed by that of another build's program. Exit status 1 if a
-run fails or a picture differs.
+compared with its picture, byte for byte. With --before each row is followed by that of another build's program. Exit
+status 1 if a run fails or a picture differs.
 
 Linux alone.
 """
@@ -27,9 +27,9 @@ from bench.options import add_before, add_runs, add_scenes, builds
 from tools.places import BENCH_OUT, PROGRAM, TOP, is_built
 
 SCENES = (
-    "tiny", "empty", "smooth", "small", "mesh", "slivers", "blended", "flat", "flat_depth", "flat_blended", "large_mesh",
-    "whole_values", "thin_slivers", "level_rows", "depths_first", "levels", "levels_four", "levels_depth", "charts", "steps", "sprites",
-    "dust", "hidden_quads", "long_list", "refused_list",
+    "tiny", "empty", "smooth", "small", "mesh", "slivers", "blended", "flat", "flat_depth", "flat_blended",
+    "large_mesh", "whole_values", "thin_slivers", "level_rows", "depths_first", "levels", "levels_four", "levels_depth",
+    "charts", "steps", "sprites", "dust", "hidden_quads", "long_list", "refused_list",
 )
 # Lists that are refused: the program ends with status 1 and no picture.
 REFUSED = ("refused_list",)

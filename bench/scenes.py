@@ -185,8 +185,8 @@ def large_mesh() -> DrawList:
 
 
 def whole_values() -> DrawList:
-    """Layers of triangles whose legs are 255 pixels long, with colours from 0 to 255 along them, so that every value is a
-    whole number at every sample: which fixed-point arithmetic with an error mistakes for the number below."""
+    """Layers of triangles whose legs are 255 pixels long, with colours from 0 to 255 along them, so that every value is
+    a whole number at every sample: which fixed-point arithmetic with an error mistakes for the number below."""
     layer = []
     for row in range(4):
         for column in range(4):
@@ -219,8 +219,8 @@ def level_rows() -> DrawList:
 
 
 def level_quad(x: float, y: float, side: int, most: int, z: tuple[int, int]) -> Triangles:
-    """Two triangles over `side` pixels: red grows from 0 to `most` to the right, green downwards, and blue shrinks. The depth
-    grows from the first of `z` to the right by the second."""
+    """Two triangles over `side` pixels: red grows from 0 to `most` to the right, green downwards, and blue shrinks. The
+    depth grows from the first of `z` to the right by the second."""
     corner = [
         vertex(x + side * i, y + side * j, z[0] + z[1] * i, (most * i, most * j, most - most * i))
         for i, j in ((0, 0), (1, 0), (1, 1), (0, 1))
@@ -229,9 +229,9 @@ def level_quad(x: float, y: float, side: int, most: int, z: tuple[int, int]) -> 
 
 
 def level_quads(layers: int, sides: Sequence[int], most: int, depth: bool = False) -> Triangles:
-    """Layers of such quads over 1024 by 1024 pixels, as many as fit, each layer of the next of these sides. Their corners are centres
-    of pixels, so that a value is a whole number wherever it can be one. With `depth` each layer is nearer, and depths grow
-    as red does."""
+    """Layers of such quads over 1024 by 1024 pixels, as many as fit, each layer of the next of these sides. Their
+    corners are centres of pixels, so that a value is a whole number wherever it can be one. With `depth` each layer is
+    nearer, and depths grow as red does."""
     triangles = []
     for layer in range(layers):
         side = sides[layer % len(sides)]
@@ -243,7 +243,8 @@ def level_quads(layers: int, sides: Sequence[int], most: int, depth: bool = Fals
 
 
 def levels() -> DrawList:
-    """12 layers of quads with 100 levels over 300 pixels: each third value is a whole number that no binary fraction meets."""
+    """12 layers of quads with 100 levels over 300 pixels: each third value is a whole number that no
+    binary fraction meets."""
     return {"width": 1024, "height": 1024, "draws": draws_of(level_quads(12, [300], 100))}
 
 
@@ -269,7 +270,8 @@ def steps() -> DrawList:
 
 
 def sprites() -> DrawList:
-    """32,768 quads of 12 pixels, as of sprites and glyphs: every other one of one colour, the others with a colour at each corner."""
+    """32,768 quads of 12 pixels, as of sprites and glyphs: every other one of one colour, the others with a
+    colour at each corner."""
     pick = random.Random("sprites")
     triangles = []
     for number in range(MAX_TRIANGLES // 2):
@@ -300,13 +302,16 @@ def dust() -> DrawList:
 
 
 def hidden_quads() -> DrawList:
-    """Four layers of 7,225 quads of 12 pixels with a colour at each corner: the first layer hides the others, by the depth test."""
+    """Four layers of 7,225 quads of 12 pixels with a colour at each corner: the first layer hides the others,
+    by the depth test."""
     side, columns = 12, 85
     triangles = []
     for layer in range(4):
         for place in range(columns**2):
             row, column = divmod(place, columns)
-            triangles += level_quad(side * column + 37 / 256, side * row + 37 / 256, side, 255, (10000 * (layer + 1), 100))
+            triangles += level_quad(
+                side * column + 37 / 256, side * row + 37 / 256, side, 255, (10000 * (layer + 1), 100)
+            )
     draws = draws_of(triangles, depth_test="less", depth_write=True)
     return {"width": 1024, "height": 1024, "draws": draws}
 

@@ -1,11 +1,12 @@
-"""Counts the pixels that show a seam between neighbouring faces by matplotlib's Agg and by trirast.matplotlib, and prints one table.
+"""Counts the pixels that show a seam between neighbouring faces by matplotlib's Agg and by trirast.matplotlib,
+and prints one table.
 
     PYTHONPATH=python/src /usr/bin/python3 -m bench.seams [--pictures FOLDER]
 
-Ten plots, in one colour at two alphas. A pixel inside of the union of the faces shows a seam if it has another colour than
-most have. Agg draws four of these plots without antialiasing by default, which hides seams of opaque faces and leaves
-steps; "smooth" are its seams with antialiasing. In a second drawing each face has a colour of its
-own: "away" is the greatest difference between both backends at pixels more than 1.5 pixels from an edge.
+Ten plots, in one colour at two alphas. A pixel inside of the union of the faces shows a seam if it has another colour
+than most have. Agg draws four of these plots without antialiasing by default, which hides seams of opaque faces and
+leaves steps; "smooth" are its seams with antialiasing. In a second drawing each face has a colour of its own: "away" is
+the greatest difference between both backends at pixels more than 1.5 pixels from an edge.
 """
 
 from __future__ import annotations
@@ -22,7 +23,9 @@ from python.tests import neighbours
 from trirast.matplotlib import FigureCanvasTrirast
 
 ALPHAS = (0.5, 1.0)
-COLUMNS = ("plot", "0.5: Agg", "smooth", "trirast", "1: Agg", "smooth", "trirast", "pixels inside", "away, 0.5", "away, 1")
+COLUMNS = (
+    "plot", "0.5: Agg", "smooth", "trirast", "1: Agg", "smooth", "trirast", "pixels inside", "away, 0.5", "away, 1"
+)
 # The plots that matplotlib draws without antialiasing by default.
 OFF = (neighbours.contourf, neighbours.pcolormesh, neighbours.pcolor, neighbours.tripcolor)
 
@@ -43,7 +46,8 @@ def smoothly(plot: neighbours.Plot, alpha: float) -> int:
 def away(plot: neighbours.Plot, alpha: float) -> int:
     far = ~neighbours.near_edges(plot, FigureCanvasAgg)
     agg, ours = (
-        neighbours.drawn(lambda axes: plot(axes, neighbours.many_colors(alpha)), each) for each in (FigureCanvasAgg, FigureCanvasTrirast)
+        neighbours.drawn(lambda axes: plot(axes, neighbours.many_colors(alpha)), each)
+        for each in (FigureCanvasAgg, FigureCanvasTrirast)
     )
     return int(np.abs(agg.astype(int) - ours)[far].max())
 
@@ -51,7 +55,9 @@ def away(plot: neighbours.Plot, alpha: float) -> int:
 def row_of(name: str, plot: neighbours.Plot) -> str:
     cells = [name]
     for alpha in ALPHAS:
-        by_agg, ours = (int(neighbours.seams(plot, each, alpha).sum()) for each in (FigureCanvasAgg, FigureCanvasTrirast))
+        by_agg, ours = (
+            int(neighbours.seams(plot, each, alpha).sum()) for each in (FigureCanvasAgg, FigureCanvasTrirast)
+        )
         cells += [f"{by_agg:,}", f"{smoothly(plot, alpha):,}", f"{ours:,}"]
     within = neighbours.inside(plot, FigureCanvasAgg, 1.0)
     cells += [f"{int(within.sum()):,}", *(str(away(plot, alpha)) for alpha in ALPHAS)]

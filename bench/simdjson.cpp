@@ -1,11 +1,12 @@
-// Times a bare parse of the JSON on standard input by simdjson: no draw list is built, and none of its rules is checked.
+// Times a bare parse of the JSON on standard input by simdjson: no draw list is built, and none of its
+// rules is checked.
 //
 //     g++ -O3 -std=c++17 -o bench/out/simdjson bench/simdjson.cpp -lsimdjson
 //     bench/out/simdjson < list.json
 //
-// Prints the least times of seven rounds in nanoseconds: of the tape of values by a new parser, which allocates as a reader of one
-// list does; of the same by a parser that keeps its memory; and of a walk over all values on demand. Then the sum of all integers,
-// the same by the tape and by the walk, so that no parse can be left out.
+// Prints the least times of seven rounds in nanoseconds: of the tape of values by a new parser, which allocates as a
+// reader of one list does; of the same by a parser that keeps its memory; and of a walk over all values on demand. Then
+// the sum of all integers, the same by the tape and by the walk, so that no parse can be left out.
 
 #include <simdjson.h>
 
@@ -86,9 +87,10 @@ int main() try {
         walked = sum_of(simdjson::ondemand::value(document));
     });
     const int64_t sum = sum_of(kept.parse(text).value());
-    std::printf("new parser %lld ns, kept parser %lld ns, on demand %lld ns, sums %lld %lld, %s\n", static_cast<long long>(fresh),
-                static_cast<long long>(again), static_cast<long long>(walk), static_cast<long long>(sum),
-                static_cast<long long>(walked), simdjson::get_active_implementation()->name().c_str());
+    std::printf("new parser %lld ns, kept parser %lld ns, on demand %lld ns, sums %lld %lld, %s\n",
+                static_cast<long long>(fresh), static_cast<long long>(again), static_cast<long long>(walk),
+                static_cast<long long>(sum), static_cast<long long>(walked),
+                simdjson::get_active_implementation()->name().c_str());
     return sum == walked ? 0 : 1;
 } catch (const simdjson::simdjson_error& error) {
     std::fprintf(stderr, "simdjson: %s\n", error.what());

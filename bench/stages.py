@@ -2,13 +2,15 @@
 
     python3 -m bench.stages [--build] [--scenes small mesh smooth flat] [--write docs/stages.svg]
 
-Needs rt, perf and valgrind. One worker draws. The time is the share of perf's samples in 60 frames, reading left out; the instructions are
-those that valgrind's callgrind counts of one frame, the same in each run. A stage is the sum of functions, by the table STAGES.
+Needs rt, perf and valgrind. One worker draws. The time is the share of perf's samples in 60 frames, reading left out;
+the instructions are those that valgrind's callgrind counts of one frame, the same in each run. A stage is the sum of
+functions, by the table STAGES.
 
-In the program most stages are inlined into one function. So the program that is measured here is another one: `--build` copies the
-crates with their kept proofs to bench/out/split (4 GB), writes `#[inline(never)]` before the functions of OUT_OF_LINE, and builds
-crates/frames there (some minutes). It takes 1 to 5 % more instructions. What is inlined there counts where it stands: the edges of a
-triangle with its fetch, the classes of squares, the masks and the scissor with the blocks of a triangle.
+In the program most stages are inlined into one function. So the program that is measured here is another one: `--build`
+copies the crates with their kept proofs to bench/out/split (4 GB), writes `#[inline(never)]` before the functions of
+OUT_OF_LINE, and builds crates/frames there (some minutes). It takes 1 to 5 % more instructions. What is inlined there
+counts where it stands: the edges of a triangle with its fetch, the classes of squares, the masks and the scissor with
+the blocks of a triangle.
 """
 
 from __future__ import annotations
@@ -50,7 +52,10 @@ class Stage(NamedTuple):
 STAGES = (
     Stage("bins", "#8c6bb1", ("tile_rows::tile_rows::TileRows::bins", "bins::")),
     Stage("edges of triangles", "#225ea8", ("tile::tile_pixels::draw_bin", "model::", "cover::setup::")),
-    Stage("planes of values", "#41b6c4", ("lanes::interpolants::", "planes::whole_values::", "planes::plane::", "__udivti3")),
+    Stage(
+        "planes of values", "#41b6c4",
+        ("lanes::interpolants::", "planes::whole_values::", "planes::plane::", "__udivti3"),
+    ),
     Stage("coverage of blocks", "#7fbc41", ("raster::rasterize::", "raster::", "cover::")),
     Stage("values and merging", "#fdae61", ("lanes::", "planes::", "shade::")),
     Stage("clearing", "#bdbdbd", ("tile_rows::tile_rows::TileJobJob::work", "__memset", "memset", "tile::store::")),
@@ -58,7 +63,10 @@ STAGES = (
     Stage("joining and output", "#737373", ("",)),
 )
 # What is no part of a frame: the start of the program, its arguments, and reading.
-BEFORE = re.compile(r"fast_reader|checking_reader|json|serde|simdutf8|clap|list::|frames::(main|read|list)|Decode|utf8|model::draw_list::DrawList::within")
+BEFORE = re.compile(
+    r"fast_reader|checking_reader|json|serde|simdutf8|clap|list::|frames::(main|read|list)|Decode|utf8"
+    r"|model::draw_list::DrawList::within"
+)
 
 # What each stage takes, by its name.
 Costs = Mapping[str, float]
@@ -80,18 +88,25 @@ def build(rt: str) -> None:
     """Builds the program with the stages out of line, over a copy of the crates and of what was proved of them."""
     shutil.rmtree(SPLIT, ignore_errors=True)
     os.makedirs(SPLIT)
-    subprocess.run(["cp", "-a", *(os.path.join(TOP, name) for name in ("crates", "crates.txt", "HANDLES")), SPLIT], check=True)
+    subprocess.run(
+        ["cp", "-a", *(os.path.join(TOP, name) for name in ("crates", "crates.txt", "HANDLES")), SPLIT], check=True
+    )
     for name, function in OUT_OF_LINE.items():
         path = os.path.join(SPLIT, "crates", name)
         with open(path, encoding="utf-8") as file:
             source = file.read()
-        source, found = re.subn(rf"^( *){re.escape(function)}", r"\1#[inline(never)]\n\g<0>", source, flags=re.MULTILINE)
+        source, found = re.subn(
+            rf"^( *){re.escape(function)}", r"\1#[inline(never)]\n\g<0>", source, flags=re.MULTILINE
+        )
         if found != 1:
             raise SystemExit(f"stages: {name} has not one {function}")
         with open(path, "w", encoding="utf-8") as file:
             file.write(source)
     with open(os.path.join(EXAMPLES, "triangle.json"), "rb") as triangle:
-        subprocess.run([rt, "run"], cwd=os.path.join(SPLIT, "crates", "frames"), stdin=triangle, stdout=subprocess.DEVNULL, check=True)
+        subprocess.run(
+            [rt, "run"], cwd=os.path.join(SPLIT, "crates", "frames"), stdin=triangle, stdout=subprocess.DEVNULL,
+            check=True,
+        )
 
 
 def stage_of(function: str) -> str:
@@ -179,7 +194,10 @@ def legend() -> list[str]:
     for stage in STAGES:
         if x + 24 + 7.5 * len(stage.name) > WIDTH:
             x, y = 12.0, y + 20
-        lines += [f'<rect x="{x:.1f}" y="{y - 10:.1f}" width="12" height="12" fill="{stage.colour}"/>', text(x + 18, y, stage.name)]
+        lines += [
+            f'<rect x="{x:.1f}" y="{y - 10:.1f}" width="12" height="12" fill="{stage.colour}"/>',
+            text(x + 18, y, stage.name),
+        ]
         x += 40 + 7.5 * len(stage.name)
     return lines
 
@@ -203,7 +221,10 @@ def svg(bars: Sequence[Bar]) -> str:
         before = bar.scene
         lines += drawn_bar(bar, y)
         y += HEIGHT + 2
-    head = f'<svg xmlns="http://www.w3.org/2000/svg" width="{WIDTH}" height="{y + 12}" font-family="monospace" font-size="12">'
+    head = (
+        f'<svg xmlns="http://www.w3.org/2000/svg" width="{WIDTH}" height="{y + 12}" '
+        'font-family="monospace" font-size="12">'
+    )
     return "\n".join([head, '<rect width="100%" height="100%" fill="#ffffff"/>', *lines, "</svg>", ""])
 
 
@@ -214,7 +235,10 @@ def row_of(bar: Bar) -> str:
 
 def main() -> int:
     parser = argparse.ArgumentParser(description="Says where the time of a frame goes, stage by stage.")
-    parser.add_argument("--frames", default=PROGRAM, help="a program of crates/frames in which the stages are out of line (default: that of --build)")
+    parser.add_argument(
+        "--frames", default=PROGRAM,
+        help="a program of crates/frames in which the stages are out of line (default: that of --build)",
+    )
     parser.add_argument("--build", action="store_true", help="builds that program first")
     parser.add_argument("--rt", default="rt", help="the command rt")
     add_any_scenes(parser, SCENES)

@@ -1,13 +1,15 @@
-"""Runs matplotlib's own tests by trirast.matplotlib, and compares its figures with Agg's. A plugin of pytest, and a summary:
+"""Runs matplotlib's own tests by trirast.matplotlib, and compares its figures with Agg's. A plugin of
+pytest, and a summary:
 
-    cd out && PYTHONPATH=..:../python/src /usr/bin/python3 -m pytest -c /dev/null --rootdir . -p bench.suite -p no:cacheprovider \\
-        --report suite.json [--by agg] /usr/lib/python3/dist-packages/matplotlib/tests/test_axes.py [more files]
+    cd out && PYTHONPATH=..:../python/src /usr/bin/python3 -m pytest -c /dev/null --rootdir . -p bench.suite \\
+        -p no:cacheprovider --report suite.json [--by agg] \\
+        /usr/lib/python3/dist-packages/matplotlib/tests/test_axes.py [more files]
     PYTHONPATH=python/src /usr/bin/python3 -m bench.suite out/suite.json
 
 All figures are drawn by this package's renderer in place of Agg's. A test with a baseline image, which Debian does not
-ship, draws its figure by Agg twice and by this package once; the pictures are compared, and a line of JSON for each goes to
-the report, with --pictures FOLDER also a picture of both and their difference. Tests of two equal figures run as they are.
-With --by agg all is Agg's: for failures that have other causes.
+ship, draws its figure by Agg twice and by this package once; the pictures are compared, and a line of JSON for each
+goes to the report, with --pictures FOLDER also a picture of both and their difference. Tests of two equal figures run
+as they are. With --by agg all is Agg's: for failures that have other causes.
 """
 
 from __future__ import annotations
@@ -78,13 +80,17 @@ def compare(self: Any, fig: Any, baseline: str, extension: str, *, _lock: bool =
         agg, ours, again = (picture(fig, chosen and was, path, self.savefig_kwargs) for chosen in (False, True, False))
     finally:
         STATE["ours"] = was
-    line = {"test": STATE["test"], "baseline": baseline, "agg_repeats": bool(np.array_equal(agg, again)), "same_shape": agg.shape == ours.shape}
+    line = {
+        "test": STATE["test"], "baseline": baseline, "agg_repeats": bool(np.array_equal(agg, again)),
+        "same_shape": agg.shape == ours.shape,
+    }
     if line["same_shape"]:
         difference = np.abs(agg - ours).max(2)
         flat = flat_pixels(agg) & flat_pixels(ours) & (difference > 1)
         line.update(
             pixels=int(difference.size), differ=int((difference > 0).sum()), more_than_one=int((difference > 1).sum()),
-            greatest=int(difference.max()), rms=float(np.sqrt(((agg[..., :3] - ours[..., :3]) ** 2).mean())), flat=int(flat.sum()),
+            greatest=int(difference.max()), rms=float(np.sqrt(((agg[..., :3] - ours[..., :3]) ** 2).mean())),
+            flat=int(flat.sum()),
         )
         if STATE["pictures"] and line["differ"]:
             save(Path(STATE["pictures"]), baseline, agg, ours, difference)

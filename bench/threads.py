@@ -2,14 +2,16 @@
 
     python3 -m bench.threads [--runs 3] [--frames 24] [--scenes smooth large_mesh ..] [--before PROGRAM]
 
-Needs `make frames`. All figures of a row are of the same call, in turns: frames with 1, 2 and 4 workers, and four programs of one worker
-each side by side, which share nothing. The times are medians of a turn's frames, of which the least turn counts.
+Needs `make frames`. All figures of a row are of the same call, in turns: frames with 1, 2 and 4 workers, and four
+programs of one worker each side by side, which share nothing. The times are medians of a turn's frames, of which
+the least turn counts.
 
-- calling thread: the processor time of a frame with 4 workers that the thread takes which draws no tile: bins, joining, output, and
-  starting the workers. The rest are the workers'.
-- idle: the share of the 4 processors' time that a frame with 4 workers leaves: 1 less processor time by 4 times the time on the wall.
-- four programs: how many times the work of one program alone four do side by side. It is what the machine allows four threads that
-  never wait; processors may be threads of one core, and share memory and heat.
+- calling thread: the processor time of a frame with 4 workers that the thread takes which draws no tile: bins, joining,
+  output, and starting the workers. The rest are the workers'.
+- idle: the share of the 4 processors' time that a frame with 4 workers leaves: 1 less processor time by 4 times
+  the time on the wall.
+- four programs: how many times the work of one program alone four do side by side. It is what the machine allows four
+  threads that never wait; processors may be threads of one core, and share memory and heat.
 - of it: how many times as fast 4 workers are, by what four programs do.
 
 With --before each scene has a second row, of another build's program, whose turns are between those of the first.
@@ -33,8 +35,8 @@ from bench.options import add_any_scenes, add_before, add_frames_program, add_ru
 SCENES = ("smooth", "mesh", "large_mesh", "flat", "blended", "small")
 WORKERS = (1, 2, 4)
 COLUMNS = (
-    "scene", "1 worker, ms", "2 workers, ms", "4 workers, ms", "times as fast, 2 and 4", "processor, 1 and 4, ms", "calling thread, ms",
-    "idle", "four programs", "4 workers / four programs",
+    "scene", "1 worker, ms", "2 workers, ms", "4 workers, ms", "times as fast, 2 and 4", "processor, 1 and 4, ms",
+    "calling thread, ms", "idle", "four programs", "4 workers / four programs",
 )
 
 
@@ -98,14 +100,16 @@ class Scene:
         faster = one.frame / four.frame
         idle = 1 - four.processor / (max(WORKERS) * four.frame)
         return report.row((
-            name, *(f"{1000 * times.frame:.2f}" for times in (one, two, four)), f"{one.frame / two.frame:.2f}, {faster:.2f}",
-            f"{1000 * one.processor:.1f}, {1000 * four.processor:.1f}", f"{1000 * four.calling:.2f}", f"{100 * idle:.0f} %",
-            f"{allowed:.2f}", f"{faster / allowed:.2f}",
+            name, *(f"{1000 * times.frame:.2f}" for times in (one, two, four)),
+            f"{one.frame / two.frame:.2f}, {faster:.2f}", f"{1000 * one.processor:.1f}, {1000 * four.processor:.1f}",
+            f"{1000 * four.calling:.2f}", f"{100 * idle:.0f} %", f"{allowed:.2f}", f"{faster / allowed:.2f}",
         ))
 
 
 def main() -> int:
-    parser = argparse.ArgumentParser(description="Measures what keeps several workers from being as many times as fast.")
+    parser = argparse.ArgumentParser(
+        description="Measures what keeps several workers from being as many times as fast."
+    )
     add_frames_program(parser, "--program")
     add_before(parser, "the program")
     add_runs(parser, 3, "turns of each")
@@ -116,7 +120,9 @@ def main() -> int:
     report.print_head(COLUMNS)
     programs = builds(options.program, options.before)
     for name, source in zip(options.scenes, scenes.write_all(options.scenes)):
-        of_each = {label: Scene(os.path.abspath(program), source, options.frames) for label, program in programs.items()}
+        of_each = {
+            label: Scene(os.path.abspath(program), source, options.frames) for label, program in programs.items()
+        }
         for _ in range(options.runs):
             for scene in of_each.values():
                 scene.turn()

@@ -39,7 +39,8 @@ struct Mode {
 };
 
 #ifdef COUNT_GROUPS
-// How many groups were met in a mode, of how many some sample was drawn, and how many samples these were; by one thread alone.
+// How many groups were met in a mode, of how many some sample was drawn, and how many samples these were;
+// by one thread alone.
 struct GroupCount {
     Depths depths;
     Colours colours;
@@ -120,7 +121,8 @@ ALWAYS_INLINE void colours_of_planes(const Triangle& t, const Planes& planes, co
 }
 
 template <class Mode>
-ALWAYS_INLINE void put_colours(const Triangle& t, const Halves* values, const Halves& mask, int first, Samples& samples) {
+ALWAYS_INLINE void put_colours(const Triangle& t, const Halves* values, const Halves& mask, int first,
+                               Samples& samples) {
     Bytes lanes = narrow_mask(mask);
     for (int channel = 0; channel < 3; ++channel) {
         if (!t.state->write[channel]) continue;
@@ -169,8 +171,8 @@ ALWAYS_INLINE void draw_groups(const Triangle& t, const Planes& planes, Group& g
 
 // The block's upper left pixel is at `left`, `top`; each sample has a mask of its pixels.
 template <class Mode>
-void draw_block(const Triangle& t, const Planes& planes, const Pattern& pattern, int left, int top, const uint64_t* masks,
-                Samples* samples) {
+void draw_block(const Triangle& t, const Planes& planes, const Pattern& pattern, int left, int top,
+                const uint64_t* masks, Samples* samples) {
     uint64_t corner[Attributes];
     for (int attribute = Mode::first; attribute < Mode::end; ++attribute)
         corner[attribute] = planes.of[attribute].height.at(256 * left, 256 * top);
@@ -189,7 +191,8 @@ using BlockDrawer = void (*)(const Triangle&, const Planes&, const Pattern&, int
 
 template <Depths depths, Colours colours, bool whole>
 BlockDrawer drawer_of_merge(const Triangle& t) {
-    return t.state->over ? draw_block<Mode<depths, colours, true, whole>> : draw_block<Mode<depths, colours, false, whole>>;
+    return t.state->over ? draw_block<Mode<depths, colours, true, whole>>
+                         : draw_block<Mode<depths, colours, false, whole>>;
 }
 
 template <Depths depths, bool whole>
@@ -206,7 +209,8 @@ BlockDrawer drawer(const Triangle& t, const Planes& planes) {
     return drawer_of_colours<Depths::Plane, whole>(t, planes);
 }
 
-// ---- Steep triangles -------------------------------------------------------------------------------------------------
+// ---- Steep triangles
+// -------------------------------------------------------------------------------------------------
 
 inline uint32_t value_at(const Triangle& t, const Planes& planes, int attribute, int64_t x, int64_t y) {
     if (t.is_flat(attribute)) return t.values[attribute][0];
@@ -238,7 +242,8 @@ inline void draw_steep_block(const Triangle& t, const Planes& planes, const Patt
         if (!(t.state->mask >> s & 1)) continue;
         for (uint64_t mask = masks[s]; mask; mask &= mask - 1) {
             int pixel = __builtin_ctzll(mask);
-            int64_t x = 256 * (left + pixel % 8) + pattern.places[s][0], y = 256 * (top + pixel / 8) + pattern.places[s][1];
+            int64_t x = 256 * (left + pixel % 8) + pattern.places[s][0],
+                    y = 256 * (top + pixel / 8) + pattern.places[s][1];
             draw_sample(t, planes, x, y, pixel, samples[s]);
         }
     }

@@ -31,13 +31,17 @@ ALWAYS_INLINE Lanes each(Each make) {
     return made;
 }
 
-// ---- Bytes -----------------------------------------------------------------------------------------------------------
+// ---- Bytes
+// -----------------------------------------------------------------------------------------------------------
 
-ALWAYS_INLINE Bytes load_bytes(const uint8_t* from) { return {_mm_loadu_si128(reinterpret_cast<const __m128i*>(from))}; }
+ALWAYS_INLINE Bytes load_bytes(const uint8_t* from) {
+    return {_mm_loadu_si128(reinterpret_cast<const __m128i*>(from))};
+}
 ALWAYS_INLINE void store(uint8_t* to, Bytes lanes) { _mm_storeu_si128(reinterpret_cast<__m128i*>(to), lanes.all); }
 ALWAYS_INLINE Bytes select(Bytes mask, Bytes yes, Bytes no) { return {_mm_blendv_epi8(no.all, yes.all, mask.all)}; }
 
-// ---- Halves ----------------------------------------------------------------------------------------------------------
+// ---- Halves
+// ----------------------------------------------------------------------------------------------------------
 
 ALWAYS_INLINE Halves load_halves(const uint16_t* from) {
     return each<Halves>([&](int k) { return _mm_loadu_si128(reinterpret_cast<const __m128i*>(from) + k); });
@@ -60,7 +64,9 @@ ALWAYS_INLINE Halves mask_of(unsigned bits) {
 }
 
 ALWAYS_INLINE Bytes narrow_mask(const Halves& mask) { return {_mm_packs_epi16(mask.part[0], mask.part[1])}; }
-ALWAYS_INLINE unsigned bits_of(const Halves& mask) { return static_cast<unsigned>(_mm_movemask_epi8(narrow_mask(mask).all)); }
+ALWAYS_INLINE unsigned bits_of(const Halves& mask) {
+    return static_cast<unsigned>(_mm_movemask_epi8(narrow_mask(mask).all));
+}
 ALWAYS_INLINE bool any(const Halves& mask) { return bits_of(mask) != 0; }
 ALWAYS_INLINE Bytes narrow(const Halves& lanes) { return {_mm_packus_epi16(lanes.part[0], lanes.part[1])}; }
 
@@ -105,10 +111,12 @@ ALWAYS_INLINE Halves select(const Halves& mask, const Halves& yes, const Halves&
     return each<Halves>([&](int k) { return _mm_blendv_epi8(no.part[k], yes.part[k], mask.part[k]); });
 }
 
-// ---- Words -----------------------------------------------------------------------------------------------------------
+// ---- Words
+// -----------------------------------------------------------------------------------------------------------
 
 ALWAYS_INLINE Words operator+(const Words& lanes, uint32_t value) {
-    return each<Words>([&](int k) { return _mm_add_epi32(lanes.part[k], _mm_set1_epi32(static_cast<int32_t>(value))); });
+    return each<Words>(
+        [&](int k) { return _mm_add_epi32(lanes.part[k], _mm_set1_epi32(static_cast<int32_t>(value))); });
 }
 
 ALWAYS_INLINE Words operator<<(const Words& lanes, int bits) {
@@ -133,7 +141,8 @@ ALWAYS_INLINE bool any_below(const Words& lanes, uint32_t limit) {
 }
 
 ALWAYS_INLINE unsigned negative_bits(const Words& lanes) {
-    const __m128i upper = _mm_packs_epi32(lanes.part[0], lanes.part[1]), lower = _mm_packs_epi32(lanes.part[2], lanes.part[3]);
+    const __m128i upper = _mm_packs_epi32(lanes.part[0], lanes.part[1]),
+                  lower = _mm_packs_epi32(lanes.part[2], lanes.part[3]);
     return static_cast<unsigned>(_mm_movemask_epi8(_mm_packs_epi16(upper, lower)));
 }
 
@@ -146,12 +155,14 @@ ALWAYS_INLINE Words growth(int32_t right, int32_t down) {
 
 // The upper halves of the same growth in 64 bits, modulo 2^64.
 ALWAYS_INLINE Words upper_growth(uint64_t right, uint64_t down) {
-    const __m128i two = _mm_set1_epi64x(static_cast<int64_t>(2 * right)), below = _mm_set1_epi64x(static_cast<int64_t>(down));
+    const __m128i two = _mm_set1_epi64x(static_cast<int64_t>(2 * right)),
+                  below = _mm_set1_epi64x(static_cast<int64_t>(down));
     __m128i pair[4] = {_mm_set_epi64x(static_cast<int64_t>(right), 0)};
     for (int k = 1; k < 4; ++k) pair[k] = _mm_add_epi64(pair[k - 1], two);
     return each<Words>([&](int k) {
         __m128i left = pair[2 * (k & 1)], next = pair[2 * (k & 1) + 1];
         if (k > 1) left = _mm_add_epi64(left, below), next = _mm_add_epi64(next, below);
-        return _mm_castps_si128(_mm_shuffle_ps(_mm_castsi128_ps(left), _mm_castsi128_ps(next), _MM_SHUFFLE(3, 1, 3, 1)));
+        return _mm_castps_si128(
+            _mm_shuffle_ps(_mm_castsi128_ps(left), _mm_castsi128_ps(next), _MM_SHUFFLE(3, 1, 3, 1)));
     });
 }

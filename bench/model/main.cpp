@@ -1,9 +1,10 @@
 // A fast rasterizer of the same rules in C++, to compare trirast's speed with. Nothing of it is proved.
 //
-// It draws as trirast does: bins, tiles of blocks of 8 by 8 pixels, coverage and values in lanes. So it shows what such a
-// program takes without contracts. bench/draw_list.hpp reads the list, and trusts it. A frame goes from the list that was
-// read to the pixels in memory. The picture goes to standard output, and the time of the fastest frame to standard error.
-// With COUNT_GROUPS, which bench/limits.py defines, it also counts the groups of sixteen samples that one frame by one worker meets.
+// It draws as trirast does: bins, tiles of blocks of 8 by 8 pixels, coverage and values in lanes. So it shows what such
+// a program takes without contracts. bench/draw_list.hpp reads the list, and trusts it. A frame goes from the list that
+// was read to the pixels in memory. The picture goes to standard output, and the time of the fastest frame to standard
+// error. With COUNT_GROUPS, which bench/limits.py defines, it also counts the groups of sixteen samples that one frame
+// by one worker meets.
 //
 //     make model
 //     bench/out/model [--frames 1] [--workers 1] [--tile 32] < list.json > picture.ppm
@@ -45,9 +46,9 @@ double milliseconds(Frame& frame) {
 void print_counts() {
     for (const GroupCount& count : group_counts())
         std::fprintf(stderr, "depths %d colours %d over %d whole %d stores_depth %d met %llu drawn %llu samples %llu\n",
-                     static_cast<int>(count.depths), static_cast<int>(count.colours), count.over, count.whole, count.stores_depth,
-                     static_cast<unsigned long long>(count.met), static_cast<unsigned long long>(count.drawn),
-                     static_cast<unsigned long long>(count.samples));
+                     static_cast<int>(count.depths), static_cast<int>(count.colours), count.over, count.whole,
+                     count.stores_depth, static_cast<unsigned long long>(count.met),
+                     static_cast<unsigned long long>(count.drawn), static_cast<unsigned long long>(count.samples));
 }
 #endif
 

@@ -1,9 +1,9 @@
 // Depth and colours of a triangle as planes in fixed point, modulo 2^64, and their correction.
 //
-// A plane holds 2^56 times a channel's value, or 2^48 times a depth. Its upper 32 bits are stepped over sixteen pixels at
-// once; one unit is the last of these bits. The plane stands a little higher than the value, so that a height is above the
-// value by three units at most, and below it nowhere. So the whole part of a height is right where its fraction is three units
-// or more. Elsewhere it may be one too high, and the sign of the remainder decides.
+// A plane holds 2^56 times a channel's value, or 2^48 times a depth. Its upper 32 bits are stepped over sixteen pixels
+// at once; one unit is the last of these bits. The plane stands a little higher than the value, so that a height is
+// above the value by three units at most, and below it nowhere. So the whole part of a height is right where its
+// fraction is three units or more. Elsewhere it may be one too high, and the sign of the remainder decides.
 
 #pragma once
 
@@ -50,9 +50,11 @@ struct Reciprocal {
     }
 };
 
-// 2^bits * growth / area, rounded down or, where that is not a whole number, to one below. `exact` says that nothing is left.
+// 2^bits * growth / area, rounded down or, where that is not a whole number, to one below. `exact` says
+// that nothing is left.
 inline uint64_t gradient(int64_t growth, uint64_t area, const Reciprocal& inverse, int bits, bool& exact) {
-    uint64_t found = static_cast<uint64_t>(static_cast<__int128>(growth) * inverse.value >> (127 - inverse.shift - bits));
+    uint64_t found =
+        static_cast<uint64_t>(static_cast<__int128>(growth) * inverse.value >> (127 - inverse.shift - bits));
     uint64_t scaled = static_cast<uint64_t>(growth) << bits;
     if (scaled - found * area == area) ++found;
     exact = exact && scaled == found * area;
@@ -60,7 +62,8 @@ inline uint64_t gradient(int64_t growth, uint64_t area, const Reciprocal& invers
 }
 
 inline Linear number_of(const Triangle& t, int attribute) {
-    int64_t first = t.values[attribute][0], second = t.values[attribute][1] - first, third = t.values[attribute][2] - first;
+    int64_t first = t.values[attribute][0], second = t.values[attribute][1] - first,
+            third = t.values[attribute][2] - first;
     int64_t right = second * t.edges[1].right + third * t.edges[2].right;
     int64_t down = second * t.edges[1].down + third * t.edges[2].down;
     uint64_t of_first = static_cast<uint64_t>(first) * static_cast<uint64_t>(t.area);
@@ -76,7 +79,8 @@ inline Linear height_of(const Triangle& t, int attribute, const Linear& number, 
     bool exact = true;
     uint64_t right = gradient(static_cast<int64_t>(number.right), area, inverse, bits, exact);
     uint64_t down = gradient(static_cast<int64_t>(number.down), area, inverse, bits, exact);
-    // Two units for the halves that are cut off, and a sixteenth for the gradients' own error; three where they have none.
+    // Two units for the halves that are cut off, and a sixteenth for the gradients' own error; three
+    // where they have none.
     uint64_t above = exact ? error_units * unit : 2 * unit + unit / 16;
     Linear height = {first + above, right, down};
     height.origin = height.at(-t.x, -t.y);
@@ -102,7 +106,8 @@ __attribute__((noinline)) inline void make_planes(const Triangle& t, const Patte
         plane.lanes = upper_growth(256 * plane.height.right, 256 * plane.height.down);
         planes.steep = planes.steep || is_steep(t, attribute, plane.number);
         const Linear growth = {0, plane.height.right, plane.height.down};
-        for (int s = 0; s < pattern.count; ++s) plane.samples[s] = growth.at(pattern.places[s][0], pattern.places[s][1]);
+        for (int s = 0; s < pattern.count; ++s)
+            plane.samples[s] = growth.at(pattern.places[s][0], pattern.places[s][1]);
     }
 }
 

@@ -17,7 +17,8 @@ public:
     int left = 0, top = 0, right = 0, bottom = 0;   // its pixels
 
     Tile(const Pattern& pattern, int side)
-        : pattern_(pattern), side_(side), count_(side / 8 * (side / 8) * pattern.count), samples_(new Samples[count_]) {}
+        : pattern_(pattern), side_(side), count_(side / 8 * (side / 8) * pattern.count),
+          samples_(new Samples[count_]) {}
 
     void clear(const Sample& value) {
         Samples all;
@@ -38,7 +39,8 @@ private:
     std::unique_ptr<Samples[]> samples_;
 };
 
-// ---- Drawing a triangle ----------------------------------------------------------------------------------------------
+// ---- Drawing a triangle
+// ----------------------------------------------------------------------------------------------
 
 // A triangle over the blocks of a tile. Its planes are made at the first block with a covered sample.
 class TileTriangle {
@@ -108,12 +110,14 @@ private:
             const Edge& edge = t_.edges[e];
             int64_t corner = most[e] - above_[e] - pattern_.low * (edge.right + edge.down);
             for (int s = 0; s < pattern_.count; ++s)
-                masks[s] &= edge_mask(e, corner + pattern_.places[s][0] * edge.right + pattern_.places[s][1] * edge.down);
+                masks[s] &=
+                    edge_mask(e, corner + pattern_.places[s][0] * edge.right + pattern_.places[s][1] * edge.down);
         }
         return whole;
     }
 
-    // Where the edge's value is not negative. An edge that meets the block has small values there: their 1/256 fit in 32 bits.
+    // Where the edge's value is not negative. An edge that meets the block has small values there: their
+    // 1/256 fit in 32 bits.
     uint64_t edge_mask(int e, int64_t first) const {
         uint64_t outside = 0;
         uint32_t value = static_cast<uint32_t>(first >> 8);
@@ -137,7 +141,8 @@ private:
     }
 };
 
-// ---- Resolving -------------------------------------------------------------------------------------------------------
+// ---- Resolving
+// -------------------------------------------------------------------------------------------------------
 
 // For each channel, which of its sixteen lanes stands at which of 48 bytes of pixels; 128 for none.
 struct Interleaving {

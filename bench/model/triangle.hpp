@@ -23,13 +23,16 @@ struct Pattern {
           reach(samples == 4 ? 192 : 0) {}
 };
 
-// The edge's value grows by `right` and `down` for 1/256 pixel. It is not negative at the points that the triangle owns there.
+// The edge's value grows by `right` and `down` for 1/256 pixel. It is not negative at the points that the
+// triangle owns there.
 struct Edge {
     int64_t right, down, origin;
 
     int64_t at(int64_t x, int64_t y) const { return right * x + down * y + origin; }
     // How far the greatest value in a square lies above the value at its upper left corner.
-    int64_t above_corner(int64_t side) const { return side * (std::max<int64_t>(right, 0) + std::max<int64_t>(down, 0)); }
+    int64_t above_corner(int64_t side) const {
+        return side * (std::max<int64_t>(right, 0) + std::max<int64_t>(down, 0));
+    }
 };
 
 enum Attribute { Depth, Red, Green, Blue, Alpha, Attributes };
@@ -46,7 +49,9 @@ struct Triangle {
         const uint16_t* v = values[attribute];
         return v[0] == v[1] && v[1] == v[2];
     }
-    bool has_flat_colour() const { return is_flat(Red) && is_flat(Green) && is_flat(Blue) && (!state->over || is_flat(Alpha)); }
+    bool has_flat_colour() const {
+        return is_flat(Red) && is_flat(Green) && is_flat(Blue) && (!state->over || is_flat(Alpha));
+    }
     bool uses_depth() const { return state->test != Test::Always || state->depth_write; }
 };
 
