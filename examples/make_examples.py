@@ -36,7 +36,10 @@ def hue(turn: float) -> list[int]:
     return [round(127.5 + 127.5 * math.cos(2 * math.pi * (turn - third / 3))) for third in range(3)]
 
 
-def rectangle(x0: float, y0: float, x1: float, y1: float, colours: Sequence[Sequence[int]], alpha: int = 255, depths: Sequence[int] = (0, 0, 0, 0)) -> list[list[int]]:
+def rectangle(
+    x0: float, y0: float, x1: float, y1: float, colours: Sequence[Sequence[int]], alpha: int = 255,
+    depths: Sequence[int] = (0, 0, 0, 0),
+) -> list[list[int]]:
     """Four vertices in the order left top, right top, right bottom, left bottom."""
     corners = ((x0, y0), (x1, y0), (x1, y1), (x0, y1))
     return [vertex(x, y, c, alpha, z) for (x, y), c, z in zip(corners, colours, depths)]

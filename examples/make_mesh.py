@@ -3,8 +3,8 @@
 
     examples/make_mesh.py > examples/mesh.json
 
-The mesh is turned, projected and lit here, since a draw list holds screen positions and colours alone. It gives the same
-bytes each time. Standard library alone.
+The mesh is turned, projected and lit here, since a draw list holds screen positions and colours alone. It gives the
+same bytes each time. Standard library alone.
 """
 
 from __future__ import annotations

@@ -14,9 +14,11 @@ enum { WIDTH = 640, HEIGHT = 480, SAMPLES = 4 };
 
 static uint8_t pixels[HEIGHT * WIDTH * 3];
 
-/* Draws on a canvas that has memory, and writes its colours to `pixels`. The error says what is wrong with the batch. */
+/* Draws on a canvas that has memory, and writes its colours to `pixels`. The error says what is wrong
+ * with the batch. */
 static trirast_status draw_triangle(trirast_canvas *canvas, trirast_error *error) {
-    /* Positions are in 1/256 pixel, from the upper left corner of the picture. Depths are 0 to 65535; the least is nearest. */
+    /* Positions are in 1/256 pixel, from the upper left corner of the picture. Depths are 0 to 65535; the
+     * least is nearest. */
     const trirast_vertex vertices[] = {
         {.x = 320 * 256, .y = 10 * 256, .depth = 100, .red = 255, .alpha = 255},
         {.x = 620 * 256, .y = 450 * 256, .depth = 200, .green = 255, .alpha = 255},

@@ -2,8 +2,8 @@
  *
  *     frames [--frames 8] [--threads 4] [FOLDER]
  *
- * A ring of tiles turns in perspective. Its corners are turned, projected and lit here, since a draw list holds positions
- * on the screen. Each thread draws some tile rows into its own part of one buffer. With a folder each frame
+ * A ring of tiles turns in perspective. Its corners are turned, projected and lit here, since a draw list holds
+ * positions on the screen. Each thread draws some tile rows into its own part of one buffer. With a folder each frame
  * is written there as frame-N.ppm, and its list as frame-N.json; without one, the frames are drawn and forgotten.
  *
  *     cc -O2 frames.c $(pkg-config --cflags --libs trirast) -pthread -lm
@@ -79,8 +79,8 @@ static void make_list(text *list, double turn) {
     for (int along = 0; along < ALONG; along++)
         for (int around = 0; around < ROUND; around++) {
             int here = along * ROUND, ahead = (along + 1) % ALONG * ROUND, beside = (around + 1) % ROUND;
-            add(list, "%s[%d,%d,%d],[%d,%d,%d]", along + around ? "," : "", here + around, ahead + around, here + beside,
-                here + beside, ahead + around, ahead + beside);
+            add(list, "%s[%d,%d,%d],[%d,%d,%d]", along + around ? "," : "", here + around, ahead + around,
+                here + beside, here + beside, ahead + around, ahead + beside);
         }
     add(list, "]}]}\n");
 }
@@ -99,8 +99,8 @@ typedef struct {
 
 static void *draw_part(void *argument) {
     part *own = argument;
-    own->status = trirast_list_draw_rows(own->list->bytes, own->list->length, TILE_SIZE, own->first, own->end, own->pixels,
-                                         own->size, &own->error);
+    own->status = trirast_list_draw_rows(own->list->bytes, own->list->length, TILE_SIZE, own->first, own->end,
+                                         own->pixels, own->size, &own->error);
     return NULL;
 }
 
@@ -111,8 +111,8 @@ static void stop_on(const part *own) {
     stop(message);
 }
 
-/* Draws the list's pixels by this number of threads, or one for each tile row if these are fewer. The width and the height are
- * the program's own, so it does not call trirast_list_info. */
+/* Draws the list's pixels by this number of threads, or one for each tile row if these are fewer. The width and the
+ * height are the program's own, so it does not call trirast_list_info. */
 static void draw(const text *list, uint8_t *pixels, int threads) {
     part parts[MAX_THREADS];
     pthread_t ids[MAX_THREADS];

@@ -100,7 +100,8 @@ static void add_normals(model *read) {
 /* The middle of an edge, moved towards the planes that touch its ends, so that the edge becomes a curve. */
 static void add_middle(model *made, uint32_t a, uint32_t b) {
     vector middle = times(plus(made->points[a], made->points[b]), 0.5);
-    double over_a = dot(minus(middle, made->points[a]), made->normals[a]), over_b = dot(minus(middle, made->points[b]), made->normals[b]);
+    double over_a = dot(minus(middle, made->points[a]), made->normals[a]),
+           over_b = dot(minus(middle, made->points[b]), made->normals[b]);
     vector moved = plus(times(made->normals[a], over_a), times(made->normals[b], over_b));
     made->normals[made->point_count] = unit(plus(made->normals[a], made->normals[b]));
     made->points[made->point_count++] = minus(middle, times(moved, 0.375));
@@ -117,7 +118,8 @@ static void refine(model *made) {
         const uint32_t *corner = made->corners + k;
         uint32_t middle = (uint32_t)made->point_count;
         for (int n = 0; n < 3; n++) add_middle(made, corner[n], corner[(n + 1) % 3]);
-        const uint32_t four[12] = {corner[0], middle, middle + 2, middle, corner[1], middle + 1, middle + 2, middle + 1, corner[2], middle, middle + 1, middle + 2};
+        const uint32_t four[12] = {corner[0], middle, middle + 2, middle, corner[1], middle + 1,
+                                   middle + 2, middle + 1, corner[2], middle, middle + 1, middle + 2};
         memcpy(cut + next, four, sizeof four), next += 12;
     }
     free(made->corners);
@@ -133,7 +135,8 @@ static model read_model(const char *path) {
     while (fgets(line, sizeof line, file)) {
         vector point;
         if (!strncmp(line, "v ", 2)) {
-            if (sscanf(line + 2, "%lf %lf %lf", &point.x, &point.y, &point.z) != 3) stop(path, "a point has three numbers");
+            if (sscanf(line + 2, "%lf %lf %lf", &point.x, &point.y, &point.z) != 3)
+                stop(path, "a point has three numbers");
             read.points = grown(read.points, read.point_count, sizeof *read.points);
             read.points[read.point_count++] = point;
         } else if (!strncmp(line, "f ", 2)) add_face(&read, line + 2, path);

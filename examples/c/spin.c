@@ -1,10 +1,12 @@
-/* A model that turns in a window, drawn on a canvas by as many threads as the machine has processors. A click picks a triangle.
+/* A model that turns in a window, drawn on a canvas by as many threads as the machine has processors. A
+ * click picks a triangle.
  *
  *     spin [--size 640 480] [--threads N] [--turn 25] [--speed 30] [--pick X Y] [--save FILE] [--list FILE] MODEL.obj
  *
- * The title has the frames a second. Escape ends. --turn is where the model begins, in degrees, and --speed the degrees a second.
- * --pick picks the triangle at a pixel as a click does. With --save one frame goes to a PPM file, and no window is opened; --list
- * writes the draw list of the first frame, from which the program trirast draws the same picture.
+ * The title has the frames a second. Escape ends. --turn is where the model begins, in degrees, and --speed the
+ * degrees a second. --pick picks the triangle at a pixel as a click does. With --save one frame goes to a PPM
+ * file, and no window is opened; --list writes the draw list of the first frame, from which the program trirast
+ * draws the same picture.
  *
  *     cc -O2 spin.c $(pkg-config --cflags --libs trirast sdl2) -pthread -lm
  */
@@ -34,7 +36,8 @@ typedef struct {
     trirast_batch batch;
 } frame;
 
-/* A point as the camera sees it, which looks down at the origin. The depth is a plane on the screen: it goes with 1 / distance. */
+/* A point as the camera sees it, which looks down at the origin. The depth is a plane on the screen: it goes
+ * with 1 / distance. */
 static trirast_vertex seen(const frame *made, vector point, vector color, double alpha) {
     double side = made->width < made->height ? made->width : made->height;
     double up = point.y * cos(TILT) - point.z * sin(TILT), distance = AWAY - point.y * sin(TILT) - point.z * cos(TILT);
@@ -54,7 +57,8 @@ static trirast_vertex seen(const frame *made, vector point, vector color, double
 /* The colour of a point in the light: ambient, diffuse, a highlight, and a brighter rim. */
 static vector lit(vector place, vector normal, vector at) {
     double along = atan2(place.z, place.x) / TURN;
-    vector color = {0.58 + 0.42 * cos(TURN * (along + 0.02)), 0.5 + 0.34 * cos(TURN * (along - 0.3)), 0.56 + 0.44 * cos(TURN * (along - 0.56))};
+    vector color = {0.58 + 0.42 * cos(TURN * (along + 0.02)), 0.5 + 0.34 * cos(TURN * (along - 0.3)),
+                    0.56 + 0.44 * cos(TURN * (along - 0.56))};
     vector view = unit(minus((vector){0, AWAY * sin(TILT), AWAY * cos(TILT)}, at)), light = unit(LIGHT);
     double diffuse = fmax(0, dot(normal, light)), facing = fmax(0, dot(normal, view));
     double highlight = 0.5 * pow(fmax(0, dot(normal, unit(plus(light, view)))), 24), rim = 0.22 * pow(1 - facing, 3);
@@ -69,7 +73,8 @@ static void make_surroundings(frame *made) {
     trirast_vertex *corner = made->vertices, *floor = corner + 4;
     for (int k = 0; k < 4; k++) {
         int is_right = k == 1 || k == 2, is_low = k > 1;
-        corner[k] = (trirast_vertex){is_right ? 256 * made->width : 0, is_low ? 256 * made->height : 0, 0, 40, 46, 62, 255, 0};
+        corner[k] =
+            (trirast_vertex){is_right ? 256 * made->width : 0, is_low ? 256 * made->height : 0, 0, 40, 46, 62, 255, 0};
         if (is_low) corner[k].red = 14, corner[k].green = 16, corner[k].blue = 24;
     }
     /* A pool of light that ends in nothing. */
@@ -92,7 +97,8 @@ static void make_frame(frame *made, double turn) {
         shadow[k].depth = FARTHEST - 1;
     }
     made->batch.draw_count = made->picked == NONE ? PICKED : DRAWS;
-    made->batch.vertex_count = (size_t)(vertices - made->vertices) + shape->point_count + (made->picked == NONE ? 0 : 3);
+    made->batch.vertex_count =
+        (size_t)(vertices - made->vertices) + shape->point_count + (made->picked == NONE ? 0 : 3);
     made->batch.index_count = 4 + 3 * RIM + 2 * shape->corner_count + (made->picked == NONE ? 0 : 3);
     if (made->picked == NONE) return;
     for (int k = 0; k < 3; k++) {
@@ -113,8 +119,10 @@ static frame new_frame(const model *shape, int width, int height) {
         .draws = {
             [BACKGROUND] = {.vertex_count = 4, .index_count = 4, .topology = TRIRAST_TOPOLOGY_QUADS},
             [FLOOR] = {.vertex_count = RIM + 1, .index_count = 3 * RIM, .blend = over},
-            [SHADOW] = {.vertex_count = points, .index_count = corners, .blend = over, .depth_test = TRIRAST_DEPTH_LESS, .depth_write = 1},
-            [MODEL] = {.vertex_count = points, .index_count = corners, .cull = TRIRAST_CULL_BACK, .depth_test = TRIRAST_DEPTH_LESS, .depth_write = 1},
+            [SHADOW] = {.vertex_count = points, .index_count = corners, .blend = over,
+                        .depth_test = TRIRAST_DEPTH_LESS, .depth_write = 1},
+            [MODEL] = {.vertex_count = points, .index_count = corners, .cull = TRIRAST_CULL_BACK,
+                       .depth_test = TRIRAST_DEPTH_LESS, .depth_write = 1},
             /* The picked triangle once more, where the model shows it: its depths are the same to the last bit. */
             [PICKED] = {.vertex_count = 3, .index_count = 3, .depth_test = TRIRAST_DEPTH_EQUAL},
         },
@@ -133,7 +141,8 @@ static frame new_frame(const model *shape, int width, int height) {
 static trirast_canvas new_canvas(uint32_t width, uint32_t height, uint32_t samples) {
     trirast_canvas canvas = {.width = width, .height = height, .samples = samples};
     const size_t size = trirast_canvas_size(&canvas);
-    if (trirast_canvas_init(&canvas, malloc(size), size)) stop("no canvas", "a side is not 1 to 4096 pixels, or out of memory");
+    if (trirast_canvas_init(&canvas, malloc(size), size))
+        stop("no canvas", "a side is not 1 to 4096 pixels, or out of memory");
     return canvas;
 }
 
@@ -151,19 +160,23 @@ static void *draw_share(void *argument) {
     share *own = argument;
     own->status = trirast_canvas_clear(&own->rows, NULL);
     if (!own->status) own->status = trirast_canvas_draw(&own->rows, own->batch, NULL);
-    if (!own->status) own->status = trirast_canvas_resolve(&own->rows, own->format, own->pixels, own->size, own->stride);
+    if (!own->status)
+        own->status = trirast_canvas_resolve(&own->rows, own->format, own->pixels, own->size, own->stride);
     return NULL;
 }
 
-/* Draws a batch on a canvas by this number of threads, or one for each tile row if these are fewer, and writes the pixels. */
-static void draw(const trirast_canvas *canvas, const trirast_batch *batch, int threads, trirast_format format, uint8_t *pixels,
-                 size_t stride) {
+/* Draws a batch on a canvas by this number of threads, or one for each tile row if these are fewer, and
+ * writes the pixels. */
+static void draw(const trirast_canvas *canvas, const trirast_batch *batch, int threads, trirast_format format,
+                 uint8_t *pixels, size_t stride) {
     share shares[MAX_THREADS];
     pthread_t ids[MAX_THREADS];
     uint32_t rows = canvas->end, count = (uint32_t)threads < rows ? (uint32_t)threads : rows, side = TRIRAST_TILE_SIZE;
     for (uint32_t k = 0; k < count; k++) {
-        uint32_t first = rows * k / count, end = rows * (k + 1) / count, bottom = end < rows ? end * side : canvas->height;
-        shares[k] = (share){.batch = batch, .format = format, .pixels = pixels + first * side * stride, .stride = stride};
+        uint32_t first = rows * k / count, end = rows * (k + 1) / count,
+                 bottom = end < rows ? end * side : canvas->height;
+        shares[k] =
+            (share){.batch = batch, .format = format, .pixels = pixels + first * side * stride, .stride = stride};
         shares[k].size = (bottom - first * side) * stride;
         if (trirast_canvas_split(canvas, first, end, &shares[k].rows)) stop("no piece", "tile rows");
         if (pthread_create(&ids[k], NULL, draw_share, &shares[k])) stop("no thread", "it cannot be started");
@@ -173,7 +186,8 @@ static void draw(const trirast_canvas *canvas, const trirast_batch *batch, int t
         if (shares[k].status) stop("a call failed", trirast_status_string(shares[k].status));
 }
 
-/* Picks the triangle of the model at a pixel. The model is drawn by ids on a canvas of this pixel alone, a window on the screen. */
+/* Picks the triangle of the model at a pixel. The model is drawn by ids on a canvas of this pixel alone, a
+ * window on the screen. */
 static void pick(frame *made, int x, int y) {
     const size_t points = made->shape->point_count, corners = made->shape->corner_count;
     const trirast_clear none = {.red = 255, .green = 255, .blue = 255, .depth = FARTHEST};
@@ -231,7 +245,9 @@ static void write_rows(FILE *file, const char *key, const int64_t *numbers, size
 
 static void write_draw(FILE *file, const trirast_draw *draw, const trirast_vertex *vertices, const uint32_t *indices) {
     int is_quads = draw->topology == TRIRAST_TOPOLOGY_QUADS;
-    const char *test = draw->depth_test == TRIRAST_DEPTH_ALWAYS ? "always" : draw->depth_test == TRIRAST_DEPTH_LESS ? "less" : "equal";
+    const char *test = draw->depth_test == TRIRAST_DEPTH_ALWAYS ? "always"
+                       : draw->depth_test == TRIRAST_DEPTH_LESS ? "less"
+                                                                : "equal";
     int64_t *numbers = calloc(7 * draw->vertex_count + draw->index_count, sizeof *numbers), *number = numbers;
     if (!numbers) stop("no memory", "out of memory");
     for (size_t k = 0; k < draw->vertex_count; k++) {
@@ -301,7 +317,8 @@ static void show_rate(SDL_Window *window, const frame *made, int threads, double
 
 static void run(const trirast_canvas *canvas, frame *made, int threads, double turn, double speed) {
     must(!SDL_Init(SDL_INIT_VIDEO));
-    SDL_Window *window = SDL_CreateWindow("spin", SDL_WINDOWPOS_CENTERED, SDL_WINDOWPOS_CENTERED, made->width, made->height, 0);
+    SDL_Window *window =
+        SDL_CreateWindow("spin", SDL_WINDOWPOS_CENTERED, SDL_WINDOWPOS_CENTERED, made->width, made->height, 0);
     must(window != NULL);
     Uint64 begun = SDL_GetTicks64(), since = begun;
     for (int frames = 0; take_events(made); frames++) {
@@ -330,7 +347,8 @@ typedef struct {
 static double number(char **words, double low, double high) {
     char *end = NULL;
     double value = *words ? strtod(*words, &end) : 0;
-    if (!*words || end == *words || *end || value < low || value > high) stop("a number is missing or out of range", *words ? *words : "");
+    if (!*words || end == *words || *end || value < low || value > high)
+        stop("a number is missing or out of range", *words ? *words : "");
     return value;
 }
 

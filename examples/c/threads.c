@@ -1,6 +1,7 @@
-/* Draws two batches on a canvas with alpha and 16 samples a pixel by four threads: a triangle without a background, and a pane of glass
- * that is blended over it and reaches past it. Writes the picture to standard output as a PAM file (RGB_ALPHA), whose colours are not
- * multiplied by alpha, as netpbm, ImageMagick and others read it. At the top of the repository:
+/* Draws two batches on a canvas with alpha and 16 samples a pixel by four threads: a triangle without a background,
+ * and a pane of glass that is blended over it and reaches past it. Writes the picture to standard output as a PAM
+ * file (RGB_ALPHA), whose colours are not multiplied by alpha, as netpbm, ImageMagick and others read it. At the
+ * top of the repository:
  *
  *     make library
  *     cc -std=c99 -o threads examples/c/threads.c -Iinclude lib/libtrirast.a -pthread
@@ -30,7 +31,8 @@ static const trirast_vertex glass[] = {
 };
 
 /* Draws one triangle: without indices a batch has its vertices in their order. */
-static trirast_status draw_triangle(trirast_canvas *piece, const trirast_vertex corners[3], trirast_blend blend, trirast_error *error) {
+static trirast_status draw_triangle(trirast_canvas *piece, const trirast_vertex corners[3], trirast_blend blend,
+                                    trirast_error *error) {
     const trirast_draw draw = {.vertex_count = 3, .blend = blend};
     const trirast_batch batch = {.draws = &draw, .draw_count = 1, .vertices = corners, .vertex_count = 3};
     return trirast_canvas_draw(piece, &batch, error);
@@ -42,14 +44,17 @@ typedef struct {
     trirast_error error;
 } part;
 
-/* Begins with black of alpha 0, on which TRIRAST_BLEND_OVER leaves colours that are multiplied by their alpha. The format divides by it. */
+/* Begins with black of alpha 0, on which TRIRAST_BLEND_OVER leaves colours that are multiplied by their alpha. The
+ * format divides by it. */
 static void *draw_part(void *given) {
     part *own = given;
     const size_t stride = CHANNELS * WIDTH, begin = (size_t)TRIRAST_TILE_SIZE * own->piece.first * stride;
     trirast_status status = trirast_canvas_clear(&own->piece, NULL);
     if (!status) status = draw_triangle(&own->piece, solid, TRIRAST_BLEND_NONE, &own->error);
     if (!status) status = draw_triangle(&own->piece, glass, TRIRAST_BLEND_OVER, &own->error);
-    if (!status) status = trirast_canvas_resolve(&own->piece, TRIRAST_FORMAT_RGBA8_STRAIGHT, pixels + begin, sizeof pixels - begin, stride);
+    if (!status)
+        status = trirast_canvas_resolve(&own->piece, TRIRAST_FORMAT_RGBA8_STRAIGHT, pixels + begin,
+                                        sizeof pixels - begin, stride);
     own->error.status = (uint32_t)status;
     return NULL;
 }

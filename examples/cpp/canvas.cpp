@@ -19,8 +19,8 @@ static trirast_vertex at(std::int32_t x, std::int32_t y, std::uint16_t depth, co
 static void draw_share(trirast::TileRows &rows) {
     const trirast_vertex solid[] = {
         at(160, 10, 1000, {255, 0, 0}), at(310, 200, 30000, {0, 255, 0}), at(10, 230, 60000, {0, 0, 255})};
-    const trirast_vertex glass[] = {
-        at(0, 40, 20000, {255, 255, 255, 200}), at(320, 100, 20000, {255, 255, 0, 90}), at(40, 200, 20000, {0, 255, 255, 30})};
+    const trirast_vertex glass[] = {at(0, 40, 20000, {255, 255, 255, 200}), at(320, 100, 20000, {255, 255, 0, 90}),
+                                    at(40, 200, 20000, {0, 255, 255, 30})};
 
     rows.clear({24, 24, 32});
     trirast::State state;

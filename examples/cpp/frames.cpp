@@ -2,9 +2,10 @@
 //
 //     frames [--frames 1] [--workers 1] [--batch TRIANGLES] < list.json > picture.ppm
 //
-// A frame is one batch, or batches of at most --batch triangles; it goes from its clear to the pixels in memory. The least time of a
-// frame goes to standard error. ../../bench/draw_list.hpp reads the list and trusts it: triangles without strips and quads, as the
-// benchmark's scenes are. bench/canvas.py times this program beside the program of crates/frames.
+// A frame is one batch, or batches of at most --batch triangles; it goes from its clear to the pixels in memory.
+// The least time of a frame goes to standard error. ../../bench/draw_list.hpp reads the list and trusts it:
+// triangles without strips and quads, as the benchmark's scenes are. bench/canvas.py times this program beside the
+// program of crates/frames.
 //
 //     c++ -std=c++17 -O2 -I ../../bench frames.cpp $(pkg-config --cflags --libs trirast) -pthread
 #include <algorithm>
@@ -59,11 +60,12 @@ void add(Arrays &arrays, const Draw &draw) {
     if (draw.triangles.empty()) return;
     arrays.draws.push_back(draw_of(draw));
     for (const Vertex &vertex : draw.vertices) arrays.vertices.push_back(vertex_of(vertex));
-    for (const auto &triangle : draw.triangles) arrays.indices.insert(arrays.indices.end(), triangle.begin(), triangle.end());
+    for (const auto &triangle : draw.triangles)
+        arrays.indices.insert(arrays.indices.end(), triangle.begin(), triangle.end());
 }
 
-trirast_batch batch_of(const trirast_draw *draws, std::size_t draw_count, const trirast_vertex *vertices, std::size_t vertex_count,
-                       const std::uint32_t *indices, std::size_t index_count) {
+trirast_batch batch_of(const trirast_draw *draws, std::size_t draw_count, const trirast_vertex *vertices,
+                       std::size_t vertex_count, const std::uint32_t *indices, std::size_t index_count) {
     trirast_batch batch = {};
     batch.draws = draws, batch.draw_count = draw_count, batch.vertices = vertices, batch.vertex_count = vertex_count;
     batch.indices = indices, batch.index_count = index_count;
@@ -73,8 +75,8 @@ trirast_batch batch_of(const trirast_draw *draws, std::size_t draw_count, const 
 // One batch, or one for each `most` triangles of a draw, all over the same arrays.
 void split(Arrays &arrays, std::uint32_t most) {
     if (most == UINT32_MAX) {
-        arrays.batches.push_back(batch_of(arrays.draws.data(), arrays.draws.size(), arrays.vertices.data(), arrays.vertices.size(),
-                                          arrays.indices.data(), arrays.indices.size()));
+        arrays.batches.push_back(batch_of(arrays.draws.data(), arrays.draws.size(), arrays.vertices.data(),
+                                          arrays.vertices.size(), arrays.indices.data(), arrays.indices.size()));
         return;
     }
     const std::size_t each = 3 * std::size_t{most};
@@ -88,8 +90,8 @@ void split(Arrays &arrays, std::uint32_t most) {
     for (const trirast_draw &draw : arrays.draws) {
         const std::size_t end = index + draw.index_count;
         for (; index < end; index += cut[next++].index_count)
-            arrays.batches.push_back(
-                batch_of(&cut[next], 1, &arrays.vertices[vertex], draw.vertex_count, &arrays.indices[index], cut[next].index_count));
+            arrays.batches.push_back(batch_of(&cut[next], 1, &arrays.vertices[vertex], draw.vertex_count,
+                                              &arrays.indices[index], cut[next].index_count));
         vertex += draw.vertex_count;
     }
     arrays.draws.swap(cut);
@@ -99,7 +101,8 @@ void split(Arrays &arrays, std::uint32_t most) {
 class Picture {
 public:
     Picture(const Scene &scene, std::uint32_t workers)
-        : canvas_({static_cast<std::uint32_t>(scene.width), static_cast<std::uint32_t>(scene.height), static_cast<std::uint32_t>(scene.samples)}),
+        : canvas_({static_cast<std::uint32_t>(scene.width), static_cast<std::uint32_t>(scene.height),
+                   static_cast<std::uint32_t>(scene.samples)}),
           workers_(workers), stride_(3 * std::size_t{canvas_.width()}), pixels_(stride_ * canvas_.height()),
           clear_{scene.clear.c[0], scene.clear.c[1], scene.clear.c[2], 255, scene.clear.z} {}
 
@@ -157,9 +160,11 @@ int main(int count, char **words) {
         split(arrays, options.batch);
         Picture picture(scene, options.workers);
         double least = milliseconds(picture, arrays.batches);
-        for (std::uint32_t k = 1; k < options.frames; k++) least = std::min(least, milliseconds(picture, arrays.batches));
+        for (std::uint32_t k = 1; k < options.frames; k++)
+            least = std::min(least, milliseconds(picture, arrays.batches));
         std::cout << "P6\n" << scene.width << ' ' << scene.height << "\n255\n";
-        std::cout.write(reinterpret_cast<const char *>(picture.pixels().data()), static_cast<std::streamsize>(picture.pixels().size()));
+        std::cout.write(reinterpret_cast<const char *>(picture.pixels().data()),
+                        static_cast<std::streamsize>(picture.pixels().size()));
         std::cerr << "least_ms " << least << '\n';
         return std::cout.flush() ? 0 : 1;
     } catch (const std::exception &error) {

@@ -114,8 +114,8 @@ public:
     }
 
     // The samples at which a layer is missing or drawn twice, also one that others hide. If the model is closed, a ray
-    // from the eye meets one face more from its front, from where it is counterclockwise, than from behind: that through
-    // which it leaves the room.
+    // from the eye meets one face more from its front, from where it is counterclockwise, than from behind: that
+    // through which it leaves the room.
     std::size_t cracks(const Eye &eye) {
         look(eye);
         for (trirast_vertex &vertex : seen_.vertices) vertex.red = vertex.green = 1, vertex.alpha = 255;

@@ -1,8 +1,9 @@
 """The world's coastlines (GSHHG, full resolution) as rings of whole 1/256 pixels.
 
-Debian has GSHHG only as the bins of GMT (`gmt-gshhg-full`, read by `python3-netcdf4`): squares of some degrees, whose border cuts each
-polygon into chords. A ring here is one piece of the polygons of one level within one bin: chords joined along the border of the
-bin. Level 1 is land, 2 lakes in it, 3 islands in these, 4 ponds. A level is drawn over the one before, so no ring has holes.
+Debian has GSHHG only as the bins of GMT (`gmt-gshhg-full`, read by `python3-netcdf4`): squares of some degrees, whose
+border cuts each polygon into chords. A ring here is one piece of the polygons of one level within one bin: chords
+joined along the border of the bin. Level 1 is land, 2 lakes in it, 3 islands in these, 4 ponds. A level is drawn over
+the one before, so no ring has holes.
 """
 
 from __future__ import annotations
@@ -15,7 +16,8 @@ FILE = "/usr/share/gmt-gshhg/binned_GSHHS_{}.nc"
 # Parts of a bin's side in the file, and the corners at the ends of the sides south, east, north and west.
 UNIT = 65535
 CORNERS = ((UNIT, 0), (UNIT, UNIT), (0, UNIT), (0, 0))
-# What a chord has in place of a side if it is closed; the grounding line below the ice front, and that front, which is drawn as land.
+# What a chord has in place of a side if it is closed; the grounding line below the ice front, and that front,
+# which is drawn as land.
 CLOSED, GROUNDING_LINE, ICE_FRONT = 4, 6, 5
 LEVELS = (1, 2, 3, 4)
 # 32,768 * 256 itself is no position: the last samples lie before it.
@@ -25,7 +27,8 @@ Array = Any
 
 
 class Rings(NamedTuple):
-    """Rings one after another: their corners (x, y) in 1/256 pixel, the corners of each, and the level and the bin of each."""
+    """Rings one after another: their corners (x, y) in 1/256 pixel, the corners of each, and the level
+    and the bin of each."""
 
     corners: Array
     lengths: Array
@@ -34,7 +37,8 @@ class Rings(NamedTuple):
 
 
 class Cells(NamedTuple):
-    """Polygons that share the map among them: the arrays of trirast's draw_polygons, and of each polygon the level, 0 of the sea."""
+    """Polygons that share the map among them: the arrays of trirast's draw_polygons, and of each polygon the
+    level, 0 of the sea."""
 
     corners: Array
     ring_ends: Array
@@ -99,7 +103,8 @@ def place(side: int, point: Array) -> int:
 def border_order(chords: Sequence[Chord], starts_inside: bool) -> List[Tuple[int, bool, int]]:
     """The beginnings and ends of chords along the border: place, whether it is an end, and the chord.
 
-    They take turns, and at one place the turn says which comes first; which comes first of all, whether the SW corner is inside.
+    They take turns, and at one place the turn says which comes first; which comes first of all, whether the
+    SW corner is inside.
     """
     left = sorted(
         [(place(chord.entry, chord.points[0]), False, k) for k, chord in enumerate(chords)]
@@ -166,11 +171,14 @@ def read_rings(resolution: str, width: int) -> Rings:
                 levels.append(level)
                 places.append(number)
     lengths = np.array([len(ring) for ring in rings], np.int32)
-    return Rings(snapped(np.concatenate(rings), bins, width), lengths, np.array(levels, np.int8), np.array(places, np.int32))
+    return Rings(
+        snapped(np.concatenate(rings), bins, width), lengths, np.array(levels, np.int8), np.array(places, np.int32)
+    )
 
 
 def snapped(points: Array, bins: Bins, width: int) -> Array:
-    """Points in parts of a bin to 1/256 pixel: one exact rounding of the whole position, so that bins agree on their border."""
+    """Points in parts of a bin to 1/256 pixel: one exact rounding of the whole position, so that bins
+    agree on their border."""
     across = 2 * bins.columns * UNIT
     x = (2 * (points[:, 0] + bins.columns * UNIT // 2) * (width * 256) + across // 2) // across
     down = 2 * bins.rows * UNIT
@@ -179,8 +187,9 @@ def snapped(points: Array, bins: Bins, width: int) -> Array:
 
 
 def read_cells(resolution: str, width: int) -> Cells:
-    """The rings as a partition of the map. A bin has up to five polygons: the sea is its rectangle and the rings of level 1, land the rings
-    of levels 1 and 2, lakes those of levels 2 and 3, and so on. So each ring is in two polygons, and neighbours share all their edges."""
+    """The rings as a partition of the map. A bin has up to five polygons: the sea is its rectangle and the rings of
+    level 1, land the rings of levels 1 and 2, lakes those of levels 2 and 3, and so on. So each ring is in two
+    polygons, and neighbours share all their edges."""
     bins, found = Bins(resolution), read_rings(resolution, width)
     of_bins: Dict[int, List[int]] = {}
     for ring, number in enumerate(found.bins.tolist()):

@@ -2,11 +2,12 @@
 
     PYTHONPATH=python/src python3 examples/poster/covers.py world.npz [--samples 0 1 2 3] [--rows FIRST END]
 
-The map's polygons are drawn in white with alpha 4 over black, one sample of four a run (`sample_mask`): then the mean of the four
-samples is the number of polygons that cover that one, exactly up to 8. Levels 1 and 4 count in red, 2 in green and 3 in blue. What is
-expected is found by numpy, in whole numbers: the edges that the row of a sample crosses left of it, of which an odd number is crossed
-where an odd number of polygons covers it. So a sample that is left out is wrong, and one that is taken twice too. Exit status 1 if one
-is. Ponds, of level 4, are covered twice: they lie on land, of level 1.
+The map's polygons are drawn in white with alpha 4 over black, one sample of four a run (`sample_mask`): then the
+mean of the four samples is the number of polygons that cover that one, exactly up to 8. Levels 1 and 4 count in red,
+2 in green and 3 in blue. What is expected is found by numpy, in whole numbers: the edges that the row of a sample
+crosses left of it, of which an odd number is crossed where an odd number of polygons covers it. So a sample that is
+left out is wrong, and one that is taken twice too. Exit status 1 if one is. Ponds, of level 4, are covered twice:
+they lie on land, of level 1.
 """
 
 from __future__ import annotations
@@ -36,7 +37,8 @@ Array = Any
 
 
 class Edges(NamedTuple):
-    """The edges of all rings but the horizontal ones, each from its upper end to its lower one. `channel` is where its level counts."""
+    """The edges of all rings but the horizontal ones, each from its upper end to its lower one. `channel` is where
+    its level counts."""
 
     ends: Array
     channel: Array
@@ -79,7 +81,10 @@ def crossings(edges: Edges, top: int, height: int, width: int, sample: Tuple[int
 def counting_scene(sheet: poster.Sheet, rings: poster.Polygons, levels: Array, sample: int) -> poster.Scene:
     """The map's polygons of each level, such that each adds one to the pixels whose sample it covers."""
     draws = [
-        {"polygons": int((levels == level).sum()), "blend": "over", "sample_mask": 1 << sample, "write": [channel == k for k in range(3)]}
+        {
+            "polygons": int((levels == level).sum()), "blend": "over", "sample_mask": 1 << sample,
+            "write": [channel == k for k in range(3)],
+        }
         for level, channel in zip(LEVELS, CHANNELS)
     ]
     value = {"width": sheet.width, "height": sheet.height, "samples": 4, "draws": draws}
@@ -88,7 +93,8 @@ def counting_scene(sheet: poster.Sheet, rings: poster.Polygons, levels: Array, s
 
 
 def compared(counts: Array, edges: Edges, sample: int, threads: int, rows: Tuple[int, int]) -> Array:
-    """By channel: samples inside of an odd number of polygons, wrong ones, and those that are covered more than once."""
+    """By channel: samples inside of an odd number of polygons, wrong ones, and those that are covered
+    more than once."""
 
     def band(top: int) -> Array:
         got = counts[top : min(top + BAND, rows[1])]
@@ -114,7 +120,9 @@ def count_covers(path: str, samples: List[int], threads: int, rows: Tuple[int, i
             poster.draw_poster(counting_scene(scene.sheet, rings, levels, sample), file, workers=threads)
             counts = np.memmap(file, np.uint8, "r", os.path.getsize(file) - 3 * width * height, (height, width, 3))
             for name, (inside, off, often) in zip(NAMES, compared(counts, edges, sample, threads, rows)):
-                print(f"sample {sample}, {name}: {inside} inside, {off} wrong, {often} covered more than once", flush=True)
+                print(
+                    f"sample {sample}, {name}: {inside} inside, {off} wrong, {often} covered more than once", flush=True
+                )
                 wrong += int(off)
             del counts
     return wrong
@@ -123,8 +131,12 @@ def count_covers(path: str, samples: List[int], threads: int, rows: Tuple[int, i
 def main() -> int:
     parser = argparse.ArgumentParser(description="Counts the covers of each sample of a map.")
     parser.add_argument("map", metavar="MAP.npz")
-    parser.add_argument("--samples", type=int, nargs="+", default=list(range(4)), choices=range(4), help="which of the four")
-    parser.add_argument("--rows", type=int, nargs=2, default=(0, 1 << 20), metavar=("FIRST", "END"), help="rows that are compared")
+    parser.add_argument(
+        "--samples", type=int, nargs="+", default=list(range(4)), choices=range(4), help="which of the four"
+    )
+    parser.add_argument(
+        "--rows", type=int, nargs=2, default=(0, 1 << 20), metavar=("FIRST", "END"), help="rows that are compared"
+    )
     parser.add_argument("--threads", type=int, default=os.cpu_count() or 1)
     options = parser.parse_args()
     assert len(CHANNELS) == len(LEVELS)

@@ -3,8 +3,9 @@
     PYTHONPATH=python/src python3 examples/poster/make_map.py world.npz [--width 32768] [--resolution f]
     PYTHONPATH=python/src python3 -m trirast.poster world.npz -o world.png
 
-It needs of Debian `gmt-gshhg-full`, `python3-netcdf4` and `python3-numpy`. The map is a plate carree: x is the longitude and y the
-latitude. Each ring is a polygon, drawn over those of the level before. Beside the map world.rings.npz has the level of each, for covers.py.
+It needs of Debian `gmt-gshhg-full`, `python3-netcdf4` and `python3-numpy`. The map is a plate carree: x is the
+longitude and y the latitude. Each ring is a polygon, drawn over those of the level before. Beside the map
+world.rings.npz has the level of each, for covers.py.
 """
 
 from __future__ import annotations
@@ -56,7 +57,9 @@ def make_map(path: str, width: int, resolution: str) -> None:
     height = width // 2
     (land, levels), lines = land_and_water(resolution, width), graticule(width, height)
     draws = [{"polygons": land.count}, {"polygons": lines.count, "blend": "over"}]
-    poster.save_polygons(path, land.followed_by(lines), {"width": width, "height": height, "samples": 4, "clear": SEA, "draws": draws})
+    poster.save_polygons(
+        path, land.followed_by(lines), {"width": width, "height": height, "samples": 4, "clear": SEA, "draws": draws}
+    )
     np.savez(os.path.splitext(path)[0] + ".rings.npz", levels=levels)
     print(f"{land.count} rings, {len(land.corners)} corners")
 

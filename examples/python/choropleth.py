@@ -1,12 +1,14 @@
 #!/usr/bin/python3
-"""A map whose cells are coloured by a number, half transparent and without seams, and their areas by ids, summed exactly.
+"""A map whose cells are coloured by a number, half transparent and without seams, and their areas by
+ids, summed exactly.
 
     PYTHONPATH=python/src python3 examples/python/choropleth.py land.png
     PYTHONPATH=python/src python3 examples/python/choropleth.py countries.png --map countries.geojson --style style.json
 
-Without a map the cells are land and sea of GSHHG in squares of ten degrees, and land is coloured by its share of its square: it needs of
-Debian gmt-gshhg-low and python3-netcdf4. A map and its style are as for `python3 -m trirast.poster` (docs/maps.md), so a file of
-countries and a property of theirs will do. It needs numpy. After `pip install ./python` no PYTHONPATH is needed.
+Without a map the cells are land and sea of GSHHG in squares of ten degrees, and land is coloured by its share of its
+square: it needs of Debian gmt-gshhg-low and python3-netcdf4. A map and its style are as for `python3 -m trirast.poster`
+(docs/maps.md), so a file of countries and a property of theirs will do. It needs numpy. After `pip install ./python` no
+PYTHONPATH is needed.
 """
 
 import argparse
@@ -35,7 +37,8 @@ def canvas_of(sheet: poster.Sheet, color: Tuple[int, int, int]) -> trirast.Canva
 
 
 def areas_of(sheet: poster.Sheet, polygons: poster.Polygons) -> Tuple[Any, int]:
-    """The area of each polygon in samples, and that of no polygon: each sample has the id of the polygon that was drawn there last."""
+    """The area of each polygon in samples, and that of no polygon: each sample has the id of the polygon that was
+    drawn there last."""
     canvas = canvas_of(sheet, GROUND)
     canvas.draw_polygons(polygons.corners, polygons.ring_ends, polygons.polygon_ends, first_id=0)
     counts = np.zeros(NONE + 1, np.int64)
@@ -58,7 +61,9 @@ def land_by_squares() -> Tuple[poster.Sheet, poster.Polygons]:
 
     cells = read_cells("l", WIDTH)
     sheet = poster.Sheet(WIDTH, HEIGHT, SAMPLES, GROUND)
-    polygons = poster.Polygons(cells.corners, cells.ring_ends, cells.polygon_ends, np.zeros((len(cells.levels), 4), np.uint8))
+    polygons = poster.Polygons(
+        cells.corners, cells.ring_ends, cells.polygon_ends, np.zeros((len(cells.levels), 4), np.uint8)
+    )
     areas, _ = areas_of(sheet, polygons)
     # A square begins with its sea.
     square = np.cumsum(cells.levels == 0) - 1
@@ -76,7 +81,9 @@ def given_map(path: str, style: Optional[str]) -> Tuple[poster.Sheet, poster.Pol
 
 
 def main() -> None:
-    parser = argparse.ArgumentParser(description="Draws a map whose cells are coloured by a number, and counts their areas.")
+    parser = argparse.ArgumentParser(
+        description="Draws a map whose cells are coloured by a number, and counts their areas."
+    )
     parser.add_argument("picture", help="the PNG file to write")
     parser.add_argument("--map", metavar="MAP.geojson", help="polygons of GeoJSON, at most 4096 pixels a side")
     parser.add_argument("--style", metavar="STYLE.json", help="their window, and their colours by a property")
@@ -88,7 +95,10 @@ def main() -> None:
     areas, rest = areas_of(sheet, polygons)
     covers = covers_of(sheet, polygons)
     whole = sheet.width * sheet.height * sheet.samples
-    print(f"{polygons.count} polygons have {areas.sum():,} samples, and no polygon has {rest:,}: {areas.sum() + rest - whole} beside {whole:,}")
+    print(
+        f"{polygons.count} polygons have {areas.sum():,} samples, and no polygon has {rest:,}: "
+        f"{areas.sum() + rest - whole} beside {whole:,}"
+    )
     print(f"{covers[0]:,} samples are in no polygon, {covers[1]:,} in one, {covers[2:].sum():,} in several")
     largest = np.argsort(-areas, kind="stable")[:3].tolist()
     print("the largest: " + ", ".join(f"polygon {number} with {areas[number]:,} samples" for number in largest))

@@ -8,8 +8,9 @@ A triangle is the x and y of three corners in 1/256 pixel; without any, some har
 printed as a digit from 0 to f whose bit s says that sample s is covered, or as a dot if none is. With --keep the list
 and the picture of each triangle are left in a folder. After `pip install ./python` no PYTHONPATH is needed.
 
-A list has no way to ask for a sample. So the triangle is drawn once for each, under a sample mask of that sample alone and
-with a red of 4, 8, 16 or 32; a pixel's red is the mean of its four samples, and so 1, 2, 4 and 8 for each that is covered.
+A list has no way to ask for a sample. So the triangle is drawn once for each, under a sample mask of that sample
+alone and with a red of 4, 8, 16 or 32; a pixel's red is the mean of its four samples, and so 1, 2, 4 and 8 for
+each that is covered.
 """
 
 import argparse

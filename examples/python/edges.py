@@ -1,5 +1,6 @@
 #!/usr/bin/env python3
-"""Draws almost level and almost upright bars with 1, 4 and 16 samples a pixel, side by side and enlarged, as a PPM file.
+"""Draws almost level and almost upright bars with 1, 4 and 16 samples a pixel, side by side and
+enlarged, as a PPM file.
 
     PYTHONPATH=python/src python3 examples/python/edges.py edges.ppm
 
@@ -11,8 +12,8 @@ from typing import List, Tuple
 
 import trirast
 
-# In pixels: the side of a picture, the side of one of its pixels when it is enlarged, the gap between two pictures, and the height
-# of the label above each and the side of the squares of which its letters are made.
+# In pixels: the side of a picture, the side of one of its pixels when it is enlarged, the gap between two pictures, and
+# the height of the label above each and the side of the squares of which its letters are made.
 SIDE, ZOOM, GAP, LABEL, DOT = 60, 5, 10, 25, 3
 DARK, LIGHT, WARM = (18, 26, 44), (235, 240, 250), (255, 176, 64)
 PAPER = (255, 255, 255)
@@ -20,8 +21,8 @@ COUNTS = (1, 4, 16)
 # Letters of five rows of squares, joined by slashes.
 LETTERS = {
     "1": " # /## / # / # /###", "4": "# #/# #/###/  #/  #", "6": "###/#  /###/# #/###", " ": "  /  /  /  /  ",
-    "S": "###/#  /###/  #/###", "A": "###/# #/###/# #/# #", "M": "#   #/## ##/# # #/#   #/#   #", "P": "###/# #/###/#  /#  ",
-    "L": "#  /#  /#  /#  /###", "E": "###/#  /## /#  /###",
+    "S": "###/#  /###/  #/###", "A": "###/# #/###/# #/# #", "M": "#   #/## ##/# # #/#   #/#   #",
+    "P": "###/# #/###/#  /#  ", "L": "#  /#  /#  /#  /###", "E": "###/#  /## /#  /###",
 }
 
 Bar = Tuple[Tuple[float, float], Tuple[float, float], Tuple[int, int, int]]

@@ -1,5 +1,5 @@
-"""Draws a triangle and a pane of glass over it from numpy's floats, on a canvas with alpha and 16 samples a pixel, and saves them without a
-background: the picture of examples/c/threads.c. At the top of the repository:
+"""Draws a triangle and a pane of glass over it from numpy's floats, on a canvas with alpha and 16 samples a pixel, and
+saves them without a background: the picture of examples/c/threads.c. At the top of the repository:
 
     make library
     PYTHONPATH=python/src python3 examples/python/glass.py glass.png
@@ -25,7 +25,8 @@ def in_bytes(colors: Any) -> Any:
     return np.rint(255 * colors).astype(int)
 
 
-# It begins as clear() makes it: black of alpha 0, on which "over" leaves colours that are multiplied by their alpha. save divides by it.
+# It begins as clear() makes it: black of alpha 0, on which "over" leaves colours that are multiplied by their
+# alpha. save divides by it.
 canvas = trirast.Canvas(100, 200, samples=16, alpha=True)
 canvas.draw(trirast.snap(SOLID), colors=in_bytes(COLORS), threads=4)
 canvas.draw(trirast.snap(GLASS), colors=in_bytes(WHITE), blend="over", threads=4)

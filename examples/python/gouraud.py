@@ -1,11 +1,13 @@
 #!/usr/bin/python3
-"""Draws half transparent meshes by matplotlib's Agg and by trirast.matplotlib side by side, and counts the pixels of their seams.
+"""Draws half transparent meshes by matplotlib's Agg and by trirast.matplotlib side by side, and counts the
+pixels of their seams.
 
     PYTHONPATH=python/src python3 examples/python/gouraud.py gouraud.png
 
-Each mesh has one colour and covers all of its axes, so each pixel of the axes has to be of that colour, blended once over the white ground. That
-is the most frequent colour: a pixel of another one was drawn twice, or not wholly. Pixels of the whole plot are counted, and the picture shows
-a part of it enlarged. It needs numpy and matplotlib (python3-matplotlib in Debian). After `pip install ./python` no PYTHONPATH is needed.
+Each mesh has one colour and covers all of its axes, so each pixel of the axes has to be of that colour, blended once
+over the white ground. That is the most frequent colour: a pixel of another one was drawn twice, or not wholly. Pixels
+of the whole plot are counted, and the picture shows a part of it enlarged. It needs numpy and matplotlib
+(python3-matplotlib in Debian). After `pip install ./python` no PYTHONPATH is needed.
 """
 
 import argparse

@@ -1,11 +1,13 @@
 #!/usr/bin/env python3
-"""Draws a part of a list's picture enlarged, with samples and triangle edges, and the history of one pixel below it, as an SVG file.
+"""Draws a part of a list's picture enlarged, with samples and triangle edges, and the history of one pixel
+below it, as an SVG file.
 
-    PYTHONPATH=python/src python3 examples/python/inspect_picture.py list.json X,Y [--around 5] [--all] [--out out/inspect.svg]
+    PYTHONPATH=python/src python3 examples/python/inspect_picture.py list.json X,Y [--around 5] [--all]
+        [--out out/inspect.svg]
 
-The drawing says what its shapes are. Its lines are the edges of the triangles whose vertices bound some of the pixels shown. Below it
-stands what `trirast.why` reports: an event for each triangle that covers a sample of the pixel, and with --all for every triangle.
-Needs the library.
+The drawing says what its shapes are. Its lines are the edges of the triangles whose vertices bound some of the pixels
+shown. Below it stands what `trirast.why` reports: an event for each triangle that covers a sample of the pixel, and
+with --all for every triangle. Needs the library.
 """
 
 import argparse
@@ -20,7 +22,8 @@ import trirast
 SIDE, LETTER, LINE = 56, 7.3, 17
 MARGIN = 12
 LEGEND = (
-    "squares     pixels of the picture", "small dots  their samples", "lines       edges of triangles", "red frame   the pixel asked for",
+    "squares     pixels of the picture", "small dots  their samples", "lines       edges of triangles",
+    "red frame   the pixel asked for",
     "large dots  its samples, in their colours",
 )
 # How many lines of a history are shown at most.
@@ -40,7 +43,8 @@ def triangles_of(draw: Dict[str, Any]) -> List[List[int]]:
 
 
 def window_around(x: int, y: int, around: int, width: int, height: int) -> Window:
-    """The first and the last column and row that are shown: the pixel and this number of pixels on each side, in the picture."""
+    """The first and the last column and row that are shown: the pixel and this number of pixels on each
+    side, in the picture."""
     return max(0, x - around), max(0, y - around), min(width - 1, x + around), min(height - 1, y + around)
 
 
@@ -83,7 +87,9 @@ class Drawing:
 
     def text(self, left: int, top: int, lines: Sequence[str]) -> None:
         for k, line in enumerate(lines):
-            self.shapes.append(f'<text x="{left}" y="{top + LINE * (k + 1)}" xml:space="preserve">{escape(line)}</text>')
+            self.shapes.append(
+                f'<text x="{left}" y="{top + LINE * (k + 1)}" xml:space="preserve">{escape(line)}</text>'
+            )
 
     def svg(self, lines: List[str]) -> str:
         """The file: the window, cut at its border, what its shapes are beside it, and the lines below it."""
@@ -95,7 +101,8 @@ class Drawing:
         below = LETTER * max(map(len, lines))
         whole = 2 * MARGIN + round(max(beside, below)), 4 * MARGIN + max(height, LINE * len(LEGEND)) + LINE * len(lines)
         parts = [
-            f'<svg xmlns="http://www.w3.org/2000/svg" width="{whole[0]}" height="{whole[1]}" font-family="monospace" font-size="12">',
+            f'<svg xmlns="http://www.w3.org/2000/svg" width="{whole[0]}" height="{whole[1]}" '
+            'font-family="monospace" font-size="12">',
             f'<clipPath id="window"><rect x="{MARGIN}" y="{MARGIN}" width="{width}" height="{height}"/></clipPath>',
             '<rect width="100%" height="100%" fill="#ffffff"/>',
             '<g clip-path="url(#window)">',

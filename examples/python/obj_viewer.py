@@ -4,11 +4,11 @@
     PYTHONPATH=python/src python3 examples/python/obj_viewer.py examples/python/ring.obj ring.ppm
         [--turn 30] [--tilt 35] [--size 640 480] [--colour 230 180 90] [--threads 4] [--list ring.json]
 
-The model is moved to the middle, and the camera stands so far away that all of it is in view. Of the file the lines v and
-f count: faces of three corners or more that run counterclockwise seen from outside, each as 7, 7/1, 7//3 or 7/1/3, and by
-negative numbers; a face is drawn as a fan from its first corner. Every other line is passed over. A draw list holds at most
-65,536 triangles, and 65,536 vertices in a draw: a model with more is refused. --list leaves the draw list that was drawn.
-After `pip install ./python` no PYTHONPATH is needed.
+The model is moved to the middle, and the camera stands so far away that all of it is in view. Of the file the lines v
+and f count: faces of three corners or more that run counterclockwise seen from outside, each as 7, 7/1, 7//3 or 7/1/3,
+and by negative numbers; a face is drawn as a fan from its first corner. Every other line is passed over. A draw list
+holds at most 65,536 triangles, and 65,536 vertices in a draw: a model with more is refused. --list leaves the draw list
+that was drawn. After `pip install ./python` no PYTHONPATH is needed.
 """
 
 import argparse
@@ -173,7 +173,9 @@ def main() -> None:
     parser.add_argument("picture", help="the PPM file to write")
     parser.add_argument("--turn", type=float, default=30, help="degrees about the upright axis (30)")
     parser.add_argument("--tilt", type=float, default=35, help="degrees about the axis from left to right (35)")
-    parser.add_argument("--size", nargs=2, type=int, default=(640, 480), metavar="PIXELS", help="width, height (640 480)")
+    parser.add_argument(
+        "--size", nargs=2, type=int, default=(640, 480), metavar="PIXELS", help="width, height (640 480)"
+    )
     parser.add_argument("--colour", nargs=3, type=int, default=(230, 180, 90), metavar="N", help="red, green, blue")
     parser.add_argument("--threads", type=int, default=4, help="threads that draw (4)")
     parser.add_argument("--list", metavar="FILE", help="leave the draw list there")

@@ -1,12 +1,13 @@
 #!/usr/bin/python3
-"""Draws half transparent plots by matplotlib's Agg and by trirast.matplotlib side by side, and counts the pixels of their seams.
+"""Draws half transparent plots by matplotlib's Agg and by trirast.matplotlib side by side, and counts the
+pixels of their seams.
 
     PYTHONPATH=python/src python3 examples/python/plots.py plots.png
 
-Each plot fills its axes with faces side by side. In one colour at half opacity each pixel of the axes has to be of that colour, blended once
-over the white ground, which is the most frequent one: a pixel of another colour was drawn twice, or not wholly. The picture shows a part of
-each plot in its own colours, enlarged. It needs numpy and matplotlib (python3-matplotlib in Debian). After `pip install ./python` no
-PYTHONPATH is needed.
+Each plot fills its axes with faces side by side. In one colour at half opacity each pixel of the axes has to be of that
+colour, blended once over the white ground, which is the most frequent one: a pixel of another colour was drawn twice,
+or not wholly. The picture shows a part of each plot in its own colours, enlarged. It needs numpy and matplotlib
+(python3-matplotlib in Debian). After `pip install ./python` no PYTHONPATH is needed.
 """
 
 import argparse
@@ -37,7 +38,9 @@ def grid(columns: int, rows: int) -> Tuple[Any, Any]:
 
 def contourf(axes: Any, colors: Any) -> None:
     x, y = grid(90, 70)
-    axes.contourf(x, y, np.sin(6 * x) * np.cos(5 * y) + 0.3 * x, np.linspace(-1.5, 1.5, 25), colors=colors(24), antialiased=True)
+    axes.contourf(
+        x, y, np.sin(6 * x) * np.cos(5 * y) + 0.3 * x, np.linspace(-1.5, 1.5, 25), colors=colors(24), antialiased=True
+    )
 
 
 def tripcolor(axes: Any, colors: Any) -> None:
@@ -56,7 +59,11 @@ def regions(axes: Any, colors: Any) -> None:
     x, y = np.linspace(-0.1, 1.1, 80), np.linspace(-0.1, 1.1, 25)
     borders = y[:, None] + 0.02 * np.sin(40 * x + 9 * y[:, None]) + 0.02 * np.sin(113 * x)
     for below, above, color in zip(borders, borders[1:], colors(24)):
-        axes.add_patch(Polygon(np.concatenate((np.stack((x, below), 1), np.stack((x, above), 1)[::-1])), facecolor=color, linewidth=0))
+        axes.add_patch(
+            Polygon(
+                np.concatenate((np.stack((x, below), 1), np.stack((x, above), 1)[::-1])), facecolor=color, linewidth=0
+            )
+        )
 
 
 PLOTS: Dict[str, Draws] = {"contourf": contourf, "tripcolor": tripcolor, "stackplot": stackplot, "patches": regions}

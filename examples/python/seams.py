@@ -1,11 +1,12 @@
 #!/usr/bin/python3
-"""Draws land and water of the world as a partition in one colour at half opacity, by cairo and by trirast, and counts the seams.
+"""Draws land and water of the world as a partition in one colour at half opacity, by cairo and by trirast,
+and counts the seams.
 
     PYTHONPATH=python/src python3 examples/python/seams.py seams.png
 
-The polygons are neighbours without gaps, so each pixel has to be of that colour, blended once over the white ground: that is the most
-frequent one. A pixel of another colour was drawn twice, or not wholly. It needs numpy, and of Debian python3-cairo, gmt-gshhg-high and
-python3-netcdf4. After `pip install ./python` no PYTHONPATH is needed.
+The polygons are neighbours without gaps, so each pixel has to be of that colour, blended once over the white ground:
+that is the most frequent one. A pixel of another colour was drawn twice, or not wholly. It needs numpy, and of Debian
+python3-cairo, gmt-gshhg-high and python3-netcdf4. After `pip install ./python` no PYTHONPATH is needed.
 """
 
 import argparse
@@ -21,7 +22,8 @@ import trirast
 sys.path.append(os.path.join(os.path.dirname(os.path.abspath(__file__)), "..", "poster"))
 from coastlines import Cells, read_cells  # noqa: E402
 
-# Bins of five degrees are whole pixels, so cairo draws their straight borders without a seam: what is left are the coasts.
+# Bins of five degrees are whole pixels, so cairo draws their straight borders without a seam: what is
+# left are the coasts.
 WIDTH, HEIGHT, RESOLUTION = 288, 144, "i"
 COLOR, ALPHA = (0, 20, 60), 128
 # Each pixel is shown as three by three; between the halves and below them, in these.
@@ -84,11 +86,16 @@ def show(path: str, halves: List[Tuple[str, Any]]) -> None:
 
 
 def main() -> None:
-    parser = argparse.ArgumentParser(description="Draws a partition of the world in one colour by cairo and by trirast.")
+    parser = argparse.ArgumentParser(
+        description="Draws a partition of the world in one colour by cairo and by trirast."
+    )
     parser.add_argument("picture", help="the PNG file to write")
     path = parser.parse_args().picture
     cells = read_cells(RESOLUTION, WIDTH)
-    halves = [("cairo", by_cairo(cells)), *((f"trirast, {samples} samples", by_trirast(cells, samples)) for samples in (1, 4, 16))]
+    halves = [
+        ("cairo", by_cairo(cells)),
+        *((f"trirast, {samples} samples", by_trirast(cells, samples)) for samples in (1, 4, 16)),
+    ]
     lines = [f"{name}: {seams(pixels):,} of {WIDTH * HEIGHT:,} pixels differ" for name, pixels in halves]
     print(*lines, sep="\n")
     show(path, [(lines[0], halves[0][1]), (lines[-1], halves[-1][1])])

@@ -1,6 +1,6 @@
-//! Draws a floor that goes from behind the eye to the horizon, and gives it a pattern where it is seen: triangles are cut and
-//! projected, drawn by ids, and shaded tile by tile. Each of four threads shades tile rows of its own. Writes the picture to standard
-//! output as a PPM file. At the top of the repository:
+//! Draws a floor that goes from behind the eye to the horizon, and gives it a pattern where it is seen: triangles are
+//! cut and projected, drawn by ids, and shaded tile by tile. Each of four threads shades tile rows of its own. Writes
+//! the picture to standard output as a PPM file. At the top of the repository:
 //!
 //!     make library
 //!     cargo run --release --manifest-path bindings/rust/Cargo.toml --example floor > floor.ppm

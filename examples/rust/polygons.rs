@@ -1,5 +1,5 @@
-//! Draws polygons on a canvas with 16 samples a pixel by four threads, and writes the picture to standard output as a PPM file. At
-//! the top of the repository:
+//! Draws polygons on a canvas with 16 samples a pixel by four threads, and writes the picture to standard output as a
+//! PPM file. At the top of the repository:
 //!
 //!     make library
 //!     cargo run --release --manifest-path bindings/rust/Cargo.toml --example polygons > polygons.ppm
@@ -14,8 +14,8 @@ const HEIGHT: u32 = 480;
 const SAMPLES: u32 = 16;
 const THREADS: u32 = 4;
 
-/// A frame, which is a ring with a hole; a star of one ring that crosses itself; and a square whose left side is the frame's inner
-/// one. Corners are in pixels.
+/// A frame, which is a ring with a hole; a star of one ring that crosses itself; and a square whose left side is the
+/// frame's inner one. Corners are in pixels.
 const CORNERS: [[i32; 2]; 17] = [
     [20, 20],
     [620, 20],
