@@ -1,4 +1,5 @@
-/* The arguments of a program and errno, as the toolchain's code asks for them: for a processor for which the toolchain brings neither.
+/* The arguments of a program and errno, as the toolchain's code asks for them: for a processor for which the
+ * toolchain brings neither.
  *
  * The contracts of these calls are in the toolchain's crate os, in src/c.rt. */
 #include <errno.h>
@@ -19,8 +20,8 @@ ptrdiff_t rattle_arg(size_t index, uint8_t *buffer, size_t size);
 int32_t rattle_errno(void);
 void rattle_set_errno(int32_t error);
 
-/* Copies an argument to the beginning of the buffer. Returns its length; -1 if there is no such argument; or -2 if it is longer than the
- * buffer, which then is full. */
+/* Copies an argument to the beginning of the buffer. Returns its length; -1 if there is no such argument; or -2 if it
+ * is longer than the buffer, which then is full. */
 ptrdiff_t rattle_arg(size_t index, uint8_t *buffer, size_t size) {
     if (index >= argument_count || !arguments[index]) return -1;
     size_t length = strlen(arguments[index]);

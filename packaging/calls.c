@@ -1,4 +1,5 @@
-/* The functions that include/trirast.h defines inline, for who calls them by name from another language, and the release. */
+/* The functions that include/trirast.h defines inline, for who calls them by name from another
+ * language, and the release. */
 #include "trirast.h"
 
 extern inline const char *trirast_status_string(trirast_status status);

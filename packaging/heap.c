@@ -1,7 +1,9 @@
-/* The heap that the toolchain's code calls, over malloc, realloc and free: for a processor for which the toolchain brings none.
+/* The heap that the toolchain's code calls, over malloc, realloc and free: for a processor for which the
+ * toolchain brings none.
  *
- * The contracts of these calls are in the toolchain's crate libc, in src/heap.rt: an alignment divides 16, which malloc keeps on
- * every 64-bit Linux, and a block of no bytes takes as many as its alignment, so that its address is its own. */
+ * The contracts of these calls are in the toolchain's crate libc, in src/heap.rt: an alignment divides 16, which
+ * malloc keeps on every 64-bit Linux, and a block of no bytes takes as many as its alignment, so that its
+ * address is its own. */
 #include <stdbool.h>
 #include <stddef.h>
 #include <stdlib.h>

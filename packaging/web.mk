@@ -1,4 +1,5 @@
-# The page of web/ with the canvas for WebAssembly, in web/out. The Makefile includes this file, and says of each target what it is for.
+# The page of web/ with the canvas for WebAssembly, in web/out. The Makefile includes this file, and says of each target
+# what it is for.
 
 .PHONY: web
 
@@ -17,8 +18,8 @@ web/out/canvas.wasm.gz: lib/wasm64/canvas.wasm
 	gzip -9 -n -c $< > $@
 
 lib/wasm64/canvas.wasm: lib/wasm64/canvas_c.a
-	kit="$$(dirname "$$($(RT) doc)")" && "$$kit/bin/rattle-link" --target wasm64-unknown-unknown --toolchain "$$kit/toolchain" \
-	    --stack $(WEB_STACK) -o $@ $<
+	kit="$$(dirname "$$($(RT) doc)")" && "$$kit/bin/rattle-link" --target wasm64-unknown-unknown \
+	    --toolchain "$$kit/toolchain" --stack $(WEB_STACK) -o $@ $<
 
 lib/wasm64/canvas_c.a: $(CANVAS_ARCHIVE)
 	@mkdir -p $(@D)

@@ -1,5 +1,5 @@
-# A release serves a program that asks for an earlier one, if the numbers that a breaking change raises are the same: before
-# 1.0.0 the first two, and from then on the first.
+# A release serves a program that asks for an earlier one, if the numbers that a breaking change raises are the same:
+# before 1.0.0 the first two, and from then on the first.
 set(PACKAGE_VERSION "@VERSION@")
 set(trirast_BREAKING "^[0-9]+")
 if(PACKAGE_VERSION MATCHES "^0\\.")
