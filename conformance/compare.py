@@ -134,9 +134,8 @@ def page(files: Sequence[Json]) -> str:
             panel.of_characters(
                 example["around"], f"{column_of(results)}: {example['list']}, sample {example['sample']}"
             )
-            for results, subject in zip(
-                files, row.found
-            ) if subject and subject["exact"] for example in subject["examples"][:1]
+            for results, subject in zip(files, row.found) if subject and subject["exact"]
+            for example in subject["examples"][:1]
         ]
         if shown:
             parts += [

@@ -158,9 +158,10 @@ def near_rows(report: Report) -> Iterator[Row]:
     for tally in report.near():
         greatest, allowed = max(tally.errors, default=0), tally.suite.tolerance(tally.samples)
         limit = "-" if allowed is None else str(allowed)
-        yield tally.suite.title, str(tally.samples), str(tally.lists), f"{tally.compared:,}", str(
-            greatest
-        ), limit, histogram(tally)
+        yield (
+            tally.suite.title, str(tally.samples), str(tally.lists), f"{tally.compared:,}", str(greatest), limit,
+            histogram(tally),
+        )
 
 
 EXACT_HEAD = (

@@ -67,9 +67,8 @@ class Order(unittest.TestCase):
 
     def test_edges_from_outside_of_the_picture(self) -> None:
         """Items outside, whose edges cover earlier faces and are covered by later ones."""
-        outside = np.array(
-            ((-0.2, 0.0), (-0.14, 0.0), (-0.14, 0.06), (-0.2, 0.06))
-        ) + 0.08 * np.arange(12)[:, None, None] * (0, 1)
+        square = np.array(((-0.2, 0.0), (-0.14, 0.0), (-0.14, 0.06), (-0.2, 0.06)))
+        outside = square + 0.08 * np.arange(12)[:, None, None] * (0, 1)
         shapes = (
             np.stack((outside, outside + (0.06, 0.02)), 1).reshape(24, 4, 2)[np.random.default_rng(3).permutation(24)]
         )

@@ -74,9 +74,8 @@ class Tiff(Files):
 
     def test_a_stopped_run_of_the_command_says_that_it_begins_anew(self) -> None:
         for name, text in (("a.TIF", "a TIFF file begins anew"), ("a.png", "--resume goes on")):
-            with mock.patch.object(
-                _command, "scene_of", side_effect=KeyboardInterrupt
-            ), contextlib.redirect_stderr(io.StringIO()) as errors:
+            stopped = mock.patch.object(_command, "scene_of", side_effect=KeyboardInterrupt)
+            with stopped, contextlib.redirect_stderr(io.StringIO()) as errors:
                 self.assertEqual(_command.main(["a.json", "-o", self.path(name)]), 130)
             self.assertEqual(errors.getvalue(), f"poster: stopped; {text}\n")
 

@@ -82,9 +82,8 @@ def test_what_a_check_names_in_front_of_a_method(function: str, owner: str) -> N
     ("fn canvas::canvas::Canvas::resolve: not proved\nfn canvas::view::Canvas::resolve: proved\n", ""),
 ])
 def test_what_a_check_says_of_a_method_whose_type_is_elsewhere(said: str, verdict: str) -> None:
-    assert Edit(
-        "colours.resolve.is_wrong.edit", "", "src/colours.rt", "resolve", "Canvas"
-    ).verdict("canvas", said) == verdict
+    edit = Edit("colours.resolve.is_wrong.edit", "", "src/colours.rt", "resolve", "Canvas")
+    assert edit.verdict("canvas", said) == verdict
 
 
 class Counting(Toolchain):

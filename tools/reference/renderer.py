@@ -315,9 +315,10 @@ def read_state(value: Any, draw: int, limits: Limits) -> State:
         blend=read_blend(value.get("blend", "none"), draw, limits),
         write=read_write(value, draw, limits),
         sample_mask=check_whole(value.get("sample_mask", limits.mask), 0, limits.mask, draw),
-        scissor=check_wholes(
-            value["scissor"], 4, *limits.edges, draw
-        ) if "scissor" in value else 2 * limits.edges[:1] + 2 * limits.edges[1:],
+        scissor=(
+            check_wholes(value["scissor"], 4, *limits.edges, draw)
+            if "scissor" in value else 2 * limits.edges[:1] + 2 * limits.edges[1:]
+        ),
     )
 
 

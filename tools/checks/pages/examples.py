@@ -55,8 +55,8 @@ def vertex_in_rust(vertex: list[int]) -> str:
 
 
 CPP_HEAD = (
-    "#include <cstdio>\n#include <trirast.hpp>\nint main() {{\nconst trirast_vertex vertices[] = {};\nconst "
-    "std::uint32_t indices[] = {{0, 1, 2}};\n"
+    "#include <cstdio>\n#include <trirast.hpp>\nint main() {{\nconst trirast_vertex vertices[] = {};\n"
+    "const std::uint32_t indices[] = {{0, 1, 2}};\n"
 )
 CPP_END = "std::fwrite(pixels.data(), 1, pixels.size(), stdout);\n}\n"
 

@@ -18,8 +18,8 @@ FENCE = re.compile(r"^```(\w*)\n(.*?)^```$", re.MULTILINE | re.DOTALL)
 # A command within a sentence. A goal of make alone, such as `make test`, is no example:
 # tools/checks/test_documents.py looks for it.
 INLINE = re.compile(
-    r"(?<!`)`((?:\w+=\S+ )*(?:python3 -m|/usr/bin/python3 [^`]|bin/\w+ [^`]|make demo|bench/out/\w+ |c?c(?:\+\+)? "
-    r"-|apt-get |pip install )[^`]*)`(?!`)"
+    r"(?<!`)`((?:\w+=\S+ )*(?:python3 -m|/usr/bin/python3 [^`]|bin/\w+ [^`]|make demo|bench/out/\w+ "
+    r"|c?c(?:\+\+)? -|apt-get |pip install )[^`]*)`(?!`)"
 )
 
 
