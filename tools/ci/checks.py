@@ -105,7 +105,7 @@ CHECKS = (
     Check(
         name="edits",
         about="must-fail edits by name, the statuses, causes and numbers of samples of header, bindings and page, "
-        "names that two crates have, and how contracts are compared",
+        "names that two crates have, how contracts are compared, and the length of lines",
         command="pytest tools/sources --ignore tools/sources/test_statement.py", seconds=2,
     ),
     Check(
