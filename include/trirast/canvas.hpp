@@ -44,8 +44,8 @@ inline Memory memory_for_samples(std::size_t bytes) {
 
 }  // namespace detail
 
-/* A canvas that is to be made. With designated initializers of C++20: {.width = 640, .height = 480, .samples =
- * 16, .alpha = true}. */
+/* A canvas that is to be made. With designated initializers of C++20:
+ * {.width = 640, .height = 480, .samples = 16, .alpha = true}. */
 struct CanvasOptions {
     std::uint32_t width = 0, height = 0; /* 1 to 4096 pixels each */
     std::uint32_t samples = 1;           /* of a pixel: one of TRIRAST_SAMPLE_COUNTS */
