@@ -49,7 +49,7 @@ fn lanes_of(whole: bool, mask: u64, group: u64) -> u16x16
 
 /// Draws two rows of a block, where the mask is set.
 #[inline(always)]
-fn draw_rows(
+fn draw_rows<const ANY: bool>(
     merge: &Merge,
     depth: &DepthSource<'_>,
     colour: &ColourSource<'_>,
@@ -71,7 +71,7 @@ fn draw_rows(
     }
     let covered = lanes_of(whole, mask, group);
     let (x, y) = (p.x(), p.y() + 512 * group as i32);
-    draw_group(
+    draw_group::<ANY>(
         merge,
         depth,
         colour,
@@ -86,7 +86,7 @@ fn draw_rows(
 
 /// Draws a block by two rows at once.
 #[inline(always)]
-fn draw_block(
+fn draw_block<const ANY: bool>(
     merge: &Merge,
     depth: &DepthSource<'_>,
     colour: &ColourSource<'_>,
@@ -102,7 +102,7 @@ fn draw_block(
         → AreDrawn t p mask samples.old samples.new 0 64 }
 {
     for group in 0..4u64 {
-        draw_rows(
+        draw_rows::<ANY>(
             merge,
             depth,
             colour,
@@ -128,7 +128,7 @@ fn is_whole(mask: u64) -> bool
 /// compiler makes code of its own for it. Two calls in place of one would be too large to stand in line, and what is
 /// known of the merge would be lost.
 #[inline(always)]
-fn draw_by_mask(
+fn draw_by_mask<const ANY: bool>(
     merge: &Merge,
     depth: &DepthSource<'_>,
     colour: &ColourSource<'_>,
@@ -143,13 +143,13 @@ fn draw_by_mask(
 {
     let whole = is_whole(mask);
     if whole || mask != 0 {
-        draw_block(merge, depth, colour, whole, p, mask, samples, corrections);
+        draw_block::<ANY>(merge, depth, colour, whole, p, mask, samples, corrections);
     }
 }
 
-/// Draws a block's samples, one sample index after another.
+/// Draws a block's samples, one sample index after another. With `ANY` every blend equation is in line.
 #[inline(always)]
-fn draw_planes(
+fn draw_planes<const ANY: bool>(
     merge: &Merge,
     depth: &DepthSource<'_>,
     colour: &ColourSource<'_>,
@@ -164,7 +164,7 @@ fn draw_planes(
 {
     for s in 0..mask.count.part_size() {
         let plane = mask.plane[s as usize];
-        draw_by_mask(
+        draw_by_mask::<ANY>(
             merge,
             depth,
             colour,
@@ -201,15 +201,15 @@ fn draw_by_sources<const OVER: bool, const ALPHA: bool>(
             match depth.mode {
                 DepthMode::Unused => {
                     let depth = &DepthSource::Unused;
-                    draw_planes(merge, depth, colour, mask, samples, corrections);
+                    draw_planes::<false>(merge, depth, colour, mask, samples, corrections);
                 }
                 DepthMode::Flat(z) => {
                     let depth = &DepthSource::Flat(z);
-                    draw_planes(merge, depth, colour, mask, samples, corrections);
+                    draw_planes::<false>(merge, depth, colour, mask, samples, corrections);
                 }
                 DepthMode::Plane => {
                     let depth = &DepthSource::Plane(placed, &depth.plane);
-                    draw_planes(merge, depth, colour, mask, samples, corrections);
+                    draw_planes::<false>(merge, depth, colour, mask, samples, corrections);
                 }
             }
         }
@@ -218,15 +218,15 @@ fn draw_by_sources<const OVER: bool, const ALPHA: bool>(
             match depth.mode {
                 DepthMode::Unused => {
                     let depth = &DepthSource::Unused;
-                    draw_planes(merge, depth, colour, mask, samples, corrections);
+                    draw_planes::<false>(merge, depth, colour, mask, samples, corrections);
                 }
                 DepthMode::Flat(z) => {
                     let depth = &DepthSource::Flat(z);
-                    draw_planes(merge, depth, colour, mask, samples, corrections);
+                    draw_planes::<false>(merge, depth, colour, mask, samples, corrections);
                 }
                 DepthMode::Plane => {
                     let depth = &DepthSource::Plane(placed, &depth.plane);
-                    draw_planes(merge, depth, colour, mask, samples, corrections);
+                    draw_planes::<false>(merge, depth, colour, mask, samples, corrections);
                 }
             }
         }
@@ -255,11 +255,11 @@ fn draw_blended(
     match colour.mode {
         ColourMode::Flat(rgba) => {
             let colour = &ColourSource::Flat(rgba);
-            draw_planes(merge, depth, colour, mask, samples, corrections);
+            draw_planes::<true>(merge, depth, colour, mask, samples, corrections);
         }
         ColourMode::Planes => {
             let colour = &ColourSource::Planes(placed, &colour.planes);
-            draw_planes(merge, depth, colour, mask, samples, corrections);
+            draw_planes::<true>(merge, depth, colour, mask, samples, corrections);
         }
     }
 }
@@ -285,15 +285,15 @@ fn draw_depths(
     match depth.mode {
         DepthMode::Unused => {
             let depth = &DepthSource::Unused;
-            draw_planes(merge, depth, colour, mask, samples, corrections);
+            draw_planes::<false>(merge, depth, colour, mask, samples, corrections);
         }
         DepthMode::Flat(z) => {
             let depth = &DepthSource::Flat(z);
-            draw_planes(merge, depth, colour, mask, samples, corrections);
+            draw_planes::<false>(merge, depth, colour, mask, samples, corrections);
         }
         DepthMode::Plane => {
             let depth = &DepthSource::Plane(placed, &depth.plane);
-            draw_planes(merge, depth, colour, mask, samples, corrections);
+            draw_planes::<false>(merge, depth, colour, mask, samples, corrections);
         }
     }
 }
@@ -320,13 +320,20 @@ fn draw_otherwise(
     match known {
         KnownEquation::Replace => {
             let merge = &with_known(KnownEquation::Replace, merge);
-            draw_planes(merge, depth, colour, mask, samples, corrections);
+            draw_planes::<false>(merge, depth, colour, mask, samples, corrections);
         }
         KnownEquation::Over => {
             let merge = &with_known(KnownEquation::Over, merge);
-            draw_planes(merge, depth, colour, mask, samples, corrections);
+            draw_planes::<false>(merge, depth, colour, mask, samples, corrections);
         }
-        KnownEquation::Other => draw_planes(merge, depth, colour, mask, samples, corrections),
+        KnownEquation::Other => draw_planes::<false>(
+            merge,
+            depth,
+            colour,
+            mask,
+            samples,
+            corrections,
+        ),
     }
 }
 

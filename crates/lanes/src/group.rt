@@ -115,9 +115,15 @@ fn blended(merge: &Merge, c: &Colours, samples: &BlockSamples, at: usize) -> Col
     blended_colours(&merge.blend.colour, &colour_operands(merge, c, samples, at))
 }
 
-/// Colours of fragments blended with the sixteen stored samples from a place on. The equations of draw lists are in line.
+/// Colours of fragments blended with the sixteen stored samples from a place on. The equations of draw lists are in
+/// line, and with `ANY` every equation is.
 #[inline(always)]
-fn merged(merge: &Merge, c: &Colours, samples: &BlockSamples, at: usize) -> ColourLanes
+fn merged<const ANY: bool>(
+    merge: &Merge,
+    c: &Colours,
+    samples: &BlockSamples,
+    at: usize,
+) -> ColourLanes
     requires room { at + 16 ≤ 64 }
     requires bytes { AreByteFragments c.now }
     ensures bytes { AreByteColours result }
@@ -125,6 +131,10 @@ fn merged(merge: &Merge, c: &Colours, samples: &BlockSamples, at: usize) -> Colo
 {
     let known = KnownEquation::of(&merge.blend.colour);
     if known == KnownEquation::Other {
+        if ANY {
+            let o = colour_operands(merge, c, samples, at);
+            return blended_colours(&merge.blend.colour, &o);
+        }
         return blended(merge, c, samples, at);
     }
     listed_colours(
@@ -136,12 +146,18 @@ fn merged(merge: &Merge, c: &Colours, samples: &BlockSamples, at: usize) -> Colo
 
 /// Red, green and blue of stored samples, where the mask is set.
 #[inline(always)]
-fn draw_colours(merge: &Merge, mask: u16x16, c: &Colours, samples: &mut BlockSamples, at: usize)
+fn draw_colours<const ANY: bool>(
+    merge: &Merge,
+    mask: u16x16,
+    c: &Colours,
+    samples: &mut BlockSamples,
+    at: usize,
+)
     requires room { at + 16 ≤ 64 }
     requires bytes { AreByteFragments c.now }
     ensures { AreColoured merge.now mask c.now samples.old samples.new at }
 {
-    let new = merged(merge, c, samples, at);
+    let new = merged::<ANY>(merge, c, samples, at);
     store_colours(merge.write, mask, &new, samples, at);
 }
 
@@ -243,9 +259,9 @@ fn test_depths_of(
 }
 
 /// Draws the triangle at sixteen samples of a block from a place on, where the mask is set; the first of them is at (x,
-/// y).
+/// y). With `ANY` every blend equation is in line.
 #[inline(always)]
-pub(crate) fn draw_group(
+pub(crate) fn draw_group<const ANY: bool>(
     merge: &Merge,
     depth: &DepthSource<'_>,
     colour: &ColourSource<'_>,
@@ -271,6 +287,6 @@ pub(crate) fn draw_group(
         return;
     }
     let c = colour.values(merge, x, y, corrections);
-    draw_colours(merge, drawn, &c, samples, at);
+    draw_colours::<ANY>(merge, drawn, &c, samples, at);
     draw_alpha(merge, drawn, c.a, &mut samples.alpha, at);
 }

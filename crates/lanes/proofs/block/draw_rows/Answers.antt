@@ -4,7 +4,7 @@ use Rattle.lanes.proofs.Blocks.{rows_kept, rows_drawn, group_at, drawn_from, gro
 use Rattle.lanes.proofs.block.draw_rows.Goals as goal
 
 pub draw_group-requires-clause-on_screen : goal.draw_group-requires-clause-on_screen
-draw_group-requires-clause-on_screen c =
+draw_group-requires-clause-on_screen g c =
     let on = c.requires.on_screen in
     let x : to_z w32 (of_z w32 c.x-x.result) ≡ c.args.p.x = omega (arith, ints, c.x-x.ensures.value, on.left, on.right) in
     let y : to_z w32 (of_z w32 (to_z w32 (of_z w32 c.y.result) +ℤ to_z w32 (of_z w32 (pos 512 *ℤ to_z w32 c.args.group)))) ≡ c.args.p.y +ℤ pos (512 * c.args.group) =
@@ -12,10 +12,10 @@ draw_group-requires-clause-on_screen c =
     rw (x, y) (group_on_screen c.args.p c.args.group c.requires.group on)
 
 pub returns-then-not-has_some : goal.returns-then-not-has_some
-returns-then-not-has_some c t sources covers = rows_kept t c.args.p c.args.mask c.args.group c.args.samples.now (c.has_some.ensures c.if-not-has_some.true)
+returns-then-not-has_some g c t sources covers = rows_kept t c.args.p c.args.mask c.args.group c.args.samples.now (c.has_some.ensures c.if-not-has_some.true)
 
 pub returns : goal.returns
-returns c t sources covers =
+returns g c t sources covers =
     rows_drawn t c.args.p c.args.mask c.args.group c.lanes_of-covered.result c.args.samples.now c.draw_group.new.samples c.requires.group covers c.lanes_of-covered.ensures
     (record {
       set = λ i l set.

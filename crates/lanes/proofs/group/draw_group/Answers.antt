@@ -6,7 +6,7 @@ use Rattle.lanes.proofs.Groups.{combined, undrawn}
 use Rattle.lanes.proofs.group.draw_group.Goals as goal
 
 pub returns-then-is_clear-clause-set : goal.returns-then-is_clear-clause-set
-returns-then-is_clear-clause-set c t i e depth colour l set covered =
+returns-then-is_clear-clause-set g c t i e depth colour l set covered =
     let x = to_z-of_z w32 c.args.x c.ranges.x in
     let y = to_z-of_z w32 c.args.y c.ranges.y in
     undrawn t (position_in (record { x = c.args.x; y = c.args.y }) i) c.args.merge.now _ _ _ e covered
@@ -14,7 +14,7 @@ returns-then-is_clear-clause-set c t i e depth colour l set covered =
     (c.is_clear.ensures c.if-is_clear.true i l) refl refl refl refl
 
 pub returns-clause-set : goal.returns-clause-set
-returns-clause-set c t i e depth colour l set covered =
+returns-clause-set g c t i e depth colour l set covered =
     let x = to_z-of_z w32 c.args.x c.ranges.x in
     let y = to_z-of_z w32 c.args.y c.ranges.y in
     let p = position_in (record { x = c.args.x; y = c.args.y }) i in
