@@ -8,7 +8,8 @@ ghost use Rattle.planes.specs.Group.{position_in};
 ghost use Rattle.lanes.specs.Block.{IsOnScreen, CoversMask, AreDrawn};
 ghost use Rattle.lanes.specs.BlockMask.{CoversBlock, IsBlockDrawn};
 ghost use Rattle.lanes.specs.Lanes.{IsMask};
-ghost use Rattle.lanes.specs.Mode.{AreSourcesOf, IsDrawnBy, WritesEachColour, WritesColours, WritesNoColour, known_of};
+ghost use Rattle.lanes.specs.Mode.{AreSourcesOf, IsDrawnBy, IsColourBy, WritesEachColour, WritesColours, WritesNoColour, known_of};
+ghost use Rattle.lanes.specs.Sources.{NeedsNoDepth};
 
 use crate::block_mask::BlockMask;
 use crate::block_samples::BlockSamples;
@@ -233,8 +234,40 @@ fn draw_by_sources<const OVER: bool, const ALPHA: bool>(
     }
 }
 
-/// Draws a block's samples by a merge that writes all colour channels by any equation. Each source of colour has code of
-/// its own.
+/// Draws a block's samples by a merge that writes all colour channels by any equation, and alpha with `ALPHA`, where depth
+/// has no part. Each source of colour has code of its own.
+#[inline(never)]
+fn draw_blended_alone<const ALPHA: bool>(
+    placed: &Placed,
+    colour: &Colour,
+    mask: &BlockMask,
+    samples: &mut [BlockSamples],
+    corrections: &mut Corrections,
+)
+    requires depth { NeedsNoDepth placed.now }
+    requires colour { IsColourBy placed.now colour.now }
+    requires all { WritesEachColour placed.now.state.merge }
+    requires alpha { placed.now.state.merge.blend.write_alpha ≡ ALPHA }
+    requires samples { length samples.old ≡ part_size mask.now.count }
+    ensures drawn { CoversBlock placed.now mask.now → IsBlockDrawn placed.now mask.now samples.old samples.new }
+    ensures samples { length samples.new ≡ length samples.old }
+{
+    let merge = &writing_all::<ALPHA>(&placed.state.merge);
+    let depth = &DepthSource::Unused;
+    match colour.mode {
+        ColourMode::Flat(rgba) => {
+            let colour = &ColourSource::Flat(rgba);
+            draw_planes::<true>(merge, depth, colour, mask, samples, corrections);
+        }
+        ColourMode::Planes => {
+            let colour = &ColourSource::Planes(placed, &colour.planes);
+            draw_planes::<true>(merge, depth, colour, mask, samples, corrections);
+        }
+    }
+}
+
+/// Draws a block's samples by a merge that writes all colour channels by any equation. Where depth has no part, each
+/// source of colour has code of its own.
 #[inline(never)]
 fn draw_blended(
     placed: &Placed,
@@ -250,15 +283,18 @@ fn draw_blended(
     ensures drawn { CoversBlock placed.now mask.now → IsBlockDrawn placed.now mask.now samples.old samples.new }
     ensures samples { length samples.new ≡ length samples.old }
 {
-    let merge = &writing_all(&placed.state.merge);
-    let depth = &depth.source(placed);
-    match colour.mode {
-        ColourMode::Flat(rgba) => {
-            let colour = &ColourSource::Flat(rgba);
-            draw_planes::<true>(merge, depth, colour, mask, samples, corrections);
+    let merge = &placed.state.merge;
+    match depth.mode {
+        DepthMode::Unused => {
+            if merge.blend.write_alpha {
+                draw_blended_alone::<true>(placed, colour, mask, samples, corrections);
+            } else {
+                draw_blended_alone::<false>(placed, colour, mask, samples, corrections);
+            }
         }
-        ColourMode::Planes => {
-            let colour = &ColourSource::Planes(placed, &colour.planes);
+        DepthMode::Flat(_) | DepthMode::Plane => {
+            let depth = &depth.source(placed);
+            let colour = &colour.source(placed);
             draw_planes::<true>(merge, depth, colour, mask, samples, corrections);
         }
     }

@@ -89,20 +89,16 @@ pub(crate) fn whole<const OVER: bool, const ALPHA: bool>(merge: &Merge) -> Merge
     remade(known, merge, alpha, [true; 3], ALPHA)
 }
 
-/// A merge that writes red, green and blue, made again so that this is known if the code is inlined.
+/// A merge that writes red, green and blue, and alpha with `ALPHA`, made again so that this is known if the code is
+/// inlined.
 #[inline(always)]
-pub(crate) fn writing_all(merge: &Merge) -> Merge
-    requires { WritesEachColour merge.now }
+pub(crate) fn writing_all<const ALPHA: bool>(merge: &Merge) -> Merge
+    requires colours { WritesEachColour merge.now }
+    requires alpha { merge.now.blend.write_alpha ≡ ALPHA }
     ensures { result ≡ merge.now }
 {
-    let blend = &merge.blend;
-    remade(
-        KnownEquation::Other,
-        merge,
-        blend.alpha,
-        [true; 3],
-        blend.write_alpha,
-    )
+    let equation = merge.blend.alpha;
+    remade(KnownEquation::Other, merge, equation, [true; 3], ALPHA)
 }
 
 /// A merge that writes nothing but depths, by the equation of `none`, made again so that this is known if the code is

@@ -17,9 +17,6 @@ returns-in-Replace-clause-drawn c = drawn _ _ c.args.mask.now _ _ c.self.view_is
 pub returns-in-Over-clause-drawn : goal.returns-in-Over-clause-drawn
 returns-in-Over-clause-drawn c = drawn _ _ c.args.mask.now _ _ c.self.view_is c.draw_by_sources-in-Over.ensures.drawn c.requires.covered
 
-pub returns-in-Blend-clause-drawn : goal.returns-in-Blend-clause-drawn
-returns-in-Blend-clause-drawn c = drawn _ _ c.args.mask.now _ _ c.self.view_is c.draw_blended.ensures.drawn c.requires.covered
-
 pub returns-in-Otherwise-clause-drawn : goal.returns-in-Otherwise-clause-drawn
 returns-in-Otherwise-clause-drawn c = drawn _ _ c.args.mask.now _ _ c.self.view_is c.draw_otherwise.ensures.drawn c.requires.covered
 
@@ -31,3 +28,6 @@ returns-in-OverWithAlpha-clause-drawn c = drawn _ _ c.args.mask.now _ _ c.self.v
 
 pub returns-in-Depths-clause-drawn : goal.returns-in-Depths-clause-drawn
 returns-in-Depths-clause-drawn c = drawn _ _ c.args.mask.now _ _ c.self.view_is c.draw_depths.ensures.drawn c.requires.covered
+
+pub returns-in-Blend-clause-drawn : goal.returns-in-Blend-clause-drawn
+returns-in-Blend-clause-drawn c = drawn _ _ c.args.mask.now _ _ c.self.view_is c.draw_blended.ensures.drawn c.requires.covered
