@@ -362,7 +362,7 @@ fn draw_otherwise(
             let merge = &with_known(KnownEquation::Over, merge);
             draw_planes::<false>(merge, depth, colour, mask, samples, corrections);
         }
-        KnownEquation::Other => draw_planes::<false>(
+        KnownEquation::Other => draw_planes::<true>(
             merge,
             depth,
             colour,

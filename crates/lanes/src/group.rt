@@ -116,7 +116,8 @@ fn blended(merge: &Merge, c: &Colours, samples: &BlockSamples, at: usize) -> Col
 }
 
 /// Colours of fragments blended with the sixteen stored samples from a place on. The equations of draw lists are in
-/// line, and with `ANY` every equation is.
+/// line, and with `ANY` every equation is. Where one of the two is known, the compiler leaves out the call for others: it
+/// would be too large to put what stands around it in line.
 #[inline(always)]
 fn merged<const ANY: bool>(
     merge: &Merge,
