@@ -492,6 +492,16 @@ void scene_by_reference(const char *name, int seeds, std::uint32_t samples, At r
 // ---- Windows, threads and cleared tiles
 
 // A window of the screen, and tiles by several threads, show the same samples.
+// By parts the vertices are projected by other code. Where products are fused, one may move by 1/256 pixel by it, so a
+// pixel at an edge may show another triangle (docs/shading.md, pitfalls); else all bytes are the same.
+bool are_alike(const std::vector<std::uint8_t> &parts, const std::vector<std::uint8_t> &whole) {
+    if (!are_products_fused()) return parts == whole;
+    std::size_t different = 0;
+    for (std::size_t k = 0; k < whole.size(); k++) different += parts[k] != whole[k];
+    std::printf("by parts %zu of %zu bytes differ\n", different, whole.size());
+    return parts.size() == whole.size() && 1000 * different < whole.size();
+}
+
 void windows() {
     const scene::Scene given = scene::made("front", 6, 1.25);
     const Frame frame(given, 250, 200);
@@ -517,13 +527,13 @@ void windows() {
             frame.draw_glass(canvas);
             expect(canvas.pixels(TRIRAST_FORMAT_RGB8) == whole.resolved, "a picture by several threads", name_of(rate));
             frame.draw_parts(canvas, rate, threads);
-            expect(canvas.pixels(TRIRAST_FORMAT_RGB8) == whole.resolved, "a picture by parts", name_of(rate));
+            expect(are_alike(canvas.pixels(TRIRAST_FORMAT_RGB8), whole.resolved), "a picture by parts", name_of(rate));
         }
         // Rows of the screen do not begin where tile rows of the canvas do.
         for (unsigned threads : {1u, 3u}) {
             trirast::Canvas canvas = canvas_of(90, 70, 4, {101, 67});
             frame.draw_parts(canvas, rate, threads);
-            expect(canvas.pixels(TRIRAST_FORMAT_RGB8) == window.resolved, "a window by parts", name_of(rate));
+            expect(are_alike(canvas.pixels(TRIRAST_FORMAT_RGB8), window.resolved), "a window by parts", name_of(rate));
         }
     }
 }

@@ -129,3 +129,11 @@ void Frame::shade_by(trirast::TileRows &rows, At rate, const std::uint8_t (&back
                        out.blue = trirast::Floats::load(colors[2]);
                    });
 }
+
+bool are_products_fused() {
+#ifdef FUSED
+    return true;
+#else
+    return false;
+#endif
+}

@@ -45,6 +45,9 @@ void floors_of(const float (&numbers)[8], float (&whole)[8], std::int32_t (&inte
 // What a shader gives eight fragments: red, green and blue.
 using Shader = std::function<void(const Eight &, float (&)[3][8])>;
 
+// Whether the headers are compiled with products that may be fused with a sum, as FUSED says.
+bool are_products_fused();
+
 // A scene as seen by its camera.
 class Frame {
 public:
