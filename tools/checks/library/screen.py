@@ -41,7 +41,10 @@ class Screen:
         if self.display == ":":
             self.server.wait()
             raise CheckError("Xvfb did not start")
-        self.environment = {**os.environ, "DISPLAY": self.display, "SDL_VIDEODRIVER": "x11"}
+        # SDL takes a click that it reads within 10 ms of the window's focus for the one that gave the focus, and leaves
+        # it out. A busy program reads both at once, unless the hint says that clicks go through.
+        hints = {"SDL_VIDEODRIVER": "x11", "SDL_MOUSE_FOCUS_CLICKTHROUGH": "1"}
+        self.environment = {**os.environ, "DISPLAY": self.display, **hints}
 
     def __enter__(self) -> Screen:
         return self
