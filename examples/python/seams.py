@@ -6,7 +6,7 @@ and counts the seams.
 
 The polygons are neighbours without gaps, so each pixel has to be of that colour, blended once over the white ground:
 that is the most frequent one. A pixel of another colour was drawn twice, or not wholly. It needs numpy, and of Debian
-python3-cairo, gmt-gshhg-high and python3-netcdf4. After `pip install ./python` no PYTHONPATH is needed.
+python3-cairo, gmt-gshhg-low and python3-netcdf4. After `pip install ./python` no PYTHONPATH is needed.
 """
 
 import argparse

@@ -305,7 +305,7 @@ def check_seams() -> str:
     """seams.py finds no seam with 1, 4 and 16 samples, and cairo's along all coasts."""
     python = python_with("numpy", "cairo", "netCDF4")
     if not os.path.isfile(COASTLINES):
-        raise MissingError("gmt-gshhg-high")
+        raise MissingError("gmt-gshhg-low")
     path = os.path.join(OUT, "seams.png")
     text = printed_by(python, "seams.py", path)
     (cairo, *ours) = [int(count.replace(",", "")) for count in re.findall(r": ([\d,]+) of", text)]
