@@ -7,9 +7,9 @@
 // with a depth test, and panes of glass blended over them. For each rate a line of names and numbers goes to standard
 // output: the least wall and processor times of a frame by both, in milliseconds, and the least processor times of the
 // parts of ours, in frames that do them one after another. `plain` is shading by one colour: reading ids, finding
-// pairs, storing colours. `calls` is by how much a frame takes longer in which each tile is read by
-// trirast_canvas_tile_ids and stored by trirast_canvas_tile_store once more, right behind its shading: what both take
-// beside waiting for the memory of the tile, for which any shading has to wait.
+// pairs, storing colours. `twice` is the processor time of a frame in which each tile is read by
+// trirast_canvas_tile_ids and stored by trirast_canvas_tile_store once more, right behind its shading. What it takes
+// longer is what both take beside waiting for the memory of the tile, for which any shading has to wait.
 #include <algorithm>
 #include <chrono>
 #include <cstdio>
@@ -374,10 +374,10 @@ void time_rate(Ours &ours, Theirs &theirs, trirast::Rate rate, const Options &op
         keep(their_wall, theirs_wall), keep(their_processor, theirs_spent);
     }
     std::printf("rate %s wall %.3f processor %.3f their_wall %.3f their_processor %.3f setup %.3f ids %.3f shading "
-                "%.3f plain %.3f calls %.3f "
+                "%.3f plain %.3f twice %.3f "
                 "glass %.3f resolve %.3f far %.3f triangles %zu cuts %zu\n",
                 each_sample ? "sample" : "pixel", our_wall, our_processor, their_wall, their_processor,
-                least.setup, least.ids, least.shading, plain.shading, twice - our_processor, least.glass, least.resolve,
+                least.setup, least.ids, least.shading, plain.shading, twice, least.glass, least.resolve,
                 far_pixels(ours.pixels(), theirs.pixels()), ours.seen().mesh.sources.size(),
                 ours.seen().mesh.cuts.size());
     if (options.picture.empty() || each_sample) return;

@@ -1,11 +1,12 @@
 """Times shading on a canvas and by llvmpipe, Mesa's software driver, with the same triangles, texels and shader.
 
-    python3 -m bench.shading [--scenes ring back front dust] [--threads 1 4] [--frames 9] [--level x86-64-v3] [--write]
+    python3 -m bench.shading [--scenes ring back front dust] [--threads 1 4] [--frames 9] [--rounds 4]
+        [--level x86-64-v3] [--write]
     python3 -m bench.shading --probe
 
 A frame of 1280 by 720 pixels with four samples goes from the model's vertices to pixels in memory: textured triangles
-under a light, and five panes of glass. The frames of both take turns in one process; the least of each counts. The
-parts of ours are shares of the processor time of frames that do them one after another: setup is clipping, projection
+under a light, and five panes of glass. The frames of both take turns in one process, and the processes of each number
+of threads take turns too; the least of each counts. The parts of ours are shares of the processor time of frames that do them one after another: setup is clipping, projection
 and look-up tables; ids with the clear; shading, of which `plain` is that by one colour; glass; resolve. `calls` is by
 how much a frame takes longer if the two calls of the library for tiles are made once more for each, right behind its
 shading. `by in place's` is the processor time of a frame, divided by what would be left if these two calls took none:
@@ -24,7 +25,7 @@ import os
 import re
 import subprocess
 import sys
-from typing import Iterator, NamedTuple
+from typing import Iterator, NamedTuple, Sequence
 
 from bench import report
 from bench.options import add_scenes
@@ -67,6 +68,11 @@ def rows_of(program: str, scene: str, threads: int, frames: int) -> tuple[str, l
     return renderer.partition(" ")[2], list(map(numbers_in, lines))
 
 
+def least_of(rows: Sequence[dict[str, str]]) -> dict[str, str]:
+    """The least of each number in rows of the same frame."""
+    return {name: min((row[name] for row in rows), key=float) if name != "rate" else rows[0][name] for name in rows[0]}
+
+
 class Frame(NamedTuple):
     """A row of the table."""
     scene: str
@@ -77,6 +83,13 @@ class Frame(NamedTuple):
     def number(self, name: str) -> float:
         return float(self.row[name])
 
+    def calls(self) -> float:
+        """What the two calls of each tile take."""
+        return self.number("twice") - self.number("processor")
+
+    def share(self, name: str) -> float:
+        return (self.calls() if name == "calls" else self.number(name)) / self.whole()
+
     def whole(self) -> float:
         return sum(map(self.number, ("setup", "ids", "shading", "glass", "resolve")))
 
@@ -84,7 +97,7 @@ class Frame(NamedTuple):
         return self.number(name) / self.number(f"their_{name}")
 
     def by_in_place(self) -> float:
-        return self.number("processor") / (self.number("processor") - self.number("calls"))
+        return self.number("processor") / (self.number("processor") - self.calls())
 
     def times_one(self) -> float:
         return self.alone / self.number("wall")
@@ -93,7 +106,7 @@ class Frame(NamedTuple):
         times_one = f"{self.times_one():.2f}" if self.threads > 1 and self.alone else ""
         wall = [f"{self.number('wall'):.2f}", f"{self.by_llvmpipe():.2f}", times_one]
         processor = [f"{self.number('processor'):.2f}", f"{self.by_llvmpipe('processor'):.2f}"]
-        shares = [f"{self.number(name) / self.whole():.2f}" for name in PARTS]
+        shares = [f"{self.share(name):.2f}" for name in PARTS]
         first = [self.scene, self.row["triangles"], self.row["rate"], str(self.threads)]
         return [*first, *wall, *processor, *shares, f"{self.by_in_place():.2f}", f"{self.number('far'):.2f} %"]
 
@@ -109,14 +122,17 @@ class Frame(NamedTuple):
 
 
 def frames_of(options: argparse.Namespace, program: str) -> Iterator[tuple[str, Frame]]:
-    """The renderer, and the frames as they are timed."""
+    """The renderer, and the frames of each scene when all of its rounds are timed."""
     for scene in options.scenes:
-        alone: dict[str, float] = {}
-        for threads in options.threads:
+        found: dict[int, list[list[dict[str, str]]]] = {threads: [] for threads in options.threads}
+        renderer = ""
+        for threads in options.rounds * tuple(options.threads):
             renderer, rows = rows_of(program, scene, threads, options.frames)
+            found[threads].append(rows)
+        least = {threads: list(map(least_of, zip(*rounds))) for threads, rounds in found.items()}
+        alone = {row["rate"]: float(row["wall"]) for row in least.get(1, ())}
+        for threads, rows in least.items():
             for row in rows:
-                if threads == 1:
-                    alone[row["rate"]] = float(row["wall"])
                 yield renderer, Frame(scene, threads, row, alone.get(row["rate"], 0))
 
 
@@ -124,7 +140,8 @@ def parsed() -> argparse.Namespace:
     parser = argparse.ArgumentParser(description="Times shading on a canvas and by llvmpipe.")
     add_scenes(parser, SCENES)
     parser.add_argument("--threads", type=int, nargs="+", default=(1, 4), help="default 1 4")
-    parser.add_argument("--frames", type=int, default=9, help="frames of which the least counts (default 9)")
+    parser.add_argument("--frames", type=int, default=9, help="frames of a process (default 9)")
+    parser.add_argument("--rounds", type=int, default=4, help="processes of each number of threads (default 4)")
     parser.add_argument("--level", default=LEVEL, help=f"the level for which headers are compiled (default {LEVEL})")
     parser.add_argument("--write", action="store_true", help="put the table into docs/shaded_frames.md")
     parser.add_argument("--probe", action="store_true", help="ask llvmpipe for w, and time nothing")
