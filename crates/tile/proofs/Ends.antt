@@ -1,5 +1,5 @@
 -- What the triangles of a tile's bin make of its samples.
-use Rattle.std.proofs.Common.{◌≡◌, ℕ, ◌+◌, ◌*◌, ◌/◌, ◌%◌, ◌<◌, ◌≤◌, List, length, slice_get, slice_index, Some, sym, ap, ◌∙◌, subst, arith}
+use Rattle.std.proofs.Common.{◌≡◌, ℕ, ◌+◌, ◌*◌, ◌<◌, ◌≤◌, List, length, slice_get, slice_index, Some, sym, ap, ◌∙◌, subst}
 use Rattle.lanes.specs.declared.block_samples.BlockSamples.{BlockSamples}
 use Rattle.shade.specs.declared.placed.Placed.{Placed}
 use Rattle.shade.specs.Placed.{Draws}
@@ -8,10 +8,10 @@ use Rattle.shade.proofs.CanvasDrawn.{keeping_draws, keeping_stays}
 use Rattle.model.specs.Scene.{Scene}
 use Rattle.bins.proofs.Drawn.{HasDrawn, none_drawn, one_drawn, all_drawn}
 use Rattle.raster.specs.declared.tile.Tile.{Tile}
-use Rattle.raster.specs.Samples.{IsSampleOf, place_of, planes_of, stored, AreAll}
-use Rattle.raster.proofs.Places.{sample_within}
+use Rattle.raster.specs.Samples.{IsSampleOf, planes_of, stored, AreAll}
 use Rattle.raster.specs.Drawing.{DrawsTile}
 use Rattle.tile.specs.Picture.{stored_sample, IsShown, IsTileBin, AreEnds}
+use Rattle.tile.proofs.SameRuns.{stored_same}
 
 -- the first b triangles of the bin have been drawn, and alpha is one
 pub record HaveDrawn (l : Scene) (tile : Tile) (bin : List ℕ) (b : ℕ) (samples : List BlockSamples) : Type 0 where
@@ -22,10 +22,7 @@ pub record HaveDrawn (l : Scene) (tile : Tile) (bin : List ℕ) (b : ℕ) (sampl
 module _ (l : Scene) (tile : Tile) (bin : List ℕ) where
   pub none_have_drawn : (samples : List BlockSamples) → length samples ≡ planes_of tile.side tile.count → AreAll samples (with_alpha l.clear 255) → HaveDrawn l tile bin 0 samples
   none_have_drawn samples long cleared =
-      let is : (row column s : ℕ) → IsSampleOf tile row column s → stored tile samples row column s ≡ with_alpha l.clear 255 =
-      λ row column s h.
-      let here = sample_within tile row column s h in
-      cleared (place_of tile (row / 8) (column / 8) s) (8 * (row % 8) + column % 8) (omega (arith, long, here)) (omega arith) in
+      let is : (row column s : ℕ) → IsSampleOf tile row column s → stored tile samples row column s ≡ with_alpha l.clear 255 = stored_same tile samples _ long cleared in
       record {
         drawn = λ row column s h.
             subst (λ x. HasDrawn l (8 * tile.bx + column) (8 * tile.by + row) s bin 0 (colour_and_depth x)) (sym (is row column s h.sample)) (none_drawn l (8 * tile.bx + column) (8 * tile.by + row) s bin);

@@ -1,3 +1,4 @@
+pub mod SameRuns
 pub mod Ends
 pub mod Shown
 pub mod PixelRuns

@@ -10,6 +10,7 @@
 --   stored_sample: Sample s of the pixel in a row and a column of the tile, as it is stored, but without its alpha.
 --   AreEnds: The samples whose pixels are in the picture have their final values.
 --   AreDepthsAt: The bytes of the depths of the eight pixels in a row of the tile and a column of its blocks.
+--   IsSameRun: The bytes, if there are some, are those of any eight pixels in a row of the tile and a column of its blocks.
 
 pub mod Store
 pub mod Picture

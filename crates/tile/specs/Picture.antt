@@ -1,5 +1,5 @@
 -- A tile's part of the picture.
-use Rattle.std.specs.Prelude.{◌≡◌, ℕ, ◌+◌, ◌*◌, ◌/◌, ◌%◌, ◌<◌, List, slice_index}
+use Rattle.std.specs.Prelude.{◌≡◌, ℕ, ◌+◌, ◌*◌, ◌/◌, ◌%◌, ◌<◌, List, slice_index, Option, IfSome}
 use Rattle.grid.specs.Pixels.{side_of}
 use Rattle.lanes.specs.declared.block_samples.BlockSamples.{BlockSamples}
 use Rattle.shade.specs.declared.sample.Sample.{Sample}
@@ -11,6 +11,7 @@ use Rattle.tiling.specs.Grid.{TileGrid, columns_of}
 use Rattle.bins.specs.Bin.{IsBin}
 use Rattle.raster.specs.declared.tile.Tile.{Tile}
 use Rattle.raster.specs.Samples.{IsSampleOf, stored}
+use Rattle.raster.specs.Colours.{AreColoursAt}
 
 -- The tile lies where tile k of the picture does, and has its size.
 pub record IsTileAt (g : TileGrid) (k : ℕ) (tile : Tile) : Type 0 where
@@ -44,3 +45,8 @@ abbrev pub AreDepthsAt : Tile → List BlockSamples → ℕ → ℕ → List ℕ
 AreDepthsAt tile samples row column bytes =
     (i : ℕ) → i < 8
     → (slice_index bytes (2 * i) ≡ (stored_sample tile samples row (8 * column + i) 0).z / 256) × (slice_index bytes (2 * i + 1) ≡ (stored_sample tile samples row (8 * column + i) 0).z % 256)
+
+-- The bytes, if there are some, are those of any eight pixels in a row of the tile and a column of its blocks.
+abbrev pub IsSameRun : Tile → List BlockSamples → Option (List ℕ) → Type 0
+IsSameRun tile samples run =
+    IfSome run (λ bytes. (row column : ℕ) → row < side_of tile.side → column < side_of tile.side / 8 → AreColoursAt tile samples row column bytes)

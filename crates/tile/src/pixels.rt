@@ -4,8 +4,9 @@ ghost use Rattle.grid.specs.Pixels.{side_of};
 ghost use Rattle.model.specs.PixelPrefix.{IsPixelPrefix};
 ghost use Rattle.model.specs.Picture.{IsPicturePart};
 ghost use Rattle.raster.specs.Samples.{planes_of};
+ghost use Rattle.raster.specs.Colours.{AreColoursAt};
 ghost use Rattle.tiling.specs.Pixels.{AddsPixelRun};
-ghost use Rattle.tile.specs.Picture.{IsShown, AreEnds};
+ghost use Rattle.tile.specs.Picture.{IsShown, AreEnds, IsSameRun};
 
 use crate::depths::depths;
 use grid::OutOfMemory;
@@ -32,12 +33,28 @@ fn push_first(run: &[u8], each: u32, many: u32, bytes: &mut Vec<u8>) -> Result<(
     Ok(())
 }
 
+/// Red, green and blue of the eight pixels in a row of the tile and a column of its blocks, pixel by pixel: the first
+/// 24 bytes.
+#[inline(always)]
+pub(crate) fn colour_run(tile: &Tile, samples: &[BlockSamples], row: u32, column: u32) -> [u8; 32]
+    requires samples { length samples.now ≡ planes_of tile.now.side tile.now.count }
+    requires row { row < side_of tile.now.side }
+    requires column { column < side_of tile.now.side / 8 }
+    ensures { AreColoursAt tile.now samples.now row column result }
+{
+    let mut rgb = [0; 32];
+    colours(tile, samples, row, column).copy_to_slice(&mut rgb);
+    rgb
+}
+
 /// A tile with its samples.
 #[derive(Clone, Copy)]
 pub(crate) struct SampledTile<'a> {
     pub(crate) list: &'a DrawList,
     pub(crate) tile: &'a Tile,
     pub(crate) samples: &'a [BlockSamples],
+    /// What `colour_run` returns anywhere in the tile, if all samples are known to be the same.
+    pub(crate) same_run: Option<[u8; 32]>,
     pub ghost size: { length samples.now ≡ planes_of tile.now.side tile.now.count },
     pub ghost same_count: { tile.now.count ≡ list.now.count },
 }
@@ -53,6 +70,7 @@ impl SampledTile<'_> {
         bytes: &mut Vec<u8>,
     ) -> Result<(), OutOfMemory>
         requires ends { AreEnds self.now.list.now self.now.tile.now self.now.samples.now }
+        requires same { IsSameRun self.now.tile.now self.now.samples.now self.now.same_run }
         requires row { row < side_of self.now.tile.now.side }
         requires column { column < side_of self.now.tile.now.side / 8 }
         requires many { many ≤ 8 }
@@ -62,11 +80,10 @@ impl SampledTile<'_> {
     {
         let (tile, samples) = (self.tile, self.samples);
         match self.list.output() {
-            Output::Color => {
-                let mut rgb = [0; 32];
-                colours(tile, samples, row, column).copy_to_slice(&mut rgb);
-                push_first(&rgb, 3, many, bytes)
-            }
+            Output::Color => match &self.same_run {
+                Some(rgb) => push_first(rgb, 3, many, bytes),
+                None => push_first(&colour_run(tile, samples, row, column), 3, many, bytes),
+            },
             Output::Depth => push_first(&depths(tile, samples, row, column), 2, many, bytes),
         }
     }
@@ -74,6 +91,7 @@ impl SampledTile<'_> {
     /// Appends a row of the tile, as far as it is in the picture, to the rows above it.
     fn push_row(&self, width: u32, row: u32, bytes: &mut Vec<u8>) -> Result<(), OutOfMemory>
         requires ends { AreEnds self.now.list.now self.now.tile.now self.now.samples.now }
+        requires same { IsSameRun self.now.tile.now self.now.samples.now self.now.same_run }
         requires row { row < side_of self.now.tile.now.side }
         requires width { width ≤ side_of self.now.tile.now.side }
         requires shown { (column : ℕ) → column < width → IsShown self.now.list.now self.now.tile.now row column 0 }
@@ -97,6 +115,7 @@ impl SampledTile<'_> {
         height: u32,
     ) -> Result<Vec<u8>, OutOfMemory>
         requires ends { AreEnds self.now.list.now self.now.tile.now self.now.samples.now }
+        requires same { IsSameRun self.now.tile.now self.now.samples.now self.now.same_run }
         requires width { width ≤ side_of self.now.tile.now.side }
         requires height { height ≤ side_of self.now.tile.now.side }
         requires in_width { 8 * self.now.tile.now.bx + width ≤ self.now.list.now.width }

@@ -7,9 +7,9 @@ ghost use Rattle.bins.specs.Bin.{HasBin, IsBinOf, bin_of};
 ghost use Rattle.shade.specs.Canvas.{with_alpha};
 ghost use Rattle.raster.specs.Samples.{planes_of, AreAll};
 ghost use Rattle.tiling.specs.Pixels.{IsPictureIn};
-ghost use Rattle.tile.specs.Picture.{IsTileAt, IsTileBin, AreEnds};
+ghost use Rattle.tile.specs.Picture.{IsTileAt, IsTileBin, AreEnds, IsSameRun};
 
-use crate::pixels::SampledTile;
+use crate::pixels::{SampledTile, colour_run};
 use crate::store::Store;
 use bins::{Bins, Fetched};
 use grid::{OutOfMemory, SampleCount, TileSide};
@@ -20,17 +20,24 @@ use std::alloc::Global;
 use tiling::{TilePixels, Tiling};
 
 /// Draws the triangles of the tile's bin, one after another, over cleared samples. They are fetched some at a time. Their
-/// alpha stays 255, as lists store none.
-fn draw_bin(list: &DrawList, numbers: &[u32], tile: &Tile, samples: &mut [BlockSamples])
+/// alpha stays 255, as lists store none. Returns the colours of eight pixels if there are no triangles, since those of
+/// all pixels are the same then.
+fn draw_bin(
+    list: &DrawList,
+    numbers: &[u32],
+    tile: &Tile,
+    samples: &mut [BlockSamples],
+) -> Option<[u8; 32]>
     requires samples { length samples.old ≡ planes_of tile.now.side tile.now.count }
     requires count { tile.now.count ≡ list.now.count }
     requires cleared { AreAll samples.old (with_alpha list.now.clear 255) }
     requires numbers { All (λ number. number < length list.now.triangles) numbers.now }
     requires bin { IsTileBin list.now tile.now numbers.now }
-    ensures { AreEnds list.now tile.now samples.new }
+    ensures ends { AreEnds list.now tile.now samples.new }
+    ensures same { IsSameRun tile.now samples.new result }
 {
     let Some(mut fetched) = Fetched::of(list, numbers) else {
-        return;
+        return Some(colour_run(tile, samples, 0, 0));
     };
     let mut interpolants = Interpolants::one_by_one(fetched.triangle(0));
     for place in 0..numbers.len() {
@@ -38,6 +45,7 @@ fn draw_bin(list: &DrawList, numbers: &[u32], tile: &Tile, samples: &mut [BlockS
         let triangle = fetched.triangle(place).keeping_alpha();
         draw_next(&triangle, tile, samples, &mut interpolants);
     }
+    None
 }
 
 /// Where tile `k` lies on the screen.
@@ -91,13 +99,14 @@ pub fn render(
     let tile = tile_of(tiling, k, list.count());
     let samples = store.samples.as_mut_slice();
     clear(samples, list.clear(), 255);
-    draw_bin(list, bins.bin(k), &tile, samples);
+    let same_run = draw_bin(list, bins.bin(k), &tile, samples);
     let width = shown(tiling.width(), tile.bx, tile.side);
     let height = shown(tiling.height(), tile.by, tile.side);
     let sampled = SampledTile {
         list,
         tile: &tile,
         samples,
+        same_run,
     };
     let bytes = sampled.resolve(alloc, width, height)?;
     Ok(TilePixels { rect, bytes })

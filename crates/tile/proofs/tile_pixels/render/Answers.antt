@@ -3,8 +3,8 @@ use Rattle.grid.specs.Pixels.{side_of}
 use Rattle.tile.proofs.Shown.{tile_bin, begins_in_height, in_picture, picture_in}
 use Rattle.tile.proofs.tile_pixels.render.Goals as goal
 
-pub draw_bin-requires-clause-bin : goal.draw_bin-requires-clause-bin
-draw_bin-requires-clause-bin c =
+pub draw_bin-same_run-requires-clause-bin : goal.draw_bin-same_run-requires-clause-bin
+draw_bin-same_run-requires-clause-bin c =
     tile_bin c.args.tiling.now c.args.k c.requires.tile c.tile_of-tile.result c.tile_of-tile.ensures.place c.args.list.now c.requires.width c.requires.height (c.tile_of-tile.ensures.count ∙ c.count.ensures) _ (rw c.bin.ensures c.requires.bin)
 
 pub shown-height-requires-clause-begins : goal.shown-height-requires-clause-begins
