@@ -6,13 +6,13 @@
 
 A frame of 1280 by 720 pixels with four samples goes from the model's vertices to pixels in memory: textured triangles
 under a light, and five panes of glass. The frames of both take turns in one process, and the processes of each number
-of threads take turns too; the least of each counts. The parts of ours are shares of the processor time of frames that do them one after another: setup is clipping, projection
-and look-up tables; ids with the clear; shading, of which `plain` is that by one colour; glass; resolve. `calls` is by
-how much a frame takes longer if the two calls of the library for tiles are made once more for each, right behind its
-shading. `by in place's` is the processor time of a frame, divided by what would be left if these two calls took none:
-at most what a layout in place could save, which waits for the same memory. The last column is the share of pixels of
-which a channel is more than 4 away. Below the table stands which of the aims are missed. --write puts all of it into
-docs/shaded_frames.md.
+of threads take turns too; the least of each counts. The parts of ours are shares of the processor time of frames that
+do them one after another: setup is clipping, projection and look-up tables; ids with the clear; shading, of which
+`plain` is that by one colour; glass; resolve. `calls` is by how much a frame takes longer if the two calls of the
+library for tiles are made once more for each, right behind its shading. `by in place's` is the processor time of a
+frame, divided by what would be left if these two calls took none: at most what a layout in place could save, which
+waits for the same memory. The last column is the share of pixels of which a channel is more than 4 away. Below the
+table stands which of the aims are missed. --write puts all of it into docs/shaded_frames.md.
 
 --probe asks llvmpipe where it takes w when it shades each sample. It needs `make library`, g++, libegl-dev and
 libgl-dev. Exit status 2 if a program cannot be built or ends with an error.
