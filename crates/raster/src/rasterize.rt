@@ -217,19 +217,20 @@ fn draw_blocks<const N: u32>(
     count: SampleCount,
     samples: &mut [BlockSamples],
     interpolants: &mut Interpolants,
+    is_made: &mut bool,
 )
     requires samples { length samples.old ≡ planes_of tile.now.side tile.now.count }
     requires setup { setup.now ≡ triangle.now.tri }
     requires count { count ≡ tile.now.count }
     requires number { count_of count ≡ N }
     requires drawn { IsRasterized triangle.now.tri triangle.now.state.cull }
+    requires made { IsTrue is_made.old → interpolants.old ≡ triangle.now }
     ensures { DrawsTile triangle.now tile.now samples.old samples.new }
 {
     let region = Region::of(tile, &setup.bounds(), &triangle.state.scissor);
     // A triangle whose region has not all of the tile's blocks does not cover the tile.
     let all = region.has_all_of(tile) && covers_tile(setup, tile);
     let whole = holds_tile(&triangle.state.scissor, tile);
-    let mut is_made = false;
     let mut corrections = Corrections::none();
     for by in region.top..region.bottom {
         for bx in region.left..region.right {
@@ -243,7 +244,7 @@ fn draw_blocks<const N: u32>(
                 all,
                 whole,
                 interpolants,
-                &mut is_made,
+                is_made,
                 samples,
                 &mut corrections,
             );
@@ -271,6 +272,7 @@ pub fn draw_next(
     ensures { DrawsTile triangle.now tile.now samples.old samples.new }
 {
     if let Some(setup) = Setup::new(&triangle.tri, triangle.state.cull) {
+        let mut is_made = false;
         match tile.count {
             SampleCount::One => {
                 draw_blocks::<1>(
@@ -280,6 +282,7 @@ pub fn draw_next(
                     SampleCount::One,
                     samples,
                     interpolants,
+                    &mut is_made,
                 );
             }
             SampleCount::Two => {
@@ -290,6 +293,7 @@ pub fn draw_next(
                     SampleCount::Two,
                     samples,
                     interpolants,
+                    &mut is_made,
                 );
             }
             SampleCount::Four => {
@@ -300,6 +304,7 @@ pub fn draw_next(
                     SampleCount::Four,
                     samples,
                     interpolants,
+                    &mut is_made,
                 );
             }
             SampleCount::Eight => {
@@ -310,6 +315,7 @@ pub fn draw_next(
                     SampleCount::Eight,
                     samples,
                     interpolants,
+                    &mut is_made,
                 );
             }
             SampleCount::Sixteen => {
@@ -320,6 +326,7 @@ pub fn draw_next(
                     SampleCount::Sixteen,
                     samples,
                     interpolants,
+                    &mut is_made,
                 );
             }
         }
