@@ -1,8 +1,11 @@
 pub mod Screen
 pub mod Joined
+pub mod SampleParts
+pub mod BlockParts
 pub mod Tiles
 pub mod Columns
 pub mod Strips
+pub mod RowMasks
 pub mod WholeTiles
 pub mod TileRows
 pub mod Batches

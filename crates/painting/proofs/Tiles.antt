@@ -18,16 +18,15 @@ use Rattle.canvas.proofs.Places.{none}
 use Rattle.canvas.proofs.TilePlanes.{at_changed, own_place, within_own}
 use Rattle.painting.specs.Parts.{TilePaints}
 
-module _ (t : Placed) (tile : Tile) (side : tile.side ≡ T64) (bx by from : ℕ) (masks : List ℕ) (old filled part : List BlockSamples) (n a : ℕ) (many : a + n ≡ planes_of_tile tile.count) (at : a ≡ 1 + count_of tile.count)
-    (fits : a + n ≤ length filled) (whole : length part ≡ n) (changed : slice_index (slice_index_or filled 0 none).r 0 ≢ 1)
-    (kept : (i j s : ℕ) → s < count_of tile.count → stored_in_tile tile.count filled i j s ≡ stored_in_tile tile.count old i j s)
-    (draws : DrawsMasks t tile bx by from masks (take n (drop a filled)) part) where
+module _ (t : Placed) (tile : Tile) (side : tile.side ≡ T64) (bx by from : ℕ) (masks : List ℕ) (old part : List BlockSamples) (n a : ℕ) (many : a + n ≡ planes_of_tile tile.count) (at : a ≡ 1 + count_of tile.count)
+    (fits : a + n ≤ length old) (whole : length part ≡ n) (changed : slice_index (slice_index_or old 0 none).r 0 ≢ 1)
+    (draws : DrawsMasks t tile bx by from masks (take n (drop a old)) part) where
   abbrev new : List BlockSamples
-  new = put filled part a n
+  new = put old part a n
 
-  still_changed : slice_index (slice_index_or new 0 none).r 0 ≢ 1
+  pub still_changed : slice_index (slice_index_or new 0 none).r 0 ≢ 1
   still_changed e =
-      let mark : slice_index_or new 0 none ≡ slice_index_or filled 0 none = mark_put filled part n a fits whole (omega (arith, at)) in
+      let mark : slice_index_or new 0 none ≡ slice_index_or old 0 none = mark_put old part n a fits whole (omega (arith, at)) in
       changed (ap (λ (p : BlockSamples). slice_index p.r 0) (sym mark) ∙ e)
 
   module _ (row column s : ℕ) (h : IsSampleOf tile row column s) where
@@ -65,17 +64,17 @@ module _ (t : Placed) (tile : Tile) (side : tile.side ≡ T64) (bx by from : ℕ
         ∙ ap (λ k. stored_at (slice_index_or xs k none) pixel) in_all
         ∙ sym (at_changed tile.count xs column row s is)
 
-    old_is : in_tile tile (take n (drop a filled)) row column s ≡ stored_in_tile tile.count old column row s
-    old_is = in_own filled changed ∙ kept column row s h.is_sample
+    old_is : in_tile tile (take n (drop a old)) row column s ≡ stored_in_tile tile.count old column row s
+    old_is = in_own old changed
 
     new_is : in_tile tile part row column s ≡ stored_in_tile tile.count new column row s
-    new_is = ap (λ (xs : List BlockSamples). in_tile tile xs row column s) (sym (own_put filled part n a fits whole)) ∙ in_own new still_changed
+    new_is = ap (λ (xs : List BlockSamples). in_tile tile xs row column s) (sym (own_put old part n a fits whole)) ∙ in_own new still_changed
 
   pub tile_painted : TilePaints t tile (IsChosen t.state tile bx by from masks) old new
   tile_painted = record {
     met = λ row column s h chosen.
         let p = sample_position (8 * tile.bx + column) (8 * tile.by + row) s tile.count in
         subst (λ (x : CanvasSample). IsCanvasDrawnAt t p x (stored_in_tile tile.count new column row s)) (old_is row column s h)
-        (subst (λ (y : CanvasSample). IsCanvasDrawnAt t p (in_tile tile (take n (drop a filled)) row column s) y) (new_is row column s h) (draws.drawn row column s h chosen));
+        (subst (λ (y : CanvasSample). IsCanvasDrawnAt t p (in_tile tile (take n (drop a old)) row column s) y) (new_is row column s h) (draws.drawn row column s h chosen));
     missed = λ row column s h other. sym (new_is row column s h) ∙ draws.kept row column s h other ∙ old_is row column s h;
   }

@@ -2,14 +2,13 @@
 use Rattle.std.proofs.Common.{◌≡◌, inl, inr, sym, subst, ap, ◌∙◌, arith, ℕ, ◌+◌, ◌-◌, ◌*◌, ◌/◌, ◌%◌, ◌<◌, ◌≤◌, List, length, take, drop, slice_index, IsBitSet}
 use Rattle.std.proofs.lemmas.Bool.{cases_lt}
 use Rattle.std.specs.Prelude.{slice_index_or}
-use Rattle.grid.specs.Samples.{count_of, part_size, sample_position}
+use Rattle.grid.specs.Samples.{count_of, sample_position}
 use Rattle.grid.specs.declared.pixels.TileSide.TheVariants.{T64}
 use Rattle.lanes.specs.declared.block_samples.BlockSamples.{BlockSamples}
 use Rattle.lanes.specs.Block.{stored_at}
 use Rattle.shade.specs.declared.placed.Placed.{Placed}
 use Rattle.shade.specs.declared.sample.CanvasSample.{CanvasSample}
 use Rattle.shade.specs.Canvas.{IsCanvasDrawnAt}
-use Rattle.polygons.specs.ManyRows.{row_of}
 use Rattle.raster.specs.declared.tile.Tile.{Tile}
 use Rattle.raster.specs.Drawing.{IsChosen, DrawsMasks}
 use Rattle.raster.specs.Region.{HoldsTile}
@@ -21,7 +20,8 @@ use Rattle.canvas.proofs.Cut.{put, part_of}
 use Rattle.canvas.proofs.DrawnTiles.{own_put, mark_put}
 use Rattle.canvas.proofs.Places.{none}
 use Rattle.canvas.proofs.TilePlanes.{at_cleared}
-use Rattle.painting.specs.Parts.{IsAlikeOverScreen, IsFlagged, IsInTilePart, TilePaints, RowsPaint}
+use Rattle.painting.specs.declared.masks.Masks.{Masks}
+use Rattle.painting.specs.Parts.{mask_of, IsAlikeOverScreen, IsAllowed, IsFlagged, IsInTilePart, TilePaints, RowsPaint}
 use Rattle.painting.proofs.Joined.{rows_joined}
 use Rattle.painting.proofs.Strips.{IsTileAt, tile_in_row}
 
@@ -32,7 +32,7 @@ module _ (t : Placed) (tile : Tile) (side : tile.side ≡ T64) (from : ℕ) (mas
   abbrev new : List BlockSamples
   new = put xs part 1 n
 
-  still_cleared : slice_index (slice_index_or new 0 none).r 0 ≡ 1
+  pub still_cleared : slice_index (slice_index_or new 0 none).r 0 ≡ 1
   still_cleared = ap (λ (p : BlockSamples). slice_index p.r 0) (mark_put xs part n 1 fits long (omega arith)) ∙ cleared
 
   module _ (row column s : ℕ) (h : IsSampleOf tile row column s) where
@@ -107,53 +107,51 @@ module _ (t : Placed) (tile : Tile) (side : tile.side ≡ T64) (from : ℕ) (mas
   whole_painted = record { met = λ row column s h p. met row column s h p; missed = λ row column s h other. missed row column s h other }
 
 -- ---- in the tile row: eight columns of blocks more
-module _ (t : Placed) (c : Canvas) (row first from k : ℕ) (flags : List (List ℕ)) (tile : Tile) (is : IsTileAt c ((first + k) / 8) row tile) (begins : (first + k) % 8 ≡ 0)
-    (full : (column r s bit : ℕ) → k ≤ column → column < k + 8 → r < 8 → s < part_size c.count → bit < 64 → IsBitSet (slice_index (row_of flags column) (4 * r + s)) bit) where
+module _ (t : Placed) (c : Canvas) (row first k : ℕ) (masks : Masks) (tile : Tile) (is : IsTileAt c ((first + k) / 8) row tile) (begins : (first + k) % 8 ≡ 0)
+    (full : (column r s bit : ℕ) → k ≤ column → column < k + 8 → r < 8 → s < count_of c.count → bit < 64 → IsBitSet (mask_of masks column r s) bit) where
   abbrev Before : ℕ → ℕ → ℕ → Type 0
-  Before i j s = IsFlagged t.state c.count first from k flags i j s
+  Before i j s = IsFlagged t.state first k masks i j s
 
   abbrev After : ℕ → ℕ → ℕ → Type 0
-  After i j s = IsFlagged t.state c.count first from (k + 8) flags i j s
+  After i j s = IsFlagged t.state first (k + 8) masks i j s
 
   abbrev Here : ℕ → ℕ → ℕ → Type 0
-  Here i j s = (i / 64 ≡ (first + k) / 8) × IsInTilePart t.state tile from (j % 64) (i % 64) s
+  Here i j s = (i / 64 ≡ (first + k) / 8) × IsAllowed t.state tile (j % 64) (i % 64) s
 
   module _ (i j s : ℕ) (h : IsStoredIn c row (row + 1) i j s) where
     line : 8 * tile.by + j % 64 ≡ j
     line = let low = h.from in let high = h.below in omega (arith, is.1, low, high)
 
     after_before : Before i j s → After i j s
-    after_before p = record { left = p.left; right = omega (arith, p.right); samples = p.samples; in_masks = p.in_masks; allowed = p.allowed }
+    after_before p = record { left = p.left; right = omega (arith, p.right); in_masks = p.in_masks; allowed = p.allowed }
 
     before_after : i < 8 * (first + k) → After i j s → Before i j s
-    before_after l p = record { left = p.left; right = l; samples = p.samples; in_masks = p.in_masks; allowed = p.allowed }
+    before_after l p = record { left = p.left; right = l; in_masks = p.in_masks; allowed = p.allowed }
 
     here_after : 8 * (first + k) ≤ i → After i j s → Here i j s
     here_after l p =
         let same : i / 64 ≡ (first + k) / 8 = omega (arith, l, p.right, begins) in
         let column : 8 * tile.bx + i % 64 ≡ i = omega (arith, is.0, same) in
-        (same, record { samples = rw (← is.3) at p.samples; allowed = rw (column, line) p.allowed })
+        (same, rw (column, line) p.allowed)
 
     after_here : Here i j s → After i j s
     after_here q =
-        let p = q.1 in
         let column : 8 * tile.bx + i % 64 ≡ i = omega (arith, is.0, q.0) in
         let low : 8 * (first + k) ≤ i = omega (arith, q.0, begins) in
         let high : i < 8 * (first + (k + 8)) = omega (arith, q.0, begins) in
-        let samples = rw is.3 at p.samples in record {
+        record {
           left = omega (arith, low);
           right = high;
-          samples = samples;
-          in_masks = full (i / 8 - first) (j % 64 / 8) (s - from) (8 * (j % 8) + i % 8) (omega (arith, low)) (omega (arith, high, low)) (omega arith) (omega (arith, samples.low, samples.high)) (omega arith);
-          allowed = rw (column, line) at p.allowed;
+          in_masks = full (i / 8 - first) (j % 64 / 8) s (8 * (j % 8) + i % 8) (omega (arith, low)) (omega (arith, high, low)) (omega arith) h.is_sample (omega arith);
+          allowed = rw (column, line) at q.1;
         }
 
   module _ (old mid part : List BlockSamples) (n a : ℕ) (room : a + n ≤ length mid) (long : length part ≡ n) (many : n ≡ planes_of_tile c.count) (at : a ≡ (first + k) / 8 * planes_of_tile c.count)
-      (before : RowsPaint t c row (row + 1) Before old mid) (paints : TilePaints t tile (IsInTilePart t.state tile from) (take n (drop a mid)) part) where
+      (before : RowsPaint t c row (row + 1) Before old mid) (paints : TilePaints t tile (IsAllowed t.state tile) (take n (drop a mid)) part) where
     pub one_tile_more : RowsPaint t c row (row + 1) After old (put mid part a n)
     one_tile_more =
         rows_joined t c row (row + 1) Before Here After old mid (put mid part a n) before
-        (tile_in_row t c row ((first + k) / 8) tile is (IsInTilePart t.state tile from) mid part n a room long many at paints)
+        (tile_in_row t c row ((first + k) / 8) tile is (IsAllowed t.state tile) mid part n a room long many at paints)
         (λ i j s h p q. let l = p.right in omega (arith, l, q.0, begins))
         (λ i j s h r. elim (cases_lt i (8 * (first + k))) [ inl less ↦ inl (before_after i j s h less r) | inr more ↦ inr (here_after i j s h more r) ])
         (λ i j s h p. after_before i j s h p)

@@ -1,6 +1,6 @@
 -- Parts of a canvas that are painted one after another, by masks.
-use Rattle.std.specs.Prelude.{◌≡◌, ℕ, ◌+◌, ◌-◌, ◌*◌, ◌/◌, ◌%◌, ◌<◌, ◌≤◌, ◌==◌, if◌then◌else◌, pos, negsuc, ◌+ℤ◌, List, [], ◌∷◌, slice_index, IsBitSet}
-use Rattle.grid.specs.Samples.{sample_position}
+use Rattle.std.specs.Prelude.{◌≡◌, ◌↔◌, ℕ, ◌+◌, ◌-◌, ◌*◌, ◌/◌, ◌%◌, ◌<◌, ◌≤◌, ◌==◌, if◌then◌else◌, pos, negsuc, ◌+ℤ◌, List, [], ◌∷◌, slice_index, IsBitSet}
+use Rattle.grid.specs.Samples.{parts_of, sample_position}
 use Rattle.grid.specs.Triangle.{Covers}
 use Rattle.grid.specs.declared.cull.Cull.TheVariants.{None as NoCulling}
 use Rattle.grid.specs.declared.sample_count.SampleCount.{SampleCount}
@@ -15,15 +15,17 @@ use Rattle.shade.specs.Canvas.{IsCanvasDrawnAt}
 use Rattle.lanes.specs.declared.block_samples.BlockSamples.{BlockSamples}
 use Rattle.polygons.specs.declared.extent.Extent.{Extent}
 use Rattle.polygons.specs.ManyRows.{row_of}
+use Rattle.polygons.specs.Polygon.{PolygonCovers}
 use Rattle.polygons.specs.Rings.{IsInExtent}
 use Rattle.polygons.specs.Screen.{screen_sample}
 use Rattle.raster.specs.declared.tile.Tile.{Tile}
-use Rattle.raster.specs.Drawing.{Allows, IsInPart}
+use Rattle.raster.specs.Drawing.{Allows, IsInPart, IsInSquare}
 use Rattle.raster.specs.Samples.{IsSampleOf}
 use Rattle.canvas.specs.declared.canvas.Canvas.{Canvas}
 use Rattle.canvas.specs.declared.window.Origin.{Origin}
 use Rattle.canvas.specs.Layout.{IsStoredIn, columns_of, stored, stored_in_tile}
 use Rattle.canvas.specs.Window.{moved_state}
+use Rattle.painting.specs.declared.masks.Masks.{Masks}
 use Rattle.painting.specs.declared.polygon.Polygon.{Polygon}
 use Rattle.painting.specs.declared.window.Window.{Window}
 use Rattle.painting.specs.Painting.{MeetsSample, shape_of}
@@ -87,33 +89,60 @@ pub record RowsPaint (t : Placed) (c : Canvas) (first end : ℕ) (part : ℕ →
   pub met : (i j s : ℕ) → IsStoredIn c first end i j s → part i j s → IsCanvasDrawnAt t (sample_position i j s c.count) (stored c first old i j s) (stored c first new i j s)
   pub missed : (i j s : ℕ) → IsStoredIn c first end i j s → ¬ part i j s → stored c first new i j s ≡ stored c first old i j s
 
+-- How many columns of flags the canvas needs: for each part of at most four samples of a pixel as many as it has columns of blocks.
+abbrev pub flag_columns_of : Canvas → ℕ
+flag_columns_of c = parts_of c.count * (8 * columns_of c)
+
+-- The mask of samples s of the block in a column and a row of blocks. For each part of at most four samples of a pixel there are `many`
+-- columns of words, part by part: for each row of blocks four words, one for each sample.
+abbrev pub mask_at : List (List ℕ) → ℕ → ℕ → ℕ → ℕ → ℕ
+mask_at flags many column row s = slice_index (row_of flags (s / 4 * many + column)) (4 * row + s % 4)
+
+-- That mask among the masks of a tile row.
+abbrev pub mask_of : Masks → ℕ → ℕ → ℕ → ℕ
+mask_of masks column row s = mask_at masks.flags.now masks.columns column row s
+
+-- The state lets the sample of the tile be drawn.
+abbrev pub IsAllowed : State → Tile → ℕ → ℕ → ℕ → Type 0
+IsAllowed state tile row column s = Allows state (8 * tile.bx + column) (8 * tile.by + row) s
+
 -- The sample is in the part that begins with sample `from`, and the state lets it be drawn.
 pub record IsInTilePart (state : State) (tile : Tile) (from : ℕ) (row column s : ℕ) : Type 0 where
   pub samples : IsInPart tile.count from s
-  pub allowed : Allows state (8 * tile.bx + column) (8 * tile.by + row) s
+  pub allowed : IsAllowed state tile row column s
 
--- The sample is in column `bx` of blocks and is drawn there. It is in the part that begins with sample `from`, its bit is set in the words
--- of this column's masks, and the state lets it be drawn. Of each of the first n rows of blocks there are four words.
-pub record IsInColumn (state : State) (tile : Tile) (bx from n : ℕ) (words : List ℕ) (row column s : ℕ) : Type 0 where
+-- The sample is in block (bx, by) and is drawn there: its bit is set in column k of the masks, and the state lets it be drawn.
+pub record IsInBlock (state : State) (tile : Tile) (bx by : ℕ) (masks : Masks) (k : ℕ) (row column s : ℕ) : Type 0 where
+  pub square : IsInSquare tile bx by 8 row column s
+  pub in_masks : IsBitSet (mask_of masks k (row / 8) s) (8 * (row % 8) + column % 8)
+  pub allowed : IsAllowed state tile row column s
+
+-- The sample is in the first n rows of blocks of column `bx` of blocks and is drawn there: its bit is set in column k of the masks, and
+-- the state lets it be drawn.
+pub record IsInColumn (state : State) (tile : Tile) (bx n : ℕ) (masks : Masks) (k : ℕ) (row column s : ℕ) : Type 0 where
   pub left : 8 * bx ≤ 8 * tile.bx + column
   pub right : 8 * tile.bx + column < 8 * bx + 8
   pub before : row < 8 * n
-  pub samples : IsInPart tile.count from s
-  pub in_masks : IsBitSet (slice_index words (4 * (row / 8) + (s - from))) (8 * (row % 8) + column % 8)
-  pub allowed : Allows state (8 * tile.bx + column) (8 * tile.by + row) s
+  pub in_masks : IsBitSet (mask_of masks k (row / 8) s) (8 * (row % 8) + column % 8)
+  pub allowed : IsAllowed state tile row column s
 
--- The sample is in the first n columns of blocks, from column `first` on, and is drawn there. It is in the part, its bit is set in the
--- words of its column, and the state lets it be drawn.
-pub record IsFlagged (state : State) (count : SampleCount) (first from n : ℕ) (flags : List (List ℕ)) (i j s : ℕ) : Type 0 where
+-- The sample is in the first n columns of blocks, from column `first` on, and is drawn there: its bit is set in the masks, and the state
+-- lets it be drawn.
+pub record IsFlagged (state : State) (first n : ℕ) (masks : Masks) (i j s : ℕ) : Type 0 where
   pub left : 8 * first ≤ i
   pub right : i < 8 * (first + n)
-  pub samples : IsInPart count from s
-  pub in_masks : IsBitSet (slice_index (row_of flags (i / 8 - first)) (4 * (j % 64 / 8) + (s - from))) (8 * (j % 8) + i % 8)
+  pub in_masks : IsBitSet (mask_of masks (i / 8 - first) (j % 64 / 8) s) (8 * (j % 8) + i % 8)
   pub allowed : Allows state i j s
 
 -- The polygon meets sample s of pixel (i, j) of the canvas.
 abbrev pub MeetsHere : Polygon → Origin → SampleCount → ℕ → ℕ → ℕ → Type 0
 MeetsHere polygon origin count i j s = MeetsSample (shape_of polygon) count (pos i +ℤ origin.x) (pos j +ℤ origin.y) s
+
+-- The flags are the masks of the samples of a tile row that the polygon covers, in `many` columns of blocks from column `first` on.
+abbrev pub AreMasksOf : Polygon → Origin → Canvas → ℕ → ℕ → ℕ → List (List ℕ) → Type 0
+AreMasksOf polygon origin c row first many flags =
+    (i j s : ℕ) → IsStoredIn c row (row + 1) i j s → first ≤ i / 8 → i / 8 < first + many
+    → (IsBitSet (mask_at flags many (i / 8 - first) (j % 64 / 8) s) (8 * (j % 8) + i % 8) ↔ PolygonCovers polygon.rule (shape_of polygon).rings (screen_sample (pos i +ℤ origin.x) (pos j +ℤ origin.y) s c.count))
 
 -- Each sample of the canvas that lies in the box is in a column of blocks and a tile row of the window.
 abbrev pub HoldsSamples : Window → Extent → Origin → Canvas → Type 0

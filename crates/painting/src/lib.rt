@@ -4,6 +4,7 @@
 mod batch;
 mod block;
 mod column;
+mod masks;
 mod polygon;
 mod row;
 mod rows;
@@ -13,4 +14,4 @@ mod whole;
 mod window;
 
 pub use batch::{Style, draw_polygons};
-pub use scratch::{clear, clear_counters, scratch_columns};
+pub use scratch::{clear, clear_counters, counter_columns, flag_columns};

@@ -1,12 +1,14 @@
 //! The samples of a tile row.
 ghost use Rattle.std.specs.Prelude.{◌≡◌, ℕ, ◌+◌, ◌*◌, ◌/◌, ◌<◌, ◌≤◌, pos, ◌+ℤ◌, length};
-ghost use Rattle.grid.specs.Samples.{IsPart};
+ghost use Rattle.grid.specs.Samples.{parts_of, IsPart};
 ghost use Rattle.canvas.specs.Layout.{IsStoredIn, columns_of, rows_of, planes_of_row};
-ghost use Rattle.polygons.specs.Cells.{HasCounters, AreZeros};
+ghost use Rattle.polygons.specs.declared.rule.Rule.TheVariants.{NonZero};
+ghost use Rattle.polygons.specs.Cells.{AreZeros};
 ghost use Rattle.polygons.specs.Runs.{AreRunsOf};
 ghost use Rattle.painting.specs.Painting.{IsOriginInBand};
-ghost use Rattle.painting.specs.Parts.{over_screen, MeetsHere, RowsPaint};
+ghost use Rattle.painting.specs.Parts.{over_screen, AreMasksOf, MeetsHere, RowsPaint};
 
+use crate::masks::Masks;
 use crate::polygon::Polygon;
 use crate::scratch::clear;
 use crate::strip::paint_strip;
@@ -31,12 +33,52 @@ fn strip_at(canvas: &Canvas, origin: &Origin, first: u32, row: u32, from: u32) -
     }
 }
 
-/// Draws the polygon at the samples of a tile row, by the masks of its samples in columns of blocks from column `first`
-/// on, which hold all that it meets. There are as many of them as columns of flags.
+/// Sets the flags to the masks of the samples of a tile row that the polygon covers, in `many` columns of blocks from
+/// column `first` on: part by part, each of at most four samples of a pixel.
+fn cover_row(
+    canvas: &Canvas,
+    row: u32,
+    first: u32,
+    many: usize,
+    polygon: &Polygon<'_>,
+    origin: &Origin,
+    runs: &Runs,
+    flags: &mut [Flags],
+    counters: &mut [Counters],
+)
+    requires row { row < rows_of canvas.now }
+    requires first { first < 512 }
+    requires columns { first + many ≤ 8 * columns_of canvas.now }
+    requires origin { IsOriginInBand origin.now }
+    requires runs { AreRunsOf runs.now polygon.now.rings }
+    requires parts { length flags.old ≡ parts_of canvas.now.count * many }
+    requires flags { AreZeros flags.old }
+    requires counters { AreZeros counters.old }
+    requires counted { polygon.now.rule ≡ NonZero → length counters.old ≡ many }
+    ensures masks { AreMasksOf polygon.now origin.now canvas.now row first many flags.new }
+    ensures counters { AreZeros counters.new }
+{
+    for part in 0..canvas.count.parts() {
+        let strip = strip_at(canvas, origin, first, row, 4 * part);
+        let from = part as usize * many;
+        cover_strip(
+            &mut flags[from..from + many],
+            counters,
+            polygon.rule,
+            &polygon.rings,
+            runs,
+            &strip,
+        );
+    }
+}
+
+/// Draws the polygon at the samples of a tile row, by the masks of its samples in `many` columns of blocks from column
+/// `first` on, which hold all that it meets. There are as many columns of flags for each part of a pixel's samples.
 pub(crate) fn paint_row(
     canvas: &Canvas,
     row: u32,
     first: u32,
+    many: usize,
     polygon: &Polygon<'_>,
     origin: &Origin,
     triangle: &Interpolants,
@@ -47,25 +89,30 @@ pub(crate) fn paint_row(
 )
     requires row { row < rows_of canvas.now }
     requires first { first < 512 }
-    requires columns { first + length flags.old ≤ 8 * columns_of canvas.now }
+    requires columns { first + many ≤ 8 * columns_of canvas.now }
     requires origin { IsOriginInBand origin.now }
     requires triangle { triangle.now ≡ over_screen polygon.now origin.now }
     requires runs { AreRunsOf runs.now polygon.now.rings }
     requires held { (i j s : ℕ) → IsStoredIn canvas.now row (row + 1) i j s →
-        MeetsHere polygon.now origin.now canvas.now.count i j s → (first ≤ i / 8) × (i / 8 < first + length flags.old) }
+        MeetsHere polygon.now origin.now canvas.now.count i j s → (first ≤ i / 8) × (i / 8 < first + many) }
+    requires parts { length flags.old ≡ parts_of canvas.now.count * many }
     requires flags { AreZeros flags.old }
     requires counters { AreZeros counters.old }
-    requires counted { HasCounters polygon.now.rule flags.old counters.old }
+    requires counted { polygon.now.rule ≡ NonZero → length counters.old ≡ many }
     requires samples { length samples.old ≡ planes_of_row canvas.now }
     ensures painted { RowsPaint triangle.now canvas.now row (row + 1)
         (MeetsHere polygon.now origin.now canvas.now.count) samples.old samples.new }
     ensures flags { AreZeros flags.new }
     ensures counters { AreZeros counters.new }
 {
-    for part in 0..canvas.count.parts() {
-        let strip = strip_at(canvas, origin, first, row, 4 * part);
-        cover_strip(flags, counters, polygon.rule, &polygon.rings, runs, &strip);
-        paint_strip(canvas, row, first, 4 * part, triangle, flags, samples);
-        clear(flags);
-    }
+    cover_row(
+        canvas, row, first, many, polygon, origin, runs, flags, counters,
+    );
+    let masks = Masks {
+        flags,
+        columns: many,
+        count: canvas.count,
+    };
+    paint_strip(canvas, row, first, triangle, &masks, samples);
+    clear(flags);
 }

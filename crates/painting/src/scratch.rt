@@ -2,13 +2,22 @@
 ghost use Rattle.std.specs.Prelude.{◌≡◌, ℕ, ◌*◌, ◌≤◌, length, slice_index};
 ghost use Rattle.canvas.specs.Layout.{columns_of};
 ghost use Rattle.polygons.specs.Cells.{AreZeros};
+ghost use Rattle.painting.specs.Parts.{flag_columns_of};
 
 use canvas::Canvas;
 use polygons::{Counters, Flags};
 
-/// How many columns of blocks a canvas has: as many columns of flags, and of counters by the nonzero rule, are the
-/// scratch memory of a call that draws polygons on it.
-pub fn scratch_columns(canvas: &Canvas) -> usize
+/// How many columns of flags a call needs that draws polygons on the canvas: for each part of at most four samples of a
+/// pixel as many as there are columns of blocks.
+pub fn flag_columns(canvas: &Canvas) -> usize
+    ensures value { result ≡ flag_columns_of canvas.now }
+    ensures few { result ≤ 2048 }
+{
+    canvas.count.parts() as usize * counter_columns(canvas)
+}
+
+/// How many columns of counters such a call needs by the nonzero rule: as many as there are columns of blocks.
+pub fn counter_columns(canvas: &Canvas) -> usize
     ensures value { result ≡ 8 * columns_of canvas.now }
     ensures few { result ≤ 512 }
 {

@@ -1,62 +1,45 @@
 //! The samples of a tile row, in columns of blocks.
 ghost use Rattle.std.specs.Prelude.{◌≡◌, ◌+◌, ◌*◌, ◌<◌, ◌≤◌, length};
-ghost use Rattle.grid.specs.Samples.{IsPart};
 ghost use Rattle.canvas.specs.Layout.{columns_of, rows_of, planes_of_row};
 ghost use Rattle.painting.specs.Parts.{CoversScreen, IsAlikeOverScreen, IsFlagged, RowsPaint};
 
 use crate::column::paint_column;
+use crate::masks::Masks;
 use crate::whole::{is_whole, paint_whole};
 use canvas::Canvas;
 use lanes::{BlockSamples, Interpolants};
-use polygons::Flags;
 
 /// Draws a triangle that covers the screen, in one colour and at one depth, at those samples of a tile row whose bits
-/// are set, of the part that begins with sample `from`. There are bits of columns of blocks from column `first` on. The
-/// eight columns of a tile that is drawn whole are drawn at once.
+/// are set. There are masks of columns of blocks from column `first` on. The eight columns of a tile that is drawn
+/// whole are drawn at once.
 pub(crate) fn paint_strip(
     canvas: &Canvas,
     row: u32,
     first: u32,
-    from: u32,
     triangle: &Interpolants,
-    flags: &[Flags],
+    masks: &Masks<'_>,
     samples: &mut [BlockSamples],
 )
     requires row { row < rows_of canvas.now }
-    requires columns { first + length flags.now ≤ 8 * columns_of canvas.now }
-    requires part { IsPart canvas.now.count from }
+    requires count { masks.now.count ≡ canvas.now.count }
+    requires columns { first + masks.now.columns ≤ 8 * columns_of canvas.now }
     requires covers { CoversScreen triangle.now }
     requires alike { IsAlikeOverScreen triangle.now }
     requires samples { length samples.old ≡ planes_of_row canvas.now }
     ensures { RowsPaint triangle.now canvas.now row (row + 1)
-        (IsFlagged triangle.now.state canvas.now.count first from (length flags.now) flags.now) samples.old samples.new }
+        (IsFlagged triangle.now.state first masks.now.columns masks.now) samples.old samples.new }
 {
     let each = canvas.planes_of_tile();
     let mut k = 0;
-    while k < flags.len() {
+    while k < masks.columns {
         let bx = first + k as u32;
         let tile = canvas.tile(bx / 8, row);
         let at = (bx / 8) as usize * each;
-        if is_whole(
-            triangle,
-            &tile,
-            bx,
-            k,
-            flags,
-            canvas.count,
-            &samples[at..at + each],
-        ) {
-            paint_whole(triangle, &tile, from, &mut samples[at..at + each]);
+        if is_whole(triangle, &tile, bx, masks, k, &samples[at..at + each]) {
+            paint_whole(triangle, &tile, &mut samples[at..at + each]);
             k += 8;
         } else {
-            paint_column(
-                triangle,
-                &tile,
-                bx,
-                from,
-                &flags[k],
-                &mut samples[at..at + each],
-            );
+            paint_column(triangle, &tile, bx, masks, k, &mut samples[at..at + each]);
             k += 1;
         }
     }

@@ -1,28 +1,54 @@
-use Rattle.std.proofs.Common.{◌≡◌, ◌+◌, ◌-◌, ◌≤◌, ℕ, ap, length, arith}
-use Rattle.grid.specs.Samples.{count_of}
-use Rattle.canvas.specs.Layout.{planes_of_tile}
-use Rattle.painting.proofs.Tiles.{tile_painted}
+use Rattle.std.proofs.Common.{◌≢◌, arith, sym, subst, ◌+◌, ◌≤◌, List, slice_index}
+use Rattle.std.specs.Prelude.{slice_index_or}
+use Rattle.canvas.proofs.Places.{none}
+use Rattle.lanes.specs.declared.block_samples.BlockSamples.{BlockSamples}
+use Rattle.painting.specs.Parts.{IsInBlock, TilePaints}
+use Rattle.painting.proofs.BlockParts.{OfParts, no_part, block_part_more, block_part_skipped, every_part}
+use Rattle.painting.proofs.SampleParts.{is_part}
 use Rattle.painting.proofs.block.paint_block.Goals as goal
+use Rattle.painting.proofs.block.paint_block.Goals.{then-has_some, else-has_some}
 
-pub draw_masks-requires-clause-covered : goal.draw_masks-requires-clause-covered
-draw_masks-requires-clause-covered c row column s high wide small set =
+pub paint_part-requires-clause-part : goal.paint_part-requires-clause-part
+paint_part-requires-clause-part c = is_part c.args.tile.now.count c.loop-part.part (omega (arith, c.loop-part-test.true, c.parts-part-end.ensures))
+
+pub loop-part-init : goal.loop-part-init
+loop-part-init c =
+    let t = c.args.triangle.now in
     let tile = c.args.tile.now in
-    let block = c.requires.block in
-    let right = rw c.requires.side at block.right in
-    let bottom = rw c.requires.side at block.bottom in
-    let across = rw c.requires.side at tile.column.aligned in
-    let down = rw c.requires.side at tile.row.aligned in
-    c.requires.covers tile.count _ _ (c.args.from + s) (omega (arith, right, across, wide, tile.column.on_screen)) (omega (arith, bottom, down, high, tile.row.on_screen))
+    record {
+      filled = c.fill_tile.ensures.filled;
+      painted = no_part t tile (IsInBlock t.state tile c.args.bx c.args.by c.args.masks.now c.args.k) c.args.samples.now c.fill_tile.new.samples c.fill_tile.ensures.kept;
+    }
+
+pub loop-part-preserved : goal.loop-part-preserved
+loop-part-preserved c =
+    let t = c.args.triangle.now in
+    let tile = c.args.tile.now in
+    let masks = c.args.masks.now in
+    let part = c.loop-part.part in
+    let v = c.loop-part.invariant in
+    let old = c.args.samples.now in
+    let mid = c.loop-part.samples in
+    let words = c.part-words.result in
+    let low : tile.by ≤ c.args.by = c.requires.block.top in
+    let Filled = λ (xs : List BlockSamples). slice_index (slice_index_or xs 0 none).r 0 ≢ 1 in
+    let Painted = λ (xs : List BlockSamples). TilePaints t tile (OfParts (IsInBlock t.state tile c.args.bx c.args.by masks c.args.k) (part + 1)) old xs in
+    elim c.if-has_some.branch [
+      | then-has_some w ↦ record {
+        filled = subst Filled (sym w.samples-is) w.paint_part.ensures.filled;
+        painted = subst Painted (sym w.samples-is)
+            (block_part_more t tile c.args.bx c.args.by masks c.args.k part words low c.part-words.ensures old mid w.paint_part.new.samples v.painted w.paint_part.ensures.painted);
+      }
+      | else-has_some w ↦ record {
+        filled = subst Filled (sym w.samples-is) v.filled;
+        painted = subst Painted (sym w.samples-is)
+            (block_part_skipped t tile c.args.bx c.args.by masks c.args.k part words low c.part-words.ensures old mid (c.has_some.ensures w.if-has_some.false) v.painted);
+      }
+    ]
 
 pub returns : goal.returns
 returns c =
+    let t = c.args.triangle.now in
     let tile = c.args.tile.now in
-    let filled = c.fill_tile.new.samples in
-    let part = c.draw_masks.new.samples in
-    let own : ℕ = 1 + c.count.result in
-    let at : own ≡ 1 + count_of tile.count = ap (λ n. 1 + n) c.count.ensures in
-    let long : length filled ≡ planes_of_tile tile.count = omega (arith, c.fill_tile.auto.samples, c.requires.samples) in
-    let fits : own ≤ length filled = omega (arith, at, long) in
-    let n : ℕ = length filled - own in
-    tile_painted c.args.triangle.now tile c.requires.side c.args.bx c.args.by c.args.from c.args.masks.now c.args.samples.now filled part n own (omega (arith, fits, long)) at
-    (omega (arith, fits)) (omega (arith, c.draw_masks.auto.samples, fits)) c.fill_tile.ensures.filled c.fill_tile.ensures.kept c.draw_masks.ensures
+    every_part t tile (IsInBlock t.state tile c.args.bx c.args.by c.args.masks.now c.args.k) c.loop-part.part c.args.samples.now c.loop-part.samples
+    (omega (arith, c.loop-part-test.false, c.parts-part-end.ensures)) c.loop-part.invariant.painted

@@ -16,19 +16,20 @@ pub loop-row-init : goal.loop-row-init
 loop-row-init c =
     let t = c.args.triangle.now in
     let tile = c.args.tile.now in
-    tile_none t tile (IsInColumn t.state tile c.args.bx c.args.from 0 c.args.words.now) c.args.samples.now (λ row column s h p. omega (arith, p.before))
+    tile_none t tile (IsInColumn t.state tile c.args.bx 0 c.args.masks.now c.args.k) c.args.samples.now (λ row column s h p. omega (arith, p.before))
 
 pub loop-row-preserved : goal.loop-row-preserved
 loop-row-preserved c =
     let t = c.args.triangle.now in
     let tile = c.args.tile.now in
     let row = c.loop-row.row in
-    let After = λ (xs : List BlockSamples). TilePaints t tile (IsInColumn t.state tile c.args.bx c.args.from (row + 1) c.args.words.now) c.args.samples.now xs in
+    let masks = c.args.masks.now in
+    let After = λ (xs : List BlockSamples). TilePaints t tile (IsInColumn t.state tile c.args.bx (row + 1) masks c.args.k) c.args.samples.now xs in
     elim c.if-has_some.branch [
       | then-has_some w ↦
           subst After (sym w.samples-is)
-          (one_block_more t tile c.args.bx c.args.from row c.args.words.now c.masks_of-masks.result c.masks_of-masks.ensures c.args.samples.now c.loop-row.samples w.paint_block.new.samples c.loop-row.invariant w.paint_block.ensures)
+          (one_block_more t tile c.args.bx row masks c.args.k c.args.samples.now c.loop-row.samples w.paint_block.new.samples c.loop-row.invariant w.paint_block.ensures)
       | else-has_some w ↦
           subst After (sym w.samples-is)
-          (one_block_skipped t tile c.args.bx c.args.from row c.args.words.now c.masks_of-masks.result c.masks_of-masks.ensures c.args.samples.now c.loop-row.samples (c.has_some.ensures w.if-has_some.false) c.loop-row.invariant)
+          (one_block_skipped t tile c.args.bx row masks c.args.k c.args.samples.now c.loop-row.samples (λ s h. c.has_some.ensures w.if-has_some.false s (rw c.requires.count h)) c.loop-row.invariant)
     ]

@@ -1,13 +1,19 @@
 use Rattle.std.proofs.Common.{◌≡◌, ◌∙◌, ap, subst, arith, rules, ℕ, ◌+◌, ◌-◌, ◌*◌, ◌/◌, ◌<◌, ◌≤◌, min, length}
 use Rattle.std.proofs.lemmas.List.{length-take}
+use Rattle.grid.specs.Samples.{parts_of}
+use Rattle.grid.specs.declared.sample_count.SampleCount.{SampleCount}
 use Rattle.grid.specs.declared.sample_count.SampleCount.TheVariants.{One}
 use Rattle.shade.specs.declared.placed.Placed.{Placed}
-use Rattle.canvas.specs.Layout.{planes_of_row}
+use Rattle.canvas.specs.Layout.{columns_of, planes_of_row}
 use Rattle.canvas.proofs.Places.{part_within}
 use Rattle.painting.specs.Parts.{MeetsHere, RowsPaint}
 use Rattle.painting.proofs.Joined.{rows_none, rows_same}
 use Rattle.painting.proofs.TileRows.{one_row_more, in_window, polygon_painted, zeros_of_part, zeros_put}
 use Rattle.painting.proofs.rows.paint_rows.Goals as goal
+
+-- the columns of the window have their flags
+enough_flags : (count : SampleCount) (parts columns most flags : ℕ) → parts ≡ parts_of count → columns ≤ most → parts_of count * most ≤ flags → parts * columns ≤ flags
+enough_flags count parts columns most flags is few h = rw is (grind (arith, few, h))
 
 pub new-triangle-requires : goal.new-triangle-requires
 new-triangle-requires c e = (c.over_screen.ensures.covers One 0 0 0 (omega arith) (omega arith)).area e
@@ -55,11 +61,10 @@ paint_row-requires-clause-held c i j s h m =
     let row = c.loop-row.row in
     let below : row < rows.end = omega (arith, c.loop-row-test.true, c.min-row-end.ensures) in
     let inside = in_window polygon origin rows.canvas c.extent.result w c.extent.ensures c.of-window.ensures.holds row (row + 1) i j s (let within = rows.within in omega (arith, below, within)) h m in
-    let long = length-take (w.right - w.left) c.loop-row.flags in
-    (inside.0, omega (arith, inside.1, long, c.if-window.false, c.of-window.ensures.columns, c.requires.columns, c.loop-row.auto.flags))
+    (inside.0, omega (arith, inside.1, c.if-window.false))
 
 pub paint_row-requires-clause-flags : goal.paint_row-requires-clause-flags
-paint_row-requires-clause-flags c = zeros_of_part c.loop-row.flags (c.of-window.result.right - c.of-window.result.left) c.loop-row.invariant.flags
+paint_row-requires-clause-flags c = zeros_of_part c.loop-row.flags (c.parts.result * (c.of-window.result.right - c.of-window.result.left)) c.loop-row.invariant.flags
 
 pub paint_row-requires-clause-counters : goal.paint_row-requires-clause-counters
 paint_row-requires-clause-counters c = zeros_of_part c.loop-row.counters c.min-counted.result c.loop-row.invariant.counters
@@ -78,12 +83,14 @@ loop-row-preserved c =
     let many : a + each - a ≡ planes_of_row rows.canvas = omega (arith, c.planes_of_row-each.ensures.value) in
     let at : a ≡ (row - rows.first) * planes_of_row rows.canvas = ap (λ n. (row - rows.first) * n) c.planes_of_row-each.ensures.value in
     let room = part_within (row - rows.first) (rows.end - rows.first) (planes_of_row rows.canvas) (omega (arith, from, below)) in
-    let flags_fit : w.right - w.left ≤ length c.loop-row.flags = omega (arith, c.of-window.ensures.columns, c.requires.columns, c.loop-row.auto.flags) in
+    let flagged : ℕ = c.parts.result * (w.right - w.left) in
+    let flags_fit : flagged ≤ length c.loop-row.flags =
+    enough_flags rows.canvas.count c.parts.result (w.right - w.left) (8 * columns_of rows.canvas) (length c.loop-row.flags) c.parts.ensures (omega (arith, c.of-window.ensures.columns)) (omega (arith, c.requires.columns, c.loop-row.auto.flags)) in
     let counters_fit : c.min-counted.result ≤ length c.loop-row.counters = omega (arith, c.min-counted.ensures, c.loop-row.auto.counters) in
     record {
       painted = one_row_more c.new-triangle.result rows.canvas rows.first rows.end row from (MeetsHere polygon origin rows.canvas.count) c.loop-row.samples c.paint_row.new.samples (a + each - a) a
           (omega (arith, room, many, at, c.requires.samples, c.loop-row.auto.samples)) (omega (arith, c.paint_row.auto.samples, room, many, at, c.requires.samples, c.loop-row.auto.samples)) many at c.paint_row.ensures.painted c.args.samples.now c.loop-row.invariant.painted;
-      flags = zeros_put c.loop-row.flags c.paint_row.new.flags (w.right - w.left) flags_fit (let long = length-take (w.right - w.left) c.loop-row.flags in omega (arith, c.paint_row.auto.flags, long, flags_fit)) c.loop-row.invariant.flags c.paint_row.ensures.flags;
+      flags = zeros_put c.loop-row.flags c.paint_row.new.flags flagged flags_fit (let long = length-take flagged c.loop-row.flags in omega (arith, c.paint_row.auto.flags, long, flags_fit)) c.loop-row.invariant.flags c.paint_row.ensures.flags;
       counters = zeros_put c.loop-row.counters c.paint_row.new.counters c.min-counted.result counters_fit (let long = length-take c.min-counted.result c.loop-row.counters in omega (arith, c.paint_row.auto.counters, long, counters_fit)) c.loop-row.invariant.counters c.paint_row.ensures.counters;
     }
 

@@ -1,4 +1,4 @@
-use Rattle.std.proofs.Common.{rules, ◌≡◌, refl, ℕ, ◌+◌, ◌-◌, ◌*◌, ◌/◌, ◌<◌, ap, subst, length, arith}
+use Rattle.std.proofs.Common.{rules, ◌≡◌, refl, ℕ, ◌+◌, ◌-◌, ◌*◌, ◌/◌, ◌<◌, ap, subst, arith}
 use Rattle.canvas.specs.Layout.{columns_of, planes_of_tile}
 use Rattle.canvas.proofs.Places.{part_within}
 use Rattle.painting.specs.Parts.{IsFlagged, RowsPaint}
@@ -14,7 +14,7 @@ loop-k-init c =
     record {
       within = omega arith;
       samples = refl;
-      painted = rows_none t canvas c.args.row (c.args.row + 1) (IsFlagged t.state canvas.count c.args.first c.args.from 0 c.args.flags.now) c.args.samples.now (λ i j s h p. omega (arith, p.left, p.right));
+      painted = rows_none t canvas c.args.row (c.args.row + 1) (IsFlagged t.state c.args.first 0 c.args.masks.now) c.args.samples.now (λ i j s h p. omega (arith, p.left, p.right));
     }
 
 pub paint_whole-requires-clause-scissor : goal.paint_whole-requires-clause-scissor
@@ -49,7 +49,7 @@ loop-k-preserved-then-is_whole c =
     record {
       within = whole.columns refl;
       samples = search rules;
-      painted = one_tile_more c.args.triangle.now canvas c.args.row c.args.first c.args.from k c.args.flags.now c.tile-tile.result c.tile-tile.ensures (whole.begins refl) (whole.full refl) c.args.samples.now c.loop-k.samples c.paint_whole.new.samples (a + each - a) a
+      painted = one_tile_more c.args.triangle.now canvas c.args.row c.args.first k c.args.masks.now c.tile-tile.result c.tile-tile.ensures (whole.begins refl) (λ column r s bit low high h l m. whole.full refl column r s bit low high h (rw c.requires.count l) m) c.args.samples.now c.loop-k.samples c.paint_whole.new.samples (a + each - a) a
           (omega (arith, room, many, at, v.samples, c.requires.samples)) (omega (arith, c.paint_whole.auto.samples, room, many, at, v.samples, c.requires.samples)) many at v.painted c.paint_whole.ensures;
     }
 
@@ -68,12 +68,12 @@ loop-k-preserved c =
     record {
       within = omega (arith, c.loop-k-test.true);
       samples = search rules;
-      painted = one_column_more c.args.triangle.now canvas c.args.row c.args.first c.args.from k c.args.flags.now c.tile-tile.result c.tile-tile.ensures c.args.samples.now c.loop-k.samples c.paint_column.new.samples (a + each - a) a
+      painted = one_column_more c.args.triangle.now canvas c.args.row c.args.first k c.args.masks.now c.tile-tile.result c.tile-tile.ensures c.args.samples.now c.loop-k.samples c.paint_column.new.samples (a + each - a) a
           (omega (arith, room, many, at, v.samples, c.requires.samples)) (omega (arith, c.paint_column.auto.samples, room, many, at, v.samples, c.requires.samples)) many at v.painted c.paint_column.ensures;
     }
 
 pub returns : goal.returns
 returns c =
     let v = c.loop-k.invariant in
-    let all : c.loop-k.k ≡ length c.args.flags.now = omega (arith, c.loop-k-test.false, v.within) in
-    subst (λ (k : ℕ). RowsPaint c.args.triangle.now c.args.canvas.now c.args.row (c.args.row + 1) (IsFlagged c.args.triangle.now.state c.args.canvas.now.count c.args.first c.args.from k c.args.flags.now) c.args.samples.now c.loop-k.samples) all v.painted
+    let all : c.loop-k.k ≡ c.args.masks.now.columns = omega (arith, c.loop-k-test.false, v.within) in
+    subst (λ (k : ℕ). RowsPaint c.args.triangle.now c.args.canvas.now c.args.row (c.args.row + 1) (IsFlagged c.args.triangle.now.state c.args.first k c.args.masks.now) c.args.samples.now c.loop-k.samples) all v.painted

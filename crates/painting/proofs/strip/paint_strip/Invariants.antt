@@ -4,10 +4,10 @@ use Rattle.painting.proofs.strip.paint_strip.Given as goal
 
 abbrev pub invariant-loop-k : goal.invariant-loop-k
 invariant-loop-k l = record {
-  within : l.k ≤ length l.flags;
+  within : l.k ≤ l.masks.columns;
   samples : length l.samples ≡ length l.fn.samples;
-  painted : RowsPaint l.triangle l.canvas l.row (l.row + 1) (IsFlagged l.triangle.state l.canvas.count l.first l.from l.k l.flags) l.fn.samples l.samples;
+  painted : RowsPaint l.triangle l.canvas l.row (l.row + 1) (IsFlagged l.triangle.state l.first l.k l.masks) l.fn.samples l.samples;
 }
 
 abbrev pub decreases-loop-k : goal.decreases-loop-k
-decreases-loop-k l = length l.flags - l.k
+decreases-loop-k l = l.masks.columns - l.k

@@ -1,6 +1,11 @@
-use Rattle.std.proofs.Common.{ℕ, ◌+◌, ◌*◌, ◌<◌, ◌≤◌, slice_index, IsBitSet}
-use Rattle.polygons.specs.ManyRows.{row_of}
+use Rattle.std.proofs.Common.{ℕ, ◌<◌, ◌≤◌, IsBitSet}
+use Rattle.grid.specs.Samples.{count_of}
+use Rattle.painting.specs.Parts.{mask_of}
 use Rattle.painting.proofs.whole.are_full_columns.Given as goal
 
 abbrev pub invariant-loop-column : goal.invariant-loop-column
-invariant-loop-column l = (column row s bit : ℕ) → l.k ≤ column → column < l.column → row < 8 → s < l.samples → bit < 64 → IsBitSet (slice_index (row_of l.flags column) (4 * row + s)) bit
+invariant-loop-column l =
+    (column row s bit : ℕ) → l.k ≤ column → column < l.column → row < 8 → s < count_of l.masks.count → bit < 64 → IsBitSet (mask_of l.masks column row s) bit
+
+abbrev pub invariant-loop-row : goal.invariant-loop-row
+invariant-loop-row l = (row s bit : ℕ) → row < l.row → s < count_of l.masks.count → bit < 64 → IsBitSet (mask_of l.masks l.column row s) bit

@@ -1,32 +1,22 @@
-use Rattle.std.proofs.Common.{◌≡◌, ℕ, ◌+◌, ◌-◌, ◌*◌, ◌<◌, ◌≤◌, [], ◌∷◌, zero, suc, List, length, slice_index, IsBitSet, arith}
-use Rattle.grid.specs.Samples.{count_of}
-use Rattle.raster.proofs.Rows.{word_full}
-use Rattle.painting.proofs.WholeTiles.{whole_painted}
+use Rattle.std.proofs.Common.{refl, arith}
+use Rattle.painting.specs.Parts.{IsAllowed}
+use Rattle.painting.proofs.BlockParts.{no_part, tile_part_more, every_part}
+use Rattle.painting.proofs.SampleParts.{is_part}
 use Rattle.painting.proofs.whole.paint_whole.Goals as goal
 
-abbrev ones : List ℕ
-ones = 18446744073709551615 ∷ 18446744073709551615 ∷ 18446744073709551615 ∷ 18446744073709551615 ∷ []
+pub paint_part_of_whole-requires-clause-part : goal.paint_part_of_whole-requires-clause-part
+paint_part_of_whole-requires-clause-part c = is_part c.args.tile.now.count c.loop-part.part (omega (arith, c.loop-part-test.true, c.parts-part-end.ensures))
 
-all_full : (s k : ℕ) → s < 4 → k < 64 → IsBitSet (slice_index ones s) k
-all_full zero k h low = word_full k low
-all_full (suc zero) k h low = word_full k low
-all_full (suc (suc zero)) k h low = word_full k low
-all_full (suc (suc (suc zero))) k h low = word_full k low
-all_full (suc (suc (suc (suc s)))) k h low = absurd (omega arith)
+pub loop-part-init : goal.loop-part-init
+loop-part-init c = record { cleared = c.requires.cleared; painted = no_part c.args.triangle.now c.args.tile.now (IsAllowed c.args.triangle.now.state c.args.tile.now) c.args.samples.now c.args.samples.now (λ i j s h. refl) }
 
-pub draw_masks-requires-clause-covered : goal.draw_masks-requires-clause-covered
-draw_masks-requires-clause-covered c row column s high wide small set =
-    let tile = c.args.tile.now in
-    let across = rw c.requires.side at tile.column.aligned in
-    let down = rw c.requires.side at tile.row.aligned in
-    c.requires.covers tile.count _ _ (c.args.from + s) (omega (arith, across, wide, tile.column.on_screen)) (omega (arith, down, high, tile.row.on_screen))
+pub loop-part-preserved : goal.loop-part-preserved
+loop-part-preserved c = record {
+  cleared = c.paint_part_of_whole.ensures.cleared;
+  painted = tile_part_more c.args.triangle.now c.args.tile.now c.loop-part.part c.args.samples.now c.loop-part.samples c.paint_part_of_whole.new.samples c.loop-part.invariant.painted c.paint_part_of_whole.ensures.painted;
+}
 
 pub returns : goal.returns
 returns c =
     let tile = c.args.tile.now in
-    let samples = c.args.samples.now in
-    let end : ℕ = 1 + 64 * c.count.result in
-    let n : ℕ = end - 1 in
-    let many : n ≡ 64 * count_of tile.count = omega (arith, c.count.ensures) in
-    let fits : 1 + n ≤ length samples = omega (arith, many, c.requires.samples) in
-    whole_painted c.args.triangle.now tile c.requires.side c.args.from ones samples c.draw_masks.new.samples n many fits (omega (arith, c.draw_masks.auto.samples, fits)) c.requires.cleared c.requires.alike c.requires.scissor all_full c.draw_masks.ensures
+    every_part c.args.triangle.now tile (IsAllowed c.args.triangle.now.state tile) c.loop-part.part c.args.samples.now c.loop-part.samples (omega (arith, c.loop-part-test.false, c.parts-part-end.ensures)) c.loop-part.invariant.painted

@@ -1,0 +1,36 @@
+use Rattle.std.proofs.Common.{◌≡◌, ◌+◌, ◌-◌, ◌≤◌, ℕ, ap, length, arith}
+use Rattle.grid.specs.Samples.{count_of}
+use Rattle.painting.proofs.Tiles.{still_changed, tile_painted}
+use Rattle.painting.proofs.block.paint_part.Goals as goal
+
+pub draw_masks-requires-clause-covered : goal.draw_masks-requires-clause-covered
+draw_masks-requires-clause-covered c row column s high wide small set =
+    let tile = c.args.tile.now in
+    let block = c.requires.block in
+    let right = rw c.requires.side at block.right in
+    let bottom = rw c.requires.side at block.bottom in
+    let across = rw c.requires.side at tile.column.aligned in
+    let down = rw c.requires.side at tile.row.aligned in
+    c.requires.covers tile.count _ _ (c.args.from + s) (omega (arith, right, across, wide, tile.column.on_screen)) (omega (arith, bottom, down, high, tile.row.on_screen))
+
+pub returns-clause-filled : goal.returns-clause-filled
+returns-clause-filled c =
+    let tile = c.args.tile.now in
+    let old = c.args.samples.now in
+    let own : ℕ = 1 + c.count.result in
+    let at : own ≡ 1 + count_of tile.count = ap (λ n. 1 + n) c.count.ensures in
+    let fits : own ≤ length old = omega (arith, at, c.requires.samples) in
+    let n : ℕ = length old - own in
+    still_changed c.args.triangle.now tile c.requires.side c.args.bx c.args.by c.args.from c.args.masks.now old c.draw_masks.new.samples n own (omega (arith, fits, c.requires.samples)) at
+    (omega (arith, fits)) (omega (arith, c.draw_masks.auto.samples, fits)) c.requires.filled c.draw_masks.ensures
+
+pub returns-clause-painted : goal.returns-clause-painted
+returns-clause-painted c =
+    let tile = c.args.tile.now in
+    let old = c.args.samples.now in
+    let own : ℕ = 1 + c.count.result in
+    let at : own ≡ 1 + count_of tile.count = ap (λ n. 1 + n) c.count.ensures in
+    let fits : own ≤ length old = omega (arith, at, c.requires.samples) in
+    let n : ℕ = length old - own in
+    tile_painted c.args.triangle.now tile c.requires.side c.args.bx c.args.by c.args.from c.args.masks.now old c.draw_masks.new.samples n own (omega (arith, fits, c.requires.samples)) at
+    (omega (arith, fits)) (omega (arith, c.draw_masks.auto.samples, fits)) c.requires.filled c.draw_masks.ensures
