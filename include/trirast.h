@@ -676,19 +676,21 @@ typedef struct trirast_polygons {
                                      * may run either way round */
 } trirast_polygons;
 
-/* Scratch memory of a column of 8 pixels of a canvas, in bytes: its flags, and by the nonzero rule its counters. */
+/* Scratch memory of a column of 8 pixels of a canvas, in bytes: the flags of a part of at most four samples of a pixel,
+ * and by the nonzero rule its counters. */
 #define TRIRAST_FLAGS_BYTES 256
 #define TRIRAST_COUNTERS_BYTES 8192
 
 /* Returns the bytes of scratch memory of a call that draws polygons by this rule on this canvas: for each 8 pixels of
- * its width, rounded up to whole tiles, 256 bytes by the even-odd rule, and 8,448 by the nonzero rule. So that is 32 KB
- * or 1 MB for 1,024 pixels. Returns 0 if there is no such canvas. */
+ * its width, rounded up to whole tiles, 256 bytes for each part of at most four samples of a pixel, and by the nonzero
+ * rule 8,192 more. So for 1,024 pixels that is 32 KB or 1 MB, and with 16 samples 128 KB or 1.1 MB. Returns 0 if there
+ * is no such canvas. */
 inline size_t trirast_polygons_scratch(const trirast_canvas *canvas, trirast_fill_rule fill_rule) {
     const size_t columns =
         ((size_t)canvas->width + TRIRAST_TILE_SIZE - 1) / TRIRAST_TILE_SIZE * (TRIRAST_TILE_SIZE / 8);
+    const size_t flags = columns * (canvas->samples > 4 ? canvas->samples / 4 : 1) * TRIRAST_FLAGS_BYTES;
     if (trirast_canvas_size(canvas) == 0) return 0;
-    return columns *
-           (fill_rule == TRIRAST_FILL_EVEN_ODD ? TRIRAST_FLAGS_BYTES : TRIRAST_FLAGS_BYTES + TRIRAST_COUNTERS_BYTES);
+    return fill_rule == TRIRAST_FILL_EVEN_ODD ? flags : flags + columns * TRIRAST_COUNTERS_BYTES;
 }
 
 trirast_status trirast_proved_canvas_draw_polygons(trirast_canvas *canvas, const trirast_polygons *polygons,
@@ -724,15 +726,15 @@ trirast_status trirast_proved_canvas_draw_polygons(trirast_canvas *canvas, const
  * - TRIRAST_BATCH_TOO_FEW_DEPTHS if there are depths, but fewer than polygons. */
 inline trirast_status trirast_canvas_draw_polygons(trirast_canvas *canvas, const trirast_polygons *polygons,
                                                    void *scratch, size_t scratch_size, trirast_error *error) {
-    const size_t columns = trirast_polygons_scratch(canvas, TRIRAST_FILL_EVEN_ODD) / TRIRAST_FLAGS_BYTES;
-    const int fits = (uintptr_t)scratch % 8 == 0 &&
-                     scratch_size >= trirast_polygons_scratch(canvas, (trirast_fill_rule)polygons->fill_rule);
-    const size_t counters = fits && polygons->fill_rule != TRIRAST_FILL_EVEN_ODD ? columns : 0;
+    const size_t flags = trirast_polygons_scratch(canvas, TRIRAST_FILL_EVEN_ODD);
+    const size_t size = trirast_polygons_scratch(canvas, (trirast_fill_rule)polygons->fill_rule);
+    const int fits = (uintptr_t)scratch % 8 == 0 && scratch_size >= size;
     /* Scratch memory of no bytes may be NULL, to which nothing is added. */
-    void *behind = fits && columns ? (unsigned char *)scratch + columns * TRIRAST_FLAGS_BYTES : scratch;
+    void *behind = fits && flags ? (unsigned char *)scratch + flags : scratch;
     trirast_error unread;
-    return trirast_proved_canvas_draw_polygons(canvas, polygons, scratch, fits ? columns : 0, behind, counters,
-                                               error ? error : &unread);
+    return trirast_proved_canvas_draw_polygons(
+        canvas, polygons, scratch, fits ? flags / TRIRAST_FLAGS_BYTES : 0, behind,
+        fits ? (size - flags) / TRIRAST_COUNTERS_BYTES : 0, error ? error : &unread);
 }
 
 trirast_status trirast_proved_canvas_draw_polygon_ids(trirast_canvas *canvas, const trirast_polygons *polygons,
@@ -749,15 +751,15 @@ trirast_status trirast_proved_canvas_draw_polygon_ids(trirast_canvas *canvas, co
 inline trirast_status trirast_canvas_draw_polygon_ids(trirast_canvas *canvas, const trirast_polygons *polygons,
                                                       uint32_t first_id, void *scratch, size_t scratch_size,
                                                       trirast_error *error) {
-    const size_t columns = trirast_polygons_scratch(canvas, TRIRAST_FILL_EVEN_ODD) / TRIRAST_FLAGS_BYTES;
-    const int fits = (uintptr_t)scratch % 8 == 0 &&
-                     scratch_size >= trirast_polygons_scratch(canvas, (trirast_fill_rule)polygons->fill_rule);
-    const size_t counters = fits && polygons->fill_rule != TRIRAST_FILL_EVEN_ODD ? columns : 0;
+    const size_t flags = trirast_polygons_scratch(canvas, TRIRAST_FILL_EVEN_ODD);
+    const size_t size = trirast_polygons_scratch(canvas, (trirast_fill_rule)polygons->fill_rule);
+    const int fits = (uintptr_t)scratch % 8 == 0 && scratch_size >= size;
     /* Scratch memory of no bytes may be NULL, to which nothing is added. */
-    void *behind = fits && columns ? (unsigned char *)scratch + columns * TRIRAST_FLAGS_BYTES : scratch;
+    void *behind = fits && flags ? (unsigned char *)scratch + flags : scratch;
     trirast_error unread;
-    return trirast_proved_canvas_draw_polygon_ids(canvas, polygons, first_id, scratch, fits ? columns : 0, behind,
-                                                  counters, error ? error : &unread);
+    return trirast_proved_canvas_draw_polygon_ids(
+        canvas, polygons, first_id, scratch, fits ? flags / TRIRAST_FLAGS_BYTES : 0, behind,
+        fits ? (size - flags) / TRIRAST_COUNTERS_BYTES : 0, error ? error : &unread);
 }
 
 /* Writes the colour of each pixel: each channel is the mean of its samples, rounded to the nearest, halves up. Bytes

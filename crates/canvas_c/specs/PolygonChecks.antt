@@ -1,6 +1,7 @@
 -- The checks of a call that draws polygons.
 use Rattle.std.specs.Prelude.{◌≡◌, ◌⊎◌, ℕ, Bool, ◌==◌, ◌+◌, ◌*◌, ◌/◌, ◌≤◌, if◌then◌else◌, List, map, length, Option, None, Some}
 use Rattle.std.specs.List.{range_with_len}
+use Rattle.grid.specs.Samples.{parts_of, pattern_of}
 use Rattle.batch.specs.Listed.{state_listed}
 use Rattle.batch.specs.Causes.{number_of}
 use Rattle.batch.specs.States.{state_checks}
@@ -52,9 +53,14 @@ pub record AreGood (ids : Option ℕ) (a : PolygonArrays) : Type 0 where
 abbrev pub columns_of_blocks : ℕ → ℕ
 columns_of_blocks width = 8 * ((width + 63) / 64)
 
--- The scratch memory has a column of flags for each column of blocks, and by the nonzero rule as many columns of counters.
+-- How many columns of flags polygons on the canvas need: for each part of at most four samples of a pixel as many as it has columns of
+-- blocks. 0 samples are one.
+abbrev pub flag_columns_listed : CanvasHead → ℕ
+flag_columns_listed head = parts_of (pattern_of head.samples) * columns_of_blocks head.width
+
+-- The scratch memory has as many columns of flags, and by the nonzero rule a column of counters for each column of blocks.
 pub record HasScratch (head : CanvasHead) (a : PolygonArrays) (flags counters : ℕ) : Type 0 where
-  pub enough_flags : columns_of_blocks head.width ≤ flags
+  pub enough_flags : flag_columns_listed head ≤ flags
   pub enough_counters : (a.fill_rule ≡ 0) ⊎ (columns_of_blocks head.width ≤ counters)
 
 -- The checks of a call that draws polygons.

@@ -174,10 +174,16 @@ impl<'a> PolygonArrays<'a> {
         }
     }
 
-    /// Whether the scratch memory has as many columns.
-    pub(crate) fn has_scratch(&self, columns: usize, flags: usize, counters: usize) -> bool
-        ensures { IsTrue result ↔ ((columns ≤ flags) × ((self.now.fill_rule ≡ 0) ⊎ (columns ≤ counters))) }
+    /// Whether the scratch memory has this many columns of flags, and by the nonzero rule this many of counters.
+    pub(crate) fn has_scratch(
+        &self,
+        flagged: usize,
+        counted: usize,
+        flags: usize,
+        counters: usize,
+    ) -> bool
+        ensures { IsTrue result ↔ ((flagged ≤ flags) × ((self.now.fill_rule ≡ 0) ⊎ (counted ≤ counters))) }
     {
-        columns <= flags && (self.fill_rule == 0 || columns <= counters)
+        flagged <= flags && (self.fill_rule == 0 || counted <= counters)
     }
 }

@@ -10,7 +10,7 @@ use crate::polygon_arrays::{PolygonArrays, is_in_band, rule_of};
 use c_abi::{CallError, Error, Status, report};
 use canvas::Origin;
 use lanes::BlockSamples;
-use painting::{Style, clear, clear_counters, draw_polygons, scratch_columns};
+use painting::{Style, clear, clear_counters, counter_columns, draw_polygons, flag_columns};
 use polygons::{Counters, Flags};
 
 /// Draws polygons, in their colours or by ids.
@@ -40,8 +40,9 @@ fn draw_into(
     if !is_in_band(&origin) {
         return Err(CallError::from(Status::BadPosition));
     }
-    let columns = scratch_columns(&rows.canvas);
-    if !arrays.has_scratch(columns, flags.len(), counters.len()) {
+    let flagged = flag_columns(&rows.canvas);
+    let counted = counter_columns(&rows.canvas);
+    if !arrays.has_scratch(flagged, counted, flags.len(), counters.len()) {
         return Err(CallError::from(Status::BufferTooSmall));
     }
     let polygons = match arrays.polygons(ids) {
@@ -55,9 +56,9 @@ fn draw_into(
         ids,
         state: arrays.state.state(head.has_alpha()),
     };
-    let flags = &mut flags[..columns];
+    let flags = &mut flags[..flagged];
     clear(flags);
-    let counted = columns.min(counters.len());
+    let counted = counted.min(counters.len());
     let counters = &mut counters[..counted];
     clear_counters(counters);
     let mut piece = rows.over(planes);

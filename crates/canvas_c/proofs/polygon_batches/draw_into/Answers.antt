@@ -6,13 +6,16 @@ use Rattle.model.specs.Checking.{Checks, done, check}
 use Rattle.model.proofs.Checking.{pass_both, fails_before, fails_later}
 use Rattle.polygons.specs.declared.rule.Rule.{Rule}
 use Rattle.polygons.specs.declared.rule.Rule.TheVariants.{EvenOdd, NonZero}
-use Rattle.polygons.specs.Cells.{HasCounters}
+use Rattle.canvas.specs.declared.canvas.Canvas.{Canvas}
+use Rattle.grid.specs.Samples.{parts_of, pattern_of}
+use Rattle.grid.specs.declared.sample_count.SampleCount.{SampleCount}
 use Rattle.painting.specs.Painting.{ArePainted, IsOriginInBand}
+use Rattle.painting.specs.Parts.{flag_columns_of}
 use Rattle.c_abi.specs.declared.status.Status.{Status}
 use Rattle.c_abi.specs.declared.status.Status.TheVariants.{BadBatch, BadPosition, BadStructSize, BufferTooSmall}
 use Rattle.c_abi.specs.Sizes.{IsOwnSize}
 use Rattle.canvas_c.specs.Pieces.{has_alpha, piece_checks}
-use Rattle.canvas_c.specs.PolygonChecks.{origin_of, rule_of, columns_of_blocks, shapes_listed, AreGood, HasScratch}
+use Rattle.canvas_c.specs.PolygonChecks.{origin_of, rule_of, columns_of_blocks, flag_columns_listed, shapes_listed, AreGood, HasScratch}
 use Rattle.canvas_c.specs.declared.polygon_arrays.PolygonArrays.{PolygonArrays}
 use Rattle.canvas_c.specs.declared.piece.CanvasHead.{CanvasHead}
 use Rattle.canvas_c.proofs.Ended.{piece_fault}
@@ -28,7 +31,7 @@ later_checks head ids a flags counters =
 
 -- as many columns of flags, and of counters if they are needed
 abbrev IsEnough : CanvasHead → PolygonArrays → ℕ → ℕ → Type 0
-IsEnough head a flags counters = (columns_of_blocks head.width ≤ flags) × ((a.fill_rule ≡ 0) ⊎ (columns_of_blocks head.width ≤ counters))
+IsEnough head a flags counters = (flag_columns_listed head ≤ flags) × ((a.fill_rule ≡ 0) ⊎ (columns_of_blocks head.width ≤ counters))
 
 scratch_of : (head : CanvasHead) (a : PolygonArrays) (flags counters : ℕ) → IsEnough head a flags counters → HasScratch head a flags counters
 scratch_of head a flags counters h = record { enough_flags = h.0; enough_counters = h.1 }
@@ -36,9 +39,12 @@ scratch_of head a flags counters h = record { enough_flags = h.0; enough_counter
 lacks_scratch : (head : CanvasHead) (a : PolygonArrays) (flags counters : ℕ) → ¬ IsEnough head a flags counters → ¬ HasScratch head a flags counters
 lacks_scratch head a flags counters n h = n (h.enough_flags, h.enough_counters)
 
-any_rule : (rule : Rule) (flags counters : List (List ℕ)) → length counters ≡ length flags → HasCounters rule flags counters
-any_rule EvenOdd flags counters e = tt
-any_rule NonZero flags counters e = e
+even_odd : EvenOdd ≡ NonZero → ⊥
+even_odd e = cc
+
+-- the columns of the canvas that the caller names
+same_flags : (canvas : Canvas) (head : CanvasHead) → {n : ℕ} → canvas.width ≡ head.width → canvas.count ≡ pattern_of head.samples → n ≡ flag_columns_of canvas → n ≡ flag_columns_listed head
+same_flags canvas head w m e = e ∙ ap (λ (count : SampleCount). parts_of count * columns_of_blocks canvas.width) m ∙ ap (λ v. parts_of (pattern_of head.samples) * columns_of_blocks v) w
 
 pub returns-in_err-rows-clause-judged : goal.returns-in_err-rows-clause-judged
 returns-in_err-rows-clause-judged c =
@@ -86,8 +92,10 @@ returns-then-not-has_scratch-clause-judged c =
     let size : IsOwnSize a.struct_size 144 = search rules in
     let sees : IsTrue c.is_in_band.result ↔ IsOriginInBand (origin_of head) = rw (to_z-of_z w32 head.origin_x x, to_z-of_z w32 head.origin_y y) at c.is_in_band.ensures in
     let band : IsOriginInBand (origin_of head) = sees.0 (search rules) in
-    let same : c.scratch_columns-columns.result ≡ columns_of_blocks head.width = c.scratch_columns-columns.ensures.value ∙ ap (λ w. 8 * ((w + 63) / 64)) c.in_ok-rows.ensures.judged.1.width in
-    let enough : IsTrue c.has_scratch.result ↔ IsEnough head a flags counters = rw same at c.has_scratch.ensures in
+    let are = c.in_ok-rows.ensures.judged.1 in
+    let counted : c.counter_columns-counted.result ≡ columns_of_blocks head.width = c.counter_columns-counted.ensures.value ∙ ap (λ w. 8 * ((w + 63) / 64)) are.width in
+    let flagged : c.flag_columns-flagged.result ≡ flag_columns_listed head = same_flags c.in_ok-rows.rows.canvas head are.width are.count c.flag_columns-flagged.ensures.value in
+    let enough : IsTrue c.has_scratch.result ↔ IsEnough head a flags counters = rw (flagged, counted) at c.has_scratch.ensures in
     let lacks : ¬ IsEnough head a flags counters = search rules in
     rw c.from-then-not-has_scratch.ensures (record {
       first = fails_later (piece_checks head (length c.args.planes.now)) (later_checks head c.args.ids a flags counters) BufferTooSmall c.in_ok-rows.ensures.judged.0 (inr (size, inr (band, inl (lacks_scratch head a flags counters lacks, refl))));
@@ -105,8 +113,10 @@ returns-in-Err-clause-judged c =
     let size : IsOwnSize a.struct_size 144 = search rules in
     let sees : IsTrue c.is_in_band.result ↔ IsOriginInBand (origin_of head) = rw (to_z-of_z w32 head.origin_x x, to_z-of_z w32 head.origin_y y) at c.is_in_band.ensures in
     let band : IsOriginInBand (origin_of head) = sees.0 (search rules) in
-    let same : c.scratch_columns-columns.result ≡ columns_of_blocks head.width = c.scratch_columns-columns.ensures.value ∙ ap (λ w. 8 * ((w + 63) / 64)) c.in_ok-rows.ensures.judged.1.width in
-    let enough : IsTrue c.has_scratch.result ↔ IsEnough head a flags counters = rw same at c.has_scratch.ensures in
+    let are = c.in_ok-rows.ensures.judged.1 in
+    let counted : c.counter_columns-counted.result ≡ columns_of_blocks head.width = c.counter_columns-counted.ensures.value ∙ ap (λ w. 8 * ((w + 63) / 64)) are.width in
+    let flagged : c.flag_columns-flagged.result ≡ flag_columns_listed head = same_flags c.in_ok-rows.rows.canvas head are.width are.count c.flag_columns-flagged.ensures.value in
+    let enough : IsTrue c.has_scratch.result ↔ IsEnough head a flags counters = rw (flagged, counted) at c.has_scratch.ensures in
     let scratch = scratch_of head a flags counters (enough.0 (search rules)) in
     let wrong = c.in-Err.ensures.wrong in
     rw c.of_batch.ensures (record {
@@ -115,18 +125,14 @@ returns-in-Err-clause-judged c =
     })
 
 pub draw_polygons-requires-clause-counted : goal.draw_polygons-requires-clause-counted
-draw_polygons-requires-clause-counted c =
-    let head = c.args.head.now in
+draw_polygons-requires-clause-counted c nonzero =
     let a = c.args.arrays.now in
-    let flags = c.clear.new.flags in
-    let counters = c.clear_counters.new.counters in
-    let columns : ℕ = c.scratch_columns-columns.result in
-    let enough : (columns ≤ length c.args.flags.now) × ((a.fill_rule ≡ 0) ⊎ (columns ≤ length c.args.counters.now)) = c.has_scratch.ensures.0 (search rules) in
-    let long_flags = length-take columns c.args.flags.now in
-    let long_counters = length-take c.min-counted.result c.args.counters.now in
+    let counted : ℕ = c.counter_columns-counted.result in
+    let enough : (c.flag_columns-flagged.result ≤ length c.args.flags.now) × ((a.fill_rule ≡ 0) ⊎ (counted ≤ length c.args.counters.now)) = c.has_scratch.ensures.0 (search rules) in
+    let long = length-take c.min-counted.result c.args.counters.now in
     elim enough.1 [
-      | inl zero ↦ subst (λ (rule : Rule). HasCounters rule flags counters) (sym (c.rule_of.ensures ∙ ap rule_of zero)) tt
-      | inr more ↦ any_rule c.rule_of.result flags counters (omega (arith, more, enough.0, long_flags, long_counters, c.clear.ensures.len, c.clear_counters.ensures.len, c.min-counted.ensures))
+      | inl zero ↦ absurd (even_odd (sym (c.rule_of.ensures ∙ ap rule_of zero) ∙ nonzero))
+      | inr more ↦ rw c.over-piece.ensures.rows (omega (arith, more, long, c.counter_columns-counted.ensures.value, c.clear_counters.ensures.len, c.min-counted.ensures))
     ]
 
 pub returns-clause-judged : goal.returns-clause-judged
@@ -140,8 +146,10 @@ returns-clause-judged c =
     let size : IsOwnSize a.struct_size 144 = search rules in
     let sees : IsTrue c.is_in_band.result ↔ IsOriginInBand (origin_of head) = rw (to_z-of_z w32 head.origin_x x, to_z-of_z w32 head.origin_y y) at c.is_in_band.ensures in
     let band : IsOriginInBand (origin_of head) = sees.0 (search rules) in
-    let same : c.scratch_columns-columns.result ≡ columns_of_blocks head.width = c.scratch_columns-columns.ensures.value ∙ ap (λ w. 8 * ((w + 63) / 64)) c.in_ok-rows.ensures.judged.1.width in
-    let enough : IsTrue c.has_scratch.result ↔ IsEnough head a flags counters = rw same at c.has_scratch.ensures in
+    let are = c.in_ok-rows.ensures.judged.1 in
+    let counted : c.counter_columns-counted.result ≡ columns_of_blocks head.width = c.counter_columns-counted.ensures.value ∙ ap (λ w. 8 * ((w + 63) / 64)) are.width in
+    let flagged : c.flag_columns-flagged.result ≡ flag_columns_listed head = same_flags c.in_ok-rows.rows.canvas head are.width are.count c.flag_columns-flagged.ensures.value in
+    let enough : IsTrue c.has_scratch.result ↔ IsEnough head a flags counters = rw (flagged, counted) at c.has_scratch.ensures in
     let scratch = scratch_of head a flags counters (enough.0 (search rules)) in
     (pass_both (piece_checks head (length c.args.planes.now)) (later_checks head c.args.ids a flags counters) c.in_ok-rows.ensures.judged.0 (size, (band, (scratch, (c.in-Ok.ensures.good.0, record {})))), record {})
 
