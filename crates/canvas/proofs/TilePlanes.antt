@@ -16,6 +16,7 @@ use Rattle.canvas.specs.declared.way.Way.{Way}
 use Rattle.canvas.specs.declared.way.Way.TheVariants.{Cleared, Single, Own}
 use Rattle.canvas.specs.Layout.{planes_of_tile, block_in_tile, way_of, place_by, place_in_tile, stored_in_tile, way_in_tile, IsSameTile, KeepsOtherWays}
 use Rattle.canvas.proofs.Places.{none, behind_first}
+use Rattle.canvas.proofs.Ways.{own_not_cleared}
 
 pub cases_eq : (a b : ℕ) → (a ≡ b) ⊎ (a ≢ b)
 cases_eq a b =
@@ -40,10 +41,15 @@ same_by_way count old new i j s way plane = by_way count new (way_in_tile old (b
 
 -- ---- the own planes of a block
 -- no other block has them
-pub apart : (count : SampleCount) (way : Way) (m k s t : ℕ) → m ≢ k → s < count_of count → t < count_of count → place_by count way m s ≢ place_by count Own k t
-apart count Cleared m k s t other h l e = omega (arith, e, add-mul k 1 (count_of count), h)
-apart count Single m k s t other h l e = other (omega (arith, (same_from_place (m + 1) 0 (k + 1) t (count_of count) (omega (arith, h)) l (omega (arith, e))).0))
-apart count Own m k s t other h l e = other (omega (arith, (same_from_place (m + 1) s (k + 1) t (count_of count) h l (omega (arith, e))).0))
+own_apart : (count : SampleCount) (way : Way) (m k s t : ℕ) → m ≢ k → s < count_of count → t < count_of count → place_by count way m s ≢ 1 + (k + 1) * count_of count + t
+own_apart count Cleared m k s t other h l e = omega (arith, e, add-mul k 1 (count_of count), h)
+own_apart count Single m k s t other h l e = other (omega (arith, (same_from_place (m + 1) 0 (k + 1) t (count_of count) (omega (arith, h)) l (omega (arith, e))).0))
+own_apart count Own m k s t other h l e = other (omega (arith, (same_from_place (m + 1) s (k + 1) t (count_of count) h l (omega (arith, e))).0))
+
+pub apart : (count : SampleCount) (way way' : Way) (m k s t : ℕ) → m ≢ k → s < count_of count → t < count_of count → way' ≢ Cleared → place_by count way m s ≢ place_by count way' k t
+apart count way Cleared m k s t other h l own = absurd (own refl)
+apart count way Single m k s t other h l own = λ e. own_apart count way m k s 0 other h (some_samples count) (omega (arith, e))
+apart count way Own m k s t other h l own = own_apart count way m k s t other h l
 
 -- the planes behind the first are unchanged but those of block k
 abbrev pub KeepsOthers : SampleCount → ℕ → List BlockSamples → List BlockSamples → Type 0
@@ -54,7 +60,7 @@ pub others_same : (count : SampleCount) (k : ℕ) (old new : List BlockSamples) 
 others_same count k old new ways planes i j s h other =
     let m : ℕ = block_in_tile i j in
     let way = way_in_tile old m in
-    same_by_way count old new i j s (ways m (omega arith) other) (planes (place_by count way m s) (behind_first count way m s) (λ t l. apart count way m k s t other h l))
+    same_by_way count old new i j s (ways m (omega arith) other) (planes (place_by count way m s) (behind_first count way m s) (λ t l. apart count way Own m k s t other h l own_not_cleared))
 
 -- the first plane, changed
 pub way_set : (xs : List BlockSamples) (state : BlockSamples) (m : ℕ) (way : Way) → 0 < length xs → way_of state m ≡ way → way_in_tile (slice_set xs 0 state) m ≡ way

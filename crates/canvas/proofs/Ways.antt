@@ -31,9 +31,13 @@ IsNotCleared Cleared = ⊥
 IsNotCleared Single = Unit {0}
 IsNotCleared Own = Unit {0}
 
-not_own : Own ≢ Cleared
+pub own_not_cleared : Own ≢ Cleared
 unfolding IsNotCleared
-not_own e = subst IsNotCleared e tt
+own_not_cleared e = subst IsNotCleared e tt
+
+pub single_not_cleared : Single ≢ Cleared
+unfolding IsNotCleared
+single_not_cleared e = subst IsNotCleared e tt
 
 pub cleared_by : (green red : List ℕ) (m : ℕ) → slice_index green 0 ≢ 0 → slice_index red m ≡ 1 → way_by green red m ≡ Cleared
 cleared_by green red m some e =
@@ -44,12 +48,11 @@ cleared_by green red m some e =
     ]
 
 some_green : (green red : List ℕ) (m : ℕ) → way_by green red m ≡ Cleared → slice_index green 0 ≢ 0
-some_green green red m e none = not_own (sym (own_by_green green red m none) ∙ e)
+some_green green red m e none = own_not_cleared (sym (own_by_green green red m none) ∙ e)
 
 not_either : (b : Bool) → (if b then Single else Own) ≢ Cleared
-unfolding IsNotCleared
-not_either true e = subst IsNotCleared e tt
-not_either false e = subst IsNotCleared e tt
+not_either true = single_not_cleared
+not_either false = own_not_cleared
 
 red_one : (green red : List ℕ) (m : ℕ) → way_by green red m ≡ Cleared → slice_index red m ≡ 1
 red_one green red m e =
