@@ -7,27 +7,21 @@ use Rattle.std.proofs.lemmas.Nat.{same_from_place}
 use Rattle.grid.specs.Samples.{count_of}
 use Rattle.grid.specs.declared.sample_count.SampleCount.{SampleCount}
 use Rattle.shade.specs.declared.sample.CanvasSample.{CanvasSample}
+use Rattle.shade.proofs.Resolved.{some_samples}
 use Rattle.lanes.specs.declared.block_samples.BlockSamples.{BlockSamples}
 use Rattle.lanes.specs.Block.{stored_at}
 use Rattle.canvas.specs.declared.canvas.Canvas.{Canvas}
 use Rattle.canvas.specs.declared.format.Format.{Format}
 use Rattle.canvas.specs.declared.format.Format.TheVariants.{Rgb8, Rgba8, Bgra8, Rgba8Straight, Bgra8Straight}
-use Rattle.canvas.specs.Layout.{IsStoredIn, planes_of_tile, planes_of_row, block_of, place_in_tile, stored, stored_in_tile}
+use Rattle.canvas.specs.declared.way.Way.{Way}
+use Rattle.canvas.specs.declared.way.Way.TheVariants.{Cleared, Single, Own}
+use Rattle.canvas.specs.Layout.{IsStoredIn, planes_of_tile, planes_of_row, block_in_tile, way_of, place_by, stored, stored_in_tile, way_in_tile, IsSameTile}
 use Rattle.canvas.specs.Pixels.{pixel_bytes}
 use Rattle.canvas.specs.Loaded.{coloured, IsIndexIn, AreChanged}
 use Rattle.canvas.proofs.Cut.{put}
-use Rattle.canvas.proofs.Places.{none, tile_of, tile_put, tile_kept, row_of, row_put, row_kept}
-use Rattle.canvas.proofs.TilePlanes.{block_changed}
-
-pub cases_eq : (a b : ℕ) → (a ≡ b) ⊎ (a ≢ b)
-cases_eq a b =
-    elim (cases_lt a b) [
-      | inl less ↦ inr (λ e. omega (arith, e, less))
-      | inr from ↦ elim (cases_lt b a) [ inl more ↦ inr (λ e. omega (arith, e, more)) | inr to ↦ inl (omega (arith, from, to)) ]
-    ]
-
-abbrev pub pixel_in_block : ℕ → ℕ → ℕ
-pixel_in_block i j = 8 * (j % 8) + i % 8
+use Rattle.canvas.proofs.Places.{none, behind_first, tile_of, tile_put, tile_kept, row_of, row_put, row_kept}
+use Rattle.canvas.proofs.Ways.{own_not_cleared, single_not_cleared}
+use Rattle.canvas.proofs.TilePlanes.{cases_eq, pixel_in_block, by_way, same_by_way, apart}
 
 -- the same bytes are the same colour
 pub coloured_same : (format : Format) (too : Bool) (f g : ℕ → ℕ) (sample : CanvasSample) → ((k : ℕ) → k < pixel_bytes format → f k ≡ g k) → coloured format too f sample ≡ coloured format too g sample
@@ -38,98 +32,100 @@ coloured_same Rgba8Straight too f g sample same = let a : f 0 ≡ g 0 = same 0 (
 coloured_same Bgra8Straight too f g sample same = let a : f 0 ≡ g 0 = same 0 (omega arith) in let b : f 1 ≡ g 1 = same 1 (omega arith) in let c : f 2 ≡ g 2 = same 2 (omega arith) in let d : f 3 ≡ g 3 = same 3 (omega arith) in rw (a, b, c, d) refl
 
 -- ---- the samples of one pixel, in the planes of its tile
--- its planes are not the tile's first
-behind_first : (count : SampleCount) (state : BlockSamples) (i j s : ℕ) → place_in_tile count state i j s ≢ 0
-behind_first count state i j s e = omega (arith, e)
+-- one pixel of a plane of its block is changed, in which the block keeps samples of its own
+module _ (count : SampleCount) (i j s : ℕ) (h : s < count_of count) (way : Way) (f : CanvasSample → CanvasSample) (xs : List BlockSamples) (plane : BlockSamples) (at : ℕ) (not_cleared : way ≢ Cleared)
+    (was : way_in_tile xs (block_in_tile i j) ≡ way) (is_at : at ≡ place_by count way (block_in_tile i j) s) (room : at < length xs)
+    (kept : (n : ℕ) → n < 64 → n ≢ pixel_in_block i j → stored_at plane n ≡ stored_at (slice_index_or xs at none) n)
+    (is : stored_at plane (pixel_in_block i j) ≡ f (stored_at (slice_index_or xs at none) (pixel_in_block i j))) where
+  abbrev after : List BlockSamples
+  after = slice_set xs at plane
 
--- each sample of such a tile has a place of its own
-same_sample : (count : SampleCount) (state : BlockSamples) → slice_index state.r 0 ≢ 1 → (i j s i' j' s' : ℕ) → s < count_of count → s' < count_of count
-    → place_in_tile count state i j s ≡ place_in_tile count state i' j' s' → pixel_in_block i j ≡ pixel_in_block i' j' → (i % 64 ≡ i' % 64) × (j % 64 ≡ j' % 64) × (s ≡ s')
-same_sample count state filled i j s i' j' s' h h' e k =
-    let block = same_from_place (block_of state i j) s (block_of state i' j') s' (count_of count) h h' (omega (arith, e)) in
-    let blocks : j % 64 / 8 * 8 + i % 64 / 8 ≡ j' % 64 / 8 * 8 + i' % 64 / 8 = omega (arith, block.0, block_changed state i j filled, block_changed state i' j' filled) in
-    (omega (arith, blocks, k), omega (arith, blocks, k), block.1)
+  pub same_ways : (m : ℕ) → way_in_tile after m ≡ way_in_tile xs m
+  same_ways m = ap (λ first. way_of first m) (get_or-set_other xs at 0 plane none (λ e. behind_first count way (block_in_tile i j) s (sym (e ∙ is_at))))
 
--- the places of a pixel's samples are the same whatever stands in such a tile's first plane
-pub same_place : (count : SampleCount) (one other : BlockSamples) (i j s : ℕ) → slice_index one.r 0 ≢ 1 → slice_index other.r 0 ≢ 1 → place_in_tile count one i j 0 + s ≡ place_in_tile count other i j s
-same_place count one other i j s filled filled' = omega (arith, ap (λ b. b * count_of count) (block_changed one i j filled ∙ sym (block_changed other i j filled')))
+  pub at_sample : stored_in_tile count after i j s ≡ f (stored_in_tile count xs i j s)
+  at_sample =
+      by_way count after way i j s (same_ways (block_in_tile i j) ∙ was)
+      ∙ ap (λ p. stored_at (slice_index_or after p none) (pixel_in_block i j)) (sym is_at)
+      ∙ ap (λ p. stored_at p (pixel_in_block i j)) (get_or-set_same xs at plane none room)
+      ∙ is
+      ∙ ap (λ p. f (stored_at (slice_index_or xs p none) (pixel_in_block i j))) is_at
+      ∙ ap f (sym (by_way count xs way i j s was))
+
+  -- a sample of its block, in another plane or of another pixel
+  in_block : (column row t : ℕ) → block_in_tile i j ≡ block_in_tile column row → ((column % 64 ≡ i % 64) → (row % 64 ≡ j % 64) → place_by count way (block_in_tile i j) t ≡ place_by count way (block_in_tile i j) s → ⊥)
+      → stored_in_tile count after column row t ≡ stored_in_tile count xs column row t
+  in_block column row t here other =
+      let of_way : way_in_tile xs (block_in_tile column row) ≡ way = ap (way_in_tile xs) (sym here) ∙ was in
+      let p : ℕ = place_by count way (block_in_tile column row) t in
+      let plane_is : p ≡ place_by count way (block_in_tile i j) t = ap (λ m. place_by count way m t) (sym here) in
+      by_way count after way column row t (same_ways (block_in_tile column row) ∙ of_way)
+      ∙ elim (cases_eq p at) [
+        | inr apart ↦ ap (λ q. stored_at q (pixel_in_block column row)) (get_or-set_other xs at p plane none apart)
+        | inl same ↦
+            let pixel : pixel_in_block column row ≢ pixel_in_block i j = λ k. other (omega (arith, here, k)) (omega (arith, here, k)) (sym plane_is ∙ same ∙ is_at) in
+            ap (λ n. stored_at (slice_index_or after n none) (pixel_in_block column row)) same
+            ∙ ap (λ q. stored_at q (pixel_in_block column row)) (get_or-set_same xs at plane none room)
+            ∙ kept (pixel_in_block column row) (omega arith) pixel
+            ∙ sym (ap (λ n. stored_at (slice_index_or xs n none) (pixel_in_block column row)) same)
+      ]
+      ∙ sym (by_way count xs way column row t of_way)
+
+  pub at_other : (column row t : ℕ) → t < count_of count → ((column % 64 ≡ i % 64) → (row % 64 ≡ j % 64) → place_by count way (block_in_tile i j) t ≡ place_by count way (block_in_tile i j) s → ⊥)
+      → stored_in_tile count after column row t ≡ stored_in_tile count xs column row t
+  at_other column row t l other =
+      elim (cases_eq (block_in_tile i j) (block_in_tile column row)) [
+        | inl here ↦ in_block column row t here other
+        | inr elsewhere ↦
+            let m : ℕ = block_in_tile column row in
+            same_by_way count xs after column row t (same_ways m)
+            (get_or-set_other xs at (place_by count (way_in_tile xs m) m t) plane none
+            (λ e. apart count (way_in_tile xs m) way m (block_in_tile i j) t s (λ d. elsewhere (sym d)) l h not_cleared (e ∙ is_at)))
+      ]
 
 -- the samples of pixel (i, j) from index `from` to before m end as f makes them, and all others are unchanged
 pub record IsPixelChanged (count : SampleCount) (i j from m : ℕ) (f : CanvasSample → CanvasSample) (old new : List BlockSamples) : Type 0 where
-  pub filled : slice_index (slice_index_or new 0 none).r 0 ≢ 1
+  pub own : way_in_tile new (block_in_tile i j) ≡ Own
   pub pixel : (s : ℕ) → s < count_of count → IsIndexIn from m s → stored_in_tile count new i j s ≡ f (stored_in_tile count old i j s)
   pub others : (column row s : ℕ) → s < count_of count → ((column % 64 ≡ i % 64) → (row % 64 ≡ j % 64) → IsIndexIn from m s → ⊥) → stored_in_tile count new column row s ≡ stored_in_tile count old column row s
 
-module _ (count : SampleCount) (i j from s : ℕ) (since : from ≤ s) (h : s < count_of count) (f : CanvasSample → CanvasSample) (old middle : List BlockSamples) (plane : BlockSamples) where
-  module _ (room : place_in_tile count (slice_index_or middle 0 none) i j s < length middle)
-      (kept : (n : ℕ) → n < 64 → n ≢ pixel_in_block i j → stored_at plane n ≡ stored_at (slice_index_or middle (place_in_tile count (slice_index_or middle 0 none) i j s) none) n)
-      (is : stored_at plane (pixel_in_block i j) ≡ f (stored_at (slice_index_or middle (place_in_tile count (slice_index_or middle 0 none) i j s) none) (pixel_in_block i j)))
-      (before : IsPixelChanged count i j from s f old middle) where
-    abbrev state : BlockSamples
-    state = slice_index_or middle 0 none
+pub no_sample_changed : (count : SampleCount) (i j from : ℕ) (f : CanvasSample → CanvasSample) (old new : List BlockSamples) → way_in_tile new (block_in_tile i j) ≡ Own → IsSameTile count old new → IsPixelChanged count i j from from f old new
+no_sample_changed count i j from f old new own same =
+    record { own = own; pixel = λ s h index. (let since = index.from in let below = index.below in absurd (omega (arith, since, below))); others = λ column row s h _. same column row s h }
 
-    abbrev at : ℕ
-    at = place_in_tile count state i j s
-
-    abbrev after : List BlockSamples
-    after = slice_set middle at plane
-
-    first_kept : slice_index_or after 0 none ≡ state
-    first_kept = get_or-set_other middle at 0 plane none (λ e. behind_first count state i j s (sym e))
-
-    by_first : (column row t : ℕ) → stored_in_tile count after column row t ≡ stored_at (slice_index_or after (place_in_tile count state column row t) none) (pixel_in_block column row)
-    by_first column row t = ap (λ first. stored_at (slice_index_or after (place_in_tile count first column row t) none) (pixel_in_block column row)) first_kept
-
-    at_sample : stored_in_tile count after i j s ≡ f (stored_in_tile count old i j s)
-    at_sample =
-        by_first i j s ∙ ap (λ p. stored_at p (pixel_in_block i j)) (get_or-set_same middle at plane none room) ∙ is ∙ ap f (before.others i j s h (λ _ _ index. let below = index.below in omega (arith, below)))
-
-    at_other : (column row t : ℕ) → t < count_of count → ((column % 64 ≡ i % 64) → (row % 64 ≡ j % 64) → t ≡ s → ⊥) → stored_in_tile count after column row t ≡ stored_in_tile count middle column row t
-    at_other column row t l other =
-        by_first column row t
-        ∙ elim (cases_eq (place_in_tile count state column row t) at) [
-          | inr apart ↦ ap (λ p. stored_at p (pixel_in_block column row)) (get_or-set_other middle at (place_in_tile count state column row t) plane none apart)
-          | inl same ↦
-              let pixel : pixel_in_block column row ≢ pixel_in_block i j = λ k. (let one = same_sample count state before.filled column row t i j s l h same k in other one.0 one.1 one.2) in
-              ap (λ n. stored_at (slice_index_or after n none) (pixel_in_block column row)) same
-              ∙ ap (λ p. stored_at p (pixel_in_block column row)) (get_or-set_same middle at plane none room)
-              ∙ kept (pixel_in_block column row) (omega arith) pixel
-              ∙ sym (ap (λ n. stored_at (slice_index_or middle n none) (pixel_in_block column row)) same)
-        ]
-
-    pub one_sample_changed : IsPixelChanged count i j from (s + 1) f old after
-    one_sample_changed = record {
-      filled = λ e. before.filled (sym (ap (λ first. slice_index first.r 0) first_kept) ∙ e);
+-- one sample more, at its place
+pub one_sample_more : (count : SampleCount) (i j from s : ℕ) → from ≤ s → s < count_of count → (f : CanvasSample → CanvasSample) (old middle : List BlockSamples) (plane : BlockSamples) (at : ℕ) → at ≡ place_by count Own (block_in_tile i j) s → at < length middle
+    → ((n : ℕ) → n < 64 → n ≢ pixel_in_block i j → stored_at plane n ≡ stored_at (slice_index_or middle at none) n)
+    → stored_at plane (pixel_in_block i j) ≡ f (stored_at (slice_index_or middle at none) (pixel_in_block i j))
+    → IsPixelChanged count i j from s f old middle → IsPixelChanged count i j from (s + 1) f old (slice_set middle at plane)
+one_sample_more count i j from s since h f old middle plane at is_at room kept is before =
+    let other : (column row t : ℕ) → t < count_of count → ((column % 64 ≡ i % 64) → (row % 64 ≡ j % 64) → t ≡ s → ⊥) → stored_in_tile count (slice_set middle at plane) column row t ≡ stored_in_tile count middle column row t =
+    λ column row t l apart. at_other count i j s h Own f middle plane at own_not_cleared before.own is_at room kept is column row t l (λ a b e. apart a b (omega (arith, e))) in
+    record {
+      own = same_ways count i j s h Own f middle plane at own_not_cleared before.own is_at room kept is (block_in_tile i j) ∙ before.own;
       pixel = λ t l index.
           elim (cases_lt t s) [
-            | inl earlier ↦ at_other i j t l (λ _ _ e. omega (arith, e, earlier)) ∙ before.pixel t l (record { from = index.from; below = earlier })
+            | inl earlier ↦ other i j t l (λ _ _ e. omega (arith, e, earlier)) ∙ before.pixel t l (record { from = index.from; below = earlier })
             | inr more ↦
                 let here : s ≡ t = (let below = index.below in omega (arith, below, more)) in
-                subst (λ u. stored_in_tile count after i j u ≡ f (stored_in_tile count old i j u)) here at_sample
+                subst (λ u. stored_in_tile count (slice_set middle at plane) i j u ≡ f (stored_in_tile count old i j u)) here
+                (at_sample count i j s h Own f middle plane at own_not_cleared before.own is_at room kept is ∙ ap f (before.others i j s h (λ _ _ index. let below = index.below in omega (arith, below))))
           ];
-      others = λ column row t l other.
-          at_other column row t l (λ a b e. other a b (record { from = omega (arith, e, since); below = omega (arith, e) }))
-          ∙ before.others column row t l (λ a b index. other a b (let below = index.below in record { from = index.from; below = omega (arith, below) }));
+      others = λ column row t l apart.
+          other column row t l (λ a b e. apart a b (record { from = omega (arith, e, since); below = omega (arith, e) }))
+          ∙ before.others column row t l (λ a b index. apart a b (let below = index.below in record { from = index.from; below = omega (arith, below) }));
     }
 
--- the same, by a number that is the sample's place
-pub one_sample_more : (count : SampleCount) (i j from s : ℕ) → from ≤ s → s < count_of count → (f : CanvasSample → CanvasSample) (old middle : List BlockSamples) (plane : BlockSamples) (place : ℕ) → place ≡ place_in_tile count (slice_index_or middle 0 none) i j s → place < length middle
-    → ((n : ℕ) → n < 64 → n ≢ pixel_in_block i j → stored_at plane n ≡ stored_at (slice_index_or middle place none) n)
-    → stored_at plane (pixel_in_block i j) ≡ f (stored_at (slice_index_or middle place none) (pixel_in_block i j))
-    → IsPixelChanged count i j from s f old middle → IsPixelChanged count i j from (s + 1) f old (slice_set middle place plane)
-one_sample_more count i j from s since h f old middle plane place at =
-    subst
-    (λ p. p < length middle
-    → ((n : ℕ) → n < 64 → n ≢ pixel_in_block i j → stored_at plane n ≡ stored_at (slice_index_or middle p none) n)
-    → stored_at plane (pixel_in_block i j) ≡ f (stored_at (slice_index_or middle p none) (pixel_in_block i j))
-    → IsPixelChanged count i j from s f old middle → IsPixelChanged count i j from (s + 1) f old (slice_set middle p plane))
-    (sym at)
-    (λ room kept is before. one_sample_changed count i j from s since h f old middle plane room kept is before)
+-- all samples at once, in the one plane that stands for them
+module _ (count : SampleCount) (i j : ℕ) (f : CanvasSample → CanvasSample) (old middle : List BlockSamples) (plane : BlockSamples) (at : ℕ) (single : way_in_tile middle (block_in_tile i j) ≡ Single) (same : IsSameTile count old middle)
+    (is_at : at ≡ place_by count Single (block_in_tile i j) 0) (room : at < length middle)
+    (kept : (n : ℕ) → n < 64 → n ≢ pixel_in_block i j → stored_at plane n ≡ stored_at (slice_index_or middle at none) n)
+    (is : stored_at plane (pixel_in_block i j) ≡ f (stored_at (slice_index_or middle at none) (pixel_in_block i j))) where
+  pub all_samples : (s : ℕ) → s < count_of count → stored_in_tile count (slice_set middle at plane) i j s ≡ f (stored_in_tile count old i j s)
+  all_samples s h = at_sample count i j s h Single f middle plane at single_not_cleared single is_at room kept is ∙ ap f (same i j s h)
 
-pub no_sample_changed : (count : SampleCount) (i j from : ℕ) (f : CanvasSample → CanvasSample) (old new : List BlockSamples) → slice_index (slice_index_or new 0 none).r 0 ≢ 1
-    → ((column row s : ℕ) → s < count_of count → stored_in_tile count new column row s ≡ stored_in_tile count old column row s) → IsPixelChanged count i j from from f old new
-no_sample_changed count i j from f old new filled same =
-    record { filled = filled; pixel = λ s h index. (let since = index.from in let below = index.below in absurd (omega (arith, since, below))); others = λ column row s h _. same column row s h }
+  pub other_pixels : (column row s : ℕ) → s < count_of count → ((column % 64 ≡ i % 64) → (row % 64 ≡ j % 64) → ⊥) → stored_in_tile count (slice_set middle at plane) column row s ≡ stored_in_tile count old column row s
+  other_pixels column row s h other = at_other count i j 0 (some_samples count) Single f middle plane at single_not_cleared single is_at room kept is column row s h (λ a b _. other a b) ∙ same column row s h
 
 -- ---- a part that is put back changed
 module _ (c : Canvas) (xs part : List BlockSamples) (n a : ℕ) (room : a + n ≤ length xs) (long : length part ≡ n) where

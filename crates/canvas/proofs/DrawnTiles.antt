@@ -14,8 +14,9 @@ use Rattle.raster.specs.Samples.{IsSampleOf, place_of as place_in, stored as in_
 use Rattle.canvas.proofs.Cut.{put, put_elsewhere, part_of}
 use Rattle.canvas.proofs.Ends.{ends_at}
 use Rattle.canvas.proofs.Places.{none}
-use Rattle.canvas.proofs.TilePlanes.{at_changed, own_place, within_own}
-use Rattle.canvas.specs.Layout.{planes_of_tile, stored_in_tile}
+use Rattle.canvas.proofs.TilePlanes.{by_way, own_place, within_own}
+use Rattle.canvas.specs.declared.way.Way.TheVariants.{Own}
+use Rattle.canvas.specs.Layout.{planes_of_tile, block_in_tile, way_of, stored_in_tile, way_in_tile, IsSameTile}
 use Rattle.canvas.specs.Drawing.{TileEnds, TileHasEnds}
 
 -- the planes of its own blocks, put back changed
@@ -32,16 +33,16 @@ mark_put xs part n a room long some = put_elsewhere xs part a n none room long 0
 
 -- what its own blocks have, the tile has
 module _ (ts : List Placed) (tile : Tile) (side : tile.side ≡ T64) (old filled new : List BlockSamples) (n a : ℕ)
-    (many : a + n ≡ planes_of_tile tile.count) (at : a ≡ 1 + count_of tile.count) (changed : slice_index (slice_index_or filled 0 none).r 0 ≢ 1)
+    (many : a + n ≡ planes_of_tile tile.count) (at : a ≡ 1 + count_of tile.count) (are_own : (k : ℕ) → way_in_tile filled k ≡ Own)
     (mark : slice_index_or new 0 none ≡ slice_index_or filled 0 none)
-    (kept : (i j s : ℕ) → s < count_of tile.count → stored_in_tile tile.count filled i j s ≡ stored_in_tile tile.count old i j s)
+    (kept : IsSameTile tile.count old filled)
     (draws : TileHasEnds ts tile (take n (drop a filled)) (take n (drop a new))) where
-  still_changed : slice_index (slice_index_or new 0 none).r 0 ≢ 1
-  still_changed e = changed (ap (λ (p : BlockSamples). slice_index p.r 0) (sym mark) ∙ e)
+  still_own : (k : ℕ) → way_in_tile new k ≡ Own
+  still_own k = ap (λ first. way_of first k) mark ∙ are_own k
 
   module _ (row column s : ℕ) (h : IsSampleOf tile row column s) where
     abbrev block : ℕ
-    block = row % 64 / 8 * 8 + column % 64 / 8
+    block = block_in_tile column row
 
     abbrev own : ℕ
     own = block * count_of tile.count + s
@@ -67,18 +68,18 @@ module _ (ts : List Placed) (tile : Tile) (side : tile.side ≡ T64) (old filled
     in_all : a + own ≡ 1 + (block + 1) * count_of tile.count + s
     in_all = ap (λ b. b + own) at ∙ own_place tile.count block s
 
-    in_own : (xs : List BlockSamples) → slice_index (slice_index_or xs 0 none).r 0 ≢ 1 → in_tile tile (take n (drop a xs)) row column s ≡ stored_in_tile tile.count xs column row s
+    in_own : (xs : List BlockSamples) → way_in_tile xs block ≡ Own → in_tile tile (take n (drop a xs)) row column s ≡ stored_in_tile tile.count xs column row s
     in_own xs is =
         ap (λ k. stored_at (slice_index_or (take n (drop a xs)) k none) pixel) place_is
         ∙ ap (λ p. stored_at p pixel) (part_of xs a n none own inside)
         ∙ ap (λ k. stored_at (slice_index_or xs k none) pixel) in_all
-        ∙ sym (at_changed tile.count xs column row s is)
+        ∙ sym (by_way tile.count xs Own column row s is)
 
     old_is : in_tile tile (take n (drop a filled)) row column s ≡ stored_in_tile tile.count old column row s
-    old_is = in_own filled changed ∙ kept column row s h.is_sample
+    old_is = in_own filled (are_own block) ∙ kept column row s h.is_sample
 
     new_is : in_tile tile (take n (drop a new)) row column s ≡ stored_in_tile tile.count new column row s
-    new_is = in_own new still_changed
+    new_is = in_own new (still_own block)
 
   pub tile_drawn : TileEnds ts tile old new
   tile_drawn row column s h = ends_at ts _ _ _ _ _ _ s _ _ _ _ refl refl refl (old_is row column s h) (new_is row column s h) (draws row column s h)
@@ -86,7 +87,7 @@ module _ (ts : List Placed) (tile : Tile) (side : tile.side ≡ T64) (old filled
 -- the tile was filled, and its own blocks, which begin at plane `a`, end as what the triangles make of them
 pub record AreDrawnOn (ts : List Placed) (tile : Tile) (count : SampleCount) (a : ℕ) (old new : List BlockSamples) : Type 0 where
   pub filled : List BlockSamples
-  pub changed : slice_index (slice_index_or filled 0 none).r 0 ≢ 1
+  pub are_own : (k : ℕ) → way_in_tile filled k ≡ Own
   pub mark : slice_index_or new 0 none ≡ slice_index_or filled 0 none
-  pub kept : (i j s : ℕ) → s < count_of count → stored_in_tile count filled i j s ≡ stored_in_tile count old i j s
+  pub kept : IsSameTile count old filled
   pub draws : TileHasEnds ts tile (take (64 * count_of count) (drop a filled)) (take (64 * count_of count) (drop a new))

@@ -1,6 +1,7 @@
 pub mod Cut
 pub mod Flat
 pub mod Places
+pub mod Ways
 pub mod TilePlanes
 pub mod Blocks
 pub mod Ends

@@ -1,12 +1,12 @@
 -- The bytes of pixels.
-use Rattle.std.proofs.Common.{◌≡◌, ◌∙◌, refl, [], ◌∷◌, ap, subst, ℕ, ◌+◌, ◌*◌, ◌/◌, ◌%◌, ◌<◌, ◌≤◌, List, take, slice_index, get_or-take, arith}
+use Rattle.std.proofs.Common.{◌≡◌, ◌∙◌, refl, [], ◌∷◌, ap, sym, subst, ℕ, ◌+◌, ◌*◌, ◌/◌, ◌%◌, ◌<◌, ◌≤◌, List, take, slice_index, get_or-take, arith}
 use Rattle.std.specs.Prelude.{slice_index_or}
 use Rattle.std.proofs.Math.Nat.{mul_comm}
 use Rattle.std.proofs.lemmas.Nat.{mul-add-lt}
 use Rattle.grid.specs.Samples.{count_of}
 use Rattle.grid.specs.declared.pixels.TileSide.TheVariants.{T8}
 use Rattle.grid.specs.declared.sample_count.SampleCount.{SampleCount}
-use Rattle.grid.specs.declared.sample_count.SampleCount.TheVariants.{One}
+use Rattle.grid.specs.declared.sample_count.SampleCount.TheVariants.{One, Two, Four, Eight, Sixteen}
 use Rattle.shade.specs.declared.sample.CanvasSample.{CanvasSample}
 use Rattle.lanes.specs.declared.block_samples.BlockSamples.{BlockSamples}
 use Rattle.lanes.specs.Block.{stored_at}
@@ -135,6 +135,35 @@ same_in_format Bgra8Straight r g b a a' n same = ap (λ a. slice_index (pixel_of
 
 pub sample_colour_same : (format : Format) (sample : CanvasSample) (f g : ℕ → ℕ) → ((k : ℕ) → k < pixel_bytes format → g k ≡ f k) → IsSampleColour format sample f → IsSampleColour format sample g
 sample_colour_same format sample f g same h = λ k small. same k small ∙ h k small
+
+-- the mean of samples that are alike is that of one of them
+resolved_alike : (count : SampleCount) (x : ℕ) → IsResolved count (λ s. x) x
+resolved_alike One x = refl
+resolved_alike Two x = record { low = omega arith; high = omega arith }
+resolved_alike Four x = record { low = omega arith; high = omega arith }
+resolved_alike Eight x = record { low = omega arith; high = omega arith }
+resolved_alike Sixteen x = record { low = omega arith; high = omega arith }
+
+resolved_of_one : (count : SampleCount) (f : ℕ → ℕ) (x : ℕ) → ((s : ℕ) → s < count_of count → f s ≡ x) → IsResolved count f x
+resolved_of_one count f x same = resolved_same count (λ s. x) f x (λ s h. sym (same s h)) (resolved_alike count x)
+
+-- so a pixel whose samples are alike has the colour of one of them
+pub pixel_alike : (count : SampleCount) (xs : List BlockSamples) (format : Format) (i j : ℕ) (sample : CanvasSample) (bytes : ℕ → ℕ) → ((s : ℕ) → s < count_of count → stored_in_tile count xs i j s ≡ sample)
+    → IsSampleColour format sample bytes → IsPixelIn count xs format i j bytes
+pixel_alike count xs format i j sample bytes same order =
+    record {
+      r = sample.r;
+      g = sample.g;
+      b = sample.b;
+      a = sample.alpha;
+      colour = record {
+        red = resolved_of_one count (λ s. (stored_in_tile count xs i j s).r) sample.r (λ s h. ap (λ (x : CanvasSample). x.r) (same s h));
+        green = resolved_of_one count (λ s. (stored_in_tile count xs i j s).g) sample.g (λ s h. ap (λ (x : CanvasSample). x.g) (same s h));
+        blue = resolved_of_one count (λ s. (stored_in_tile count xs i j s).b) sample.b (λ s h. ap (λ (x : CanvasSample). x.b) (same s h));
+      };
+      alpha = λ has. resolved_of_one count (λ s. (stored_in_tile count xs i j s).alpha) sample.alpha (λ s h. ap (λ (x : CanvasSample). x.alpha) (same s h));
+      order = order;
+    }
 
 -- of a block with one sample a pixel it is the pixel's
 pub colour_of_one : (tile : Tile) (part : List BlockSamples) (format : Format) (row column : ℕ) → tile.side ≡ T8 → tile.count ≡ One → row < 8 → column < 8 → (bytes : ℕ → ℕ)

@@ -1,6 +1,6 @@
 -- Each tile has planes of its own.
-use Rattle.std.proofs.Common.{◌≡◌, ◌≢◌, ◌∙◌, ap, sym, ℕ, ◌+◌, ◌-◌, ◌*◌, ◌/◌, ◌%◌, ◌<◌, ◌≤◌, Bool, true, false, List, [], ◌++◌, length, take, drop, slice_index, get_or-append-add, arith}
-use Rattle.std.specs.Prelude.{◌==◌, if◌then◌else◌, slice_index_or}
+use Rattle.std.proofs.Common.{◌≡◌, ◌≢◌, ◌∙◌, ap, sym, ℕ, ◌+◌, ◌-◌, ◌*◌, ◌/◌, ◌%◌, ◌<◌, ◌≤◌, List, [], ◌++◌, length, take, drop, slice_index, get_or-append-add, arith}
+use Rattle.std.specs.Prelude.{slice_index_or}
 use Rattle.std.proofs.Math.Nat.{mul_comm, add-mul}
 use Rattle.std.proofs.lemmas.List.{get_or_append_left}
 use Rattle.std.proofs.lemmas.Nat.{mul-add-lt, same_from_place}
@@ -11,19 +11,14 @@ use Rattle.lanes.specs.declared.block_samples.BlockSamples.{BlockSamples}
 use Rattle.lanes.specs.Block.{stored_at}
 use Rattle.canvas.proofs.Cut.{put, put_here, put_elsewhere, part_of}
 use Rattle.canvas.specs.declared.canvas.Canvas.{Canvas}
-use Rattle.canvas.specs.Layout.{columns_of, planes_of_tile, planes_of_row, block_of, place_in_tile, sample_in, plane_of, stored, stored_in_tile}
+use Rattle.canvas.specs.declared.way.Way.{Way}
+use Rattle.canvas.specs.declared.way.Way.TheVariants.{Cleared, Single, Own}
+use Rattle.canvas.specs.Layout.{columns_of, planes_of_tile, planes_of_row, block_in_tile, way_of, place_by, place_in_tile, sample_in, plane_of, stored, stored_in_tile}
 
 abbrev pub none : BlockSamples
 none = record { z = []; r = []; g = []; b = []; alpha = [] }
 
 -- ---- places
-one_of : (b : Bool) (n : ℕ) → n ≤ 64 → (if b then 0 else n) ≤ 64
-one_of true n h = omega arith
-one_of false n h = h
-
-pub few_blocks : (state : BlockSamples) (i j : ℕ) → block_of state i j ≤ 64
-few_blocks state i j = one_of (slice_index state.r 0 == 1) (j % 64 / 8 * 8 + i % 64 / 8 + 1) (omega arith)
-
 within_planes : (count : SampleCount) (q s : ℕ) → q ≤ 64 → s < count_of count → 1 + q * count_of count + s < planes_of_tile count
 within_planes One q s h k = omega arith
 within_planes Two q s h k = omega arith
@@ -31,8 +26,19 @@ within_planes Four q s h k = omega arith
 within_planes Eight q s h k = omega arith
 within_planes Sixteen q s h k = omega arith
 
+-- a plane of a block is one of its tile, and not the first
+pub within_way : (count : SampleCount) (way : Way) (k s : ℕ) → k < 64 → s < count_of count → place_by count way k s < planes_of_tile count
+within_way count Cleared k s l h = omega (arith, h)
+within_way count Single k s l h = let below = within_planes count (k + 1) 0 (omega (arith, l)) (omega (arith, h)) in omega (arith, below)
+within_way count Own k s l h = within_planes count (k + 1) s (omega (arith, l)) h
+
+pub behind_first : (count : SampleCount) (way : Way) (k s : ℕ) → place_by count way k s ≢ 0
+behind_first count Cleared k s e = omega (arith, e)
+behind_first count Single k s e = omega (arith, e)
+behind_first count Own k s e = omega (arith, e)
+
 pub within_tile : (count : SampleCount) (state : BlockSamples) (i j s : ℕ) → s < count_of count → place_in_tile count state i j s < planes_of_tile count
-within_tile count state i j s h = within_planes count (block_of state i j) s (few_blocks state i j) h
+within_tile count state i j s h = within_way count (way_of state (block_in_tile i j)) (block_in_tile i j) s (omega arith) h
 
 some_planes : (count : SampleCount) → 0 < planes_of_tile count
 some_planes count = omega arith

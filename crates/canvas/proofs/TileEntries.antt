@@ -12,22 +12,18 @@ use Rattle.shade.proofs.Resolved.{some_samples}
 use Rattle.lanes.specs.declared.block_samples.BlockSamples.{BlockSamples}
 use Rattle.lanes.specs.Block.{stored_at}
 use Rattle.canvas.specs.declared.canvas.Canvas.{Canvas}
-use Rattle.canvas.specs.Layout.{IsStoredIn, columns_of, planes_of_tile, planes_of_row, place_in_tile, stored, stored_in_tile}
+use Rattle.canvas.specs.declared.way.Way.TheVariants.{Cleared}
+use Rattle.canvas.specs.Layout.{IsStoredIn, columns_of, planes_of_tile, planes_of_row, block_in_tile, way_of, place_by, place_in_tile, stored, stored_in_tile, way_in_tile}
 use Rattle.canvas.specs.Colours.{id_of}
 use Rattle.canvas.specs.Tiles.{IsInTile, tile_entries, entry_in_tile, said_of, IsUniformTile, planes_in, with_colour}
 use Rattle.canvas.proofs.Cut.{part_of}
 use Rattle.canvas.proofs.Places.{none, row_of, tile_of, same_in, within_row}
-use Rattle.canvas.proofs.TilePlanes.{at_cleared}
-use Rattle.canvas.proofs.Changes.{pixel_in_block}
+use Rattle.canvas.proofs.TilePlanes.{pixel_in_block, by_way}
 
 -- ---- numbers of planes and entries
--- the number of the block of pixel (i, j) in its tile
-abbrev pub block_in : ℕ → ℕ → ℕ
-block_in i j = j % 64 / 8 * 8 + i % 64 / 8
-
 -- the number of its sample's plane among those of the tile's own blocks
 abbrev pub number_in : SampleCount → ℕ → ℕ → ℕ → ℕ
-number_in count i j s = block_in i j * count_of count + s
+number_in count i j s = block_in_tile i j * count_of count + s
 
 pub number_below : (count : SampleCount) (q s : ℕ) → q < 64 → s < count_of count → q * count_of count + s < 64 * count_of count
 number_below One q s h l = omega (arith, h, l)
@@ -56,13 +52,13 @@ place_of_number count state number = place_in_tile count state (8 * (number / co
 
 pub place_is : (count : SampleCount) (state : BlockSamples) (i j s : ℕ) → s < count_of count → place_of_number count state (number_in count i j s) ≡ place_in_tile count state i j s
 place_is count state i j s h =
-    let q : ℕ = block_in i j in
+    let q : ℕ = block_in_tile i j in
     let column : 8 * (q % 8) % 64 / 8 ≡ i % 64 / 8 = omega arith in
     let row : 8 * (q / 8) % 64 / 8 ≡ j % 64 / 8 = omega arith in
-    let blocks : 8 * (q / 8) % 64 / 8 * 8 + 8 * (q % 8) % 64 / 8 ≡ q = omega (arith, column, row) in
+    let blocks : block_in_tile (8 * (q % 8)) (8 * (q / 8)) ≡ q = omega (arith, column, row) in
     ap (λ b. place_in_tile count state (8 * (b % 8)) (8 * (b / 8)) (number_in count i j s % count_of count)) (block_of_number count q s h)
     ∙ ap (λ t. place_in_tile count state (8 * (q % 8)) (8 * (q / 8)) t) (index_of_number count q s h)
-    ∙ ap (λ b. 1 + (if slice_index state.r 0 == 1 then 0 else (b + 1)) * count_of count + s) blocks
+    ∙ ap (λ b. place_by count (way_of state b) b s) blocks
 
 -- ---- what entries say
 module _ (count : SampleCount) (xs : List ℕ) (i j s : ℕ) where
@@ -85,21 +81,21 @@ many_entries count = let some : 0 < count_of count = some_samples count in omega
 
 -- ---- a tile whose samples have one id
 module _ (count : SampleCount) (xs : List BlockSamples) where
-  pub uniform_plane : IsUniformTile count xs → (s k : ℕ) → s < count_of count → k < 64 → id_of (stored_at (slice_index_or xs (1 + s) none) k) ≡ id_of (stored_at (slice_index_or xs 1 none) 0)
-  uniform_plane u s k h l =
+  pub uniform_plane : IsUniformTile count xs → (k : ℕ) → k < 64 → id_of (stored_at (slice_index_or xs 1 none) k) ≡ id_of (stored_at (slice_index_or xs 1 none) 0)
+  uniform_plane u k l =
       let pixel : pixel_in_block (k % 8) (k / 8) ≡ k = omega (arith, l) in
-      sym (ap id_of (at_cleared count xs (k % 8) (k / 8) s u.mark ∙ ap (stored_at (slice_index_or xs (1 + s) none)) pixel))
-      ∙ u.one (k % 8) (k / 8) s h
-      ∙ ap id_of (at_cleared count xs 0 0 0 u.mark)
+      sym (ap id_of (by_way count xs Cleared (k % 8) (k / 8) 0 (u.cleared (block_in_tile (k % 8) (k / 8)) (omega arith)) ∙ ap (stored_at (slice_index_or xs 1 none)) pixel))
+      ∙ u.one (k % 8) (k / 8) 0 (some_samples count)
+      ∙ ap id_of (by_way count xs Cleared 0 0 0 (u.cleared 0 (omega arith)))
 
-  pub all_uniform : (id : ℕ) → slice_index (slice_index_or xs 0 none).r 0 ≡ 1 → ((s k : ℕ) → s < count_of count → k < 64 → id_of (stored_at (slice_index_or xs (1 + s) none) k) ≡ id)
+  pub all_uniform : (id : ℕ) → ((k : ℕ) → k < 64 → way_in_tile xs k ≡ Cleared) → ((k : ℕ) → k < 64 → id_of (stored_at (slice_index_or xs 1 none) k) ≡ id)
       → (i j s : ℕ) → s < count_of count → id_of (stored_in_tile count xs i j s) ≡ id
-  all_uniform id mark same i j s h = ap id_of (at_cleared count xs i j s mark) ∙ same s (pixel_in_block i j) h (omega arith)
+  all_uniform id cleared same i j s h = ap id_of (by_way count xs Cleared i j s (cleared (block_in_tile i j) (omega arith))) ∙ same (pixel_in_block i j) (omega arith)
 
-  pub is_uniform : (id : ℕ) → slice_index (slice_index_or xs 0 none).r 0 ≡ 1 → ((s k : ℕ) → s < count_of count → k < 64 → id_of (stored_at (slice_index_or xs (1 + s) none) k) ≡ id) → IsUniformTile count xs
-  is_uniform id mark same = record {
-    mark = mark;
-    one = λ i j s h. all_uniform id mark same i j s h ∙ sym (all_uniform id mark same 0 0 0 (some_samples count));
+  pub is_uniform : (id : ℕ) → ((k : ℕ) → k < 64 → way_in_tile xs k ≡ Cleared) → ((k : ℕ) → k < 64 → id_of (stored_at (slice_index_or xs 1 none) k) ≡ id) → IsUniformTile count xs
+  is_uniform id cleared same = record {
+    cleared = cleared;
+    one = λ i j s h. all_uniform id cleared same i j s h ∙ sym (all_uniform id cleared same 0 0 0 (some_samples count));
   }
 
 pub uniform_same : (count : SampleCount) (xs ys : List BlockSamples) → ((k : ℕ) → k < planes_of_tile count → slice_index_or ys k none ≡ slice_index_or xs k none) → IsUniformTile count xs → IsUniformTile count ys
@@ -108,7 +104,7 @@ uniform_same count xs ys same u =
     let sample : (i j s : ℕ) → s < count_of count → stored_in_tile count ys i j s ≡ stored_in_tile count xs i j s =
     λ i j s h. same_in count (λ k. slice_index_or ys k none) (λ k. slice_index_or xs k none) i j s h same in
     record {
-      mark = ap (λ (p : BlockSamples). slice_index p.r 0) first ∙ u.mark;
+      cleared = λ k l. ap (λ (p : BlockSamples). way_of p k) first ∙ u.cleared k l;
       one = λ i j s h. ap id_of (sample i j s h) ∙ u.one i j s h ∙ sym (ap id_of (sample 0 0 0 (some_samples count)));
     }
 

@@ -1,89 +1,129 @@
 -- The planes of one tile.
-use Rattle.std.proofs.Common.{◌≡◌, ◌≢◌, ◌∙◌, inl, inr, refl, ap, sym, ℕ, ◌+◌, ◌-◌, ◌*◌, ◌/◌, ◌%◌, ◌<◌, ◌≤◌, List, [], ◌∷◌, length, slice_index, slice_set, arith}
-use Rattle.std.specs.Prelude.{if◌then◌else◌, slice_index_or}
-use Rattle.std.proofs.lemmas.Bool.Decides.{eqb_tells}
-use Rattle.std.proofs.lemmas.List.{get_or-set_same}
+use Rattle.std.proofs.Common.{◌≡◌, ◌≢◌, ◌⊎◌, ◌∙◌, inl, inr, refl, ap, sym, subst, ℕ, ◌+◌, ◌-◌, ◌*◌, ◌/◌, ◌%◌, ◌<◌, ◌≤◌, List, [], ◌∷◌, length, slice_index, slice_set, arith}
+use Rattle.std.specs.Prelude.{slice_index_or}
+use Rattle.std.proofs.lemmas.Bool.{cases_lt}
+use Rattle.std.proofs.lemmas.List.{get_or-set_same, get_or-set_other, length-set}
+use Rattle.std.proofs.Math.Nat.{add-mul}
+use Rattle.std.proofs.lemmas.Nat.{same_from_place}
 use Rattle.grid.specs.Samples.{count_of}
 use Rattle.grid.specs.declared.sample_count.SampleCount.{SampleCount}
 use Rattle.grid.specs.declared.sample_count.SampleCount.TheVariants.{One, Two, Four, Eight, Sixteen}
 use Rattle.shade.specs.declared.sample.CanvasSample.{CanvasSample}
+use Rattle.shade.proofs.Resolved.{some_samples}
 use Rattle.lanes.specs.declared.block_samples.BlockSamples.{BlockSamples}
 use Rattle.lanes.specs.Block.{stored_at}
-use Rattle.canvas.specs.Layout.{planes_of_tile, block_of, stored_in_tile}
-use Rattle.canvas.proofs.Places.{none}
+use Rattle.canvas.specs.declared.way.Way.{Way}
+use Rattle.canvas.specs.declared.way.Way.TheVariants.{Cleared, Single, Own}
+use Rattle.canvas.specs.Layout.{planes_of_tile, block_in_tile, way_of, place_by, place_in_tile, stored_in_tile, way_in_tile, IsSameTile, KeepsOtherWays}
+use Rattle.canvas.proofs.Places.{none, behind_first}
+use Rattle.canvas.proofs.Ways.{own_not_cleared}
 
-pub block_cleared : (state : BlockSamples) (i j : ℕ) → slice_index state.r 0 ≡ 1 → block_of state i j ≡ 0
-block_cleared state i j e =
-    elim (eqb_tells (slice_index state.r 0) 1) [
-      | inl same ↦ ap (λ b. if b then 0 else (j % 64 / 8 * 8 + i % 64 / 8 + 1)) same.0
-      | inr other ↦ absurd (other.1 e)
+pub cases_eq : (a b : ℕ) → (a ≡ b) ⊎ (a ≢ b)
+cases_eq a b =
+    elim (cases_lt a b) [
+      | inl less ↦ inr (λ e. omega (arith, e, less))
+      | inr from ↦ elim (cases_lt b a) [ inl more ↦ inr (λ e. omega (arith, e, more)) | inr to ↦ inl (omega (arith, from, to)) ]
     ]
 
-pub block_changed : (state : BlockSamples) (i j : ℕ) → slice_index state.r 0 ≢ 1 → block_of state i j ≡ j % 64 / 8 * 8 + i % 64 / 8 + 1
-block_changed state i j e =
-    elim (eqb_tells (slice_index state.r 0) 1) [
-      | inl same ↦ absurd (e same.1)
-      | inr other ↦ ap (λ b. if b then 0 else (j % 64 / 8 * 8 + i % 64 / 8 + 1)) other.0
-    ]
+abbrev pub pixel_in_block : ℕ → ℕ → ℕ
+pixel_in_block i j = 8 * (j % 8) + i % 8
 
-module _ (count : SampleCount) (xs : List BlockSamples) (i j s : ℕ) where
-  abbrev pixel : ℕ
-  pixel = 8 * (j % 8) + i % 8
+-- ---- one of its samples, by the way in which its block keeps them
+pub by_way : (count : SampleCount) (xs : List BlockSamples) (way : Way) (i j s : ℕ) → way_in_tile xs (block_in_tile i j) ≡ way
+    → stored_in_tile count xs i j s ≡ stored_at (slice_index_or xs (place_by count way (block_in_tile i j) s) none) (pixel_in_block i j)
+by_way count xs way i j s e = ap (λ w. stored_at (slice_index_or xs (place_by count w (block_in_tile i j) s) none) (pixel_in_block i j)) e
 
-  -- one of its samples, while the tile is unchanged since it was cleared, and later
-  pub at_cleared : slice_index (slice_index_or xs 0 none).r 0 ≡ 1 → stored_in_tile count xs i j s ≡ stored_at (slice_index_or xs (1 + s) none) pixel
-  at_cleared e =
-      ap (λ b. stored_at (slice_index_or xs (1 + b * count_of count + s) none) pixel) (block_cleared (slice_index_or xs 0 none) i j e)
-      ∙ ap (λ k. stored_at (slice_index_or xs k none) pixel) (let same : 1 + 0 * count_of count + s ≡ 1 + s = omega arith in same)
+-- the same way and the same plane: the same sample
+pub same_by_way : (count : SampleCount) (old new : List BlockSamples) (i j s : ℕ) → way_in_tile new (block_in_tile i j) ≡ way_in_tile old (block_in_tile i j)
+    → slice_index_or new (place_by count (way_in_tile old (block_in_tile i j)) (block_in_tile i j) s) none ≡ slice_index_or old (place_by count (way_in_tile old (block_in_tile i j)) (block_in_tile i j) s) none
+    → stored_in_tile count new i j s ≡ stored_in_tile count old i j s
+same_by_way count old new i j s way plane = by_way count new (way_in_tile old (block_in_tile i j)) i j s way ∙ ap (λ p. stored_at p (pixel_in_block i j)) plane
 
-  pub at_changed : slice_index (slice_index_or xs 0 none).r 0 ≢ 1
-      → stored_in_tile count xs i j s ≡ stored_at (slice_index_or xs (1 + (j % 64 / 8 * 8 + i % 64 / 8 + 1) * count_of count + s) none) pixel
-  at_changed e = ap (λ b. stored_at (slice_index_or xs (1 + b * count_of count + s) none) pixel) (block_changed (slice_index_or xs 0 none) i j e)
+-- ---- the own planes of a block
+-- no other block has them
+own_apart : (count : SampleCount) (way : Way) (m k s t : ℕ) → m ≢ k → s < count_of count → t < count_of count → place_by count way m s ≢ 1 + (k + 1) * count_of count + t
+own_apart count Cleared m k s t other h l e = omega (arith, e, add-mul k 1 (count_of count), h)
+own_apart count Single m k s t other h l e = other (omega (arith, (same_from_place (m + 1) 0 (k + 1) t (count_of count) (omega (arith, h)) l (omega (arith, e))).0))
+own_apart count Own m k s t other h l e = other (omega (arith, (same_from_place (m + 1) s (k + 1) t (count_of count) h l (omega (arith, e))).0))
 
--- ---- cleared
-pub tile_cleared : (count : SampleCount) (xs : List BlockSamples) (plane : BlockSamples) (sample : CanvasSample) → slice_index (slice_index_or xs 0 none).r 0 ≡ 1
-    → ((s : ℕ) → s < count_of count → slice_index_or xs (1 + s) none ≡ plane) → ((k : ℕ) → k < 64 → stored_at plane k ≡ sample)
-    → (i j s : ℕ) → s < count_of count → stored_in_tile count xs i j s ≡ sample
-tile_cleared count xs plane sample e planes all i j s h =
-    at_cleared count xs i j s e ∙ ap (λ p. stored_at p (8 * (j % 8) + i % 8)) (planes s h) ∙ all (8 * (j % 8) + i % 8) (omega arith)
+pub apart : (count : SampleCount) (way way' : Way) (m k s t : ℕ) → m ≢ k → s < count_of count → t < count_of count → way' ≢ Cleared → place_by count way m s ≢ place_by count way' k t
+apart count way Cleared m k s t other h l own = absurd (own refl)
+apart count way Single m k s t other h l own = λ e. own_apart count way m k s 0 other h (some_samples count) (omega (arith, e))
+apart count way Own m k s t other h l own = own_apart count way m k s t other h l
 
--- ---- filled
-within_block : (count : SampleCount) (b s : ℕ) → s < count_of count → (1 + b * count_of count + s - 1) % count_of count ≡ s
-within_block One b s h = omega (arith, h)
-within_block Two b s h = omega (arith, h)
-within_block Four b s h = omega (arith, h)
-within_block Eight b s h = omega (arith, h)
-within_block Sixteen b s h = omega (arith, h)
+-- the planes behind the first are unchanged but those of block k
+abbrev pub KeepsOthers : SampleCount → ℕ → List BlockSamples → List BlockSamples → Type 0
+KeepsOthers count k old new = (p : ℕ) → p ≢ 0 → ((t : ℕ) → t < count_of count → p ≢ place_by count Own k t) → slice_index_or new p none ≡ slice_index_or old p none
 
-last_place : (count : SampleCount) (q s : ℕ) → q < 64 → s < count_of count → 1 + (q + 1) * count_of count + s < planes_of_tile count
-last_place One q s h k = omega (arith, h, k)
-last_place Two q s h k = omega (arith, h, k)
-last_place Four q s h k = omega (arith, h, k)
-last_place Eight q s h k = omega (arith, h, k)
-last_place Sixteen q s h k = omega (arith, h, k)
+pub others_same : (count : SampleCount) (k : ℕ) (old new : List BlockSamples) → KeepsOtherWays k old new → KeepsOthers count k old new
+    → (i j s : ℕ) → s < count_of count → block_in_tile i j ≢ k → stored_in_tile count new i j s ≡ stored_in_tile count old i j s
+others_same count k old new ways planes i j s h other =
+    let m : ℕ = block_in_tile i j in
+    let way = way_in_tile old m in
+    same_by_way count old new i j s (ways m (omega arith) other) (planes (place_by count way m s) (behind_first count way m s) (λ t l. apart count way Own m k s t other h l own_not_cleared))
 
--- the planes before this place are those of the cleared block, again and again
-abbrev pub AreFilled : SampleCount → List BlockSamples → ℕ → List BlockSamples → Type 0
-AreFilled count old place xs = (k : ℕ) → 1 ≤ k → k < place → slice_index_or xs k none ≡ slice_index_or old (1 + (k - 1) % count_of count) none
+-- the first plane, changed
+pub way_set : (xs : List BlockSamples) (state : BlockSamples) (m : ℕ) (way : Way) → 0 < length xs → way_of state m ≡ way → way_in_tile (slice_set xs 0 state) m ≡ way
+way_set xs state m way some e = ap (λ first. way_of first m) (get_or-set_same xs 0 state none some) ∙ e
 
-pub tile_filled : (count : SampleCount) (old new : List BlockSamples) → slice_index (slice_index_or old 0 none).r 0 ≡ 1 → slice_index (slice_index_or new 0 none).r 0 ≢ 1
-    → AreFilled count old (planes_of_tile count) new → (i j s : ℕ) → s < count_of count → stored_in_tile count new i j s ≡ stored_in_tile count old i j s
-tile_filled count old new was is filled i j s h =
-    let q : ℕ = j % 64 / 8 * 8 + i % 64 / 8 in
-    at_changed count new i j s is
-    ∙ ap (λ p. stored_at p (8 * (j % 8) + i % 8)) (filled (1 + (q + 1) * count_of count + s) (omega arith) (last_place count q s (omega arith) h))
-    ∙ ap (λ m. stored_at (slice_index_or old (1 + m) none) (8 * (j % 8) + i % 8)) (within_block count (q + 1) s h)
-    ∙ sym (at_cleared count old i j s was)
+pub behind_set : (xs : List BlockSamples) (state : BlockSamples) (p : ℕ) → p ≢ 0 → slice_index_or (slice_set xs 0 state) p none ≡ slice_index_or xs p none
+behind_set xs state p behind = get_or-set_other xs 0 p state none behind
 
-unmarked : (xs : List ℕ) → slice_index (slice_set xs 0 0) 0 ≡ 0
-unmarked [] = refl
-unmarked (x ∷ xs) = refl
+-- the first t own planes of block k are this one, and all planes but its own are unchanged
+pub record AreFilled (count : SampleCount) (k t : ℕ) (plane : BlockSamples) (old new : List BlockSamples) : Type 0 where
+  pub filled : (s : ℕ) → s < t → slice_index_or new (place_by count Own k s) none ≡ plane
+  pub kept : (p : ℕ) → ((s : ℕ) → s < count_of count → p ≢ place_by count Own k s) → slice_index_or new p none ≡ slice_index_or old p none
 
-pub not_marked : (xs : List BlockSamples) (state : BlockSamples) (r : List ℕ) → state.r ≡ slice_set r 0 0 → 0 < length xs → slice_index (slice_index_or (slice_set xs 0 state) 0 none).r 0 ≢ 1
-not_marked xs state r is some e =
-    let same : slice_index (slice_index_or (slice_set xs 0 state) 0 none).r 0 ≡ 0 =
-    ap (λ (p : BlockSamples). slice_index p.r 0) (get_or-set_same xs 0 state none some) ∙ ap (λ ys. slice_index ys 0) is ∙ unmarked r in
-    omega (arith, e, same)
+pub one_filled : (count : SampleCount) (k t at : ℕ) (plane : BlockSamples) (old xs : List BlockSamples) → at ≡ place_by count Own k t → at < length xs → t < count_of count
+    → AreFilled count k t plane old xs → AreFilled count k (t + 1) plane old (slice_set xs at plane)
+one_filled count k t at plane old xs is room h before = record {
+  filled = λ s l.
+      elim (cases_lt s t) [
+        | inl less ↦ get_or-set_other xs at (place_by count Own k s) plane none (λ e. omega (arith, e, is, less)) ∙ before.filled s less
+        | inr more ↦
+            let here : place_by count Own k s ≡ at = omega (arith, l, more, is) in
+            ap (λ p. slice_index_or (slice_set xs at plane) p none) here ∙ get_or-set_same xs at plane none room
+      ];
+  kept = λ p other. get_or-set_other xs at p plane none (λ e. other t h (e ∙ is)) ∙ before.kept p other;
+}
+
+-- the way of a block that one plane stands for
+pub one_place : (count : SampleCount) (way : Way) (k s : ℕ) → way ≢ Own → place_by count way k s ≡ place_by count way k 0
+one_place count Cleared k s other = refl
+one_place count Single k s other = refl
+one_place count Own k s other = absurd (other refl)
+
+-- block k has its own planes, and its samples are unchanged
+module _ (count : SampleCount) (k : ℕ) (way : Way) (old filled : List BlockSamples) (state : BlockSamples) (some : 0 < length filled) (was : way_in_tile old k ≡ way) (other : way ≢ Own)
+    (own : way_of state k ≡ Own) (others : (m : ℕ) → m < 64 → m ≢ k → way_of state m ≡ way_of (slice_index_or filled 0 none) m)
+    (planes : AreFilled count k (count_of count) (slice_index_or old (place_by count way k 0) none) old filled) where
+  abbrev new : List BlockSamples
+  new = slice_set filled 0 state
+
+  pub block_own : way_in_tile new k ≡ Own
+  block_own = way_set filled state k Own some own
+
+  first_kept : slice_index_or filled 0 none ≡ slice_index_or old 0 none
+  first_kept = planes.kept 0 (λ s h e. behind_first count Own k s (sym e))
+
+  pub block_ways : KeepsOtherWays k old new
+  block_ways m small apart = way_set filled state m (way_in_tile old m) some (others m small apart ∙ ap (λ first. way_of first m) first_kept)
+
+  others_kept : KeepsOthers count k old new
+  others_kept p behind apart = behind_set filled state p behind ∙ planes.kept p apart
+
+  pub block_same : IsSameTile count old new
+  block_same i j s h =
+      elim (cases_eq (block_in_tile i j) k) [
+        | inr apart ↦ others_same count k old new block_ways others_kept i j s h apart
+        | inl here ↦
+            by_way count new Own i j s (ap (way_in_tile new) here ∙ block_own)
+            ∙ ap (λ m. stored_at (slice_index_or new (place_by count Own m s) none) (pixel_in_block i j)) here
+            ∙ ap (λ plane. stored_at plane (pixel_in_block i j)) (behind_set filled state (place_by count Own k s) (behind_first count Own k s) ∙ planes.filled s h)
+            ∙ ap (λ p. stored_at (slice_index_or old p none) (pixel_in_block i j)) (sym (one_place count way k s other))
+            ∙ ap (λ m. stored_at (slice_index_or old (place_by count way m s) none) (pixel_in_block i j)) (sym here)
+            ∙ sym (by_way count old way i j s (ap (way_in_tile old) here ∙ was))
+      ]
 
 -- ---- the own blocks of a tile, behind its first planes
 pub own_place : (count : SampleCount) (q s : ℕ) → 1 + count_of count + (q * count_of count + s) ≡ 1 + (q + 1) * count_of count + s

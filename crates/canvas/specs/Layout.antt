@@ -1,11 +1,13 @@
 -- Where the samples of a picture lie, in planes that the caller keeps.
-use Rattle.std.specs.Prelude.{ℕ, ◌+◌, ◌-◌, ◌*◌, ◌/◌, ◌%◌, ◌<◌, ◌≤◌, ◌==◌, if◌then◌else◌, List, [], slice_index, slice_index_or}
+use Rattle.std.specs.Prelude.{◌≡◌, ◌≢◌, ℕ, ◌+◌, ◌-◌, ◌*◌, ◌/◌, ◌%◌, ◌<◌, ◌≤◌, ◌==◌, if◌then◌else◌, List, [], slice_index, slice_index_or}
 use Rattle.grid.specs.Samples.{count_of}
 use Rattle.grid.specs.declared.sample_count.SampleCount.{SampleCount}
 use Rattle.shade.specs.declared.sample.CanvasSample.{CanvasSample}
 use Rattle.lanes.specs.declared.block_samples.BlockSamples.{BlockSamples}
 use Rattle.lanes.specs.Block.{stored_at}
 use Rattle.canvas.specs.declared.canvas.Canvas.{Canvas}
+use Rattle.canvas.specs.declared.way.Way.{Way}
+use Rattle.canvas.specs.declared.way.Way.TheVariants.{Cleared, Single, Own}
 
 -- A picture is at most 4096 by 4096 pixels, and not empty (this project's limits).
 pub record IsCanvasSize (width height : ℕ) : Type 0 where
@@ -22,8 +24,8 @@ columns_of c = (c.width + 63) / 64
 abbrev pub rows_of : Canvas → ℕ
 rows_of c = (c.height + 63) / 64
 
--- How many planes a tile has. One says whether the tile is unchanged since it was cleared. Each of 65 blocks of 8 by 8 pixels has one
--- for each sample of a pixel: the first block has the samples to which the tile was cleared, and the others are its own.
+-- How many planes a tile has. One says in which way each of its blocks keeps its samples. Each of 65 blocks of 8 by 8 pixels has one
+-- for each sample of a pixel: the first is that to which the tile was cleared, which uses one of them, and the others are its own.
 abbrev pub planes_of_tile : SampleCount → ℕ
 planes_of_tile count = 1 + 65 * count_of count
 
@@ -56,15 +58,26 @@ pub record HasTile (c : Canvas) (first end : ℕ) (column row : ℕ) : Type 0 wh
   pub from : first ≤ row
   pub below : row < end
 
--- The number of the block of pixel (i, j) in its tile, whose first plane this is. While its first red byte is 1, the tile is
--- unchanged since it was cleared, and block 0 stands for all of its blocks. Else these are numbered from 1 on, row by row.
-abbrev pub block_of : BlockSamples → ℕ → ℕ → ℕ
-block_of state i j = if slice_index state.r 0 == 1 then 0 else (j % 64 / 8 * 8 + i % 64 / 8 + 1)
+-- The number of the block of pixel (i, j) among the 64 of its tile, row by row.
+abbrev pub block_in_tile : ℕ → ℕ → ℕ
+block_in_tile i j = j % 64 / 8 * 8 + i % 64 / 8
 
--- The index of the plane of sample s of pixel (i, j) among those of its tile, whose first plane this is. The planes of a block lie
--- together, sample by sample.
+-- The way in which block k of a tile keeps its samples, by the tile's first plane: its red byte k says so, unless its first green
+-- byte is 0, which stands for 64 own blocks.
+abbrev pub way_of : BlockSamples → ℕ → Way
+way_of state k =
+    if slice_index state.g 0 == 0 then Own else (if slice_index state.r k == 1 then Cleared else (if slice_index state.r k == 2 then Single else Own))
+
+-- The index of the plane of sample s of block k among those of its tile, if the block keeps its samples in this way. Plane 1 is that
+-- of the block to which the tile was cleared. The own planes of a block lie together, sample by sample.
+abbrev pub place_by : SampleCount → Way → ℕ → ℕ → ℕ
+place_by count Cleared k s = 1
+place_by count Single k s = 1 + (k + 1) * count_of count
+place_by count Own k s = 1 + (k + 1) * count_of count + s
+
+-- The index of the plane of sample s of pixel (i, j) among those of its tile, whose first plane this is.
 abbrev pub place_in_tile : SampleCount → BlockSamples → ℕ → ℕ → ℕ → ℕ
-place_in_tile count state i j s = 1 + block_of state i j * count_of count + s
+place_in_tile count state i j s = place_by count (way_of state (block_in_tile i j)) (block_in_tile i j) s
 
 -- Sample s of pixel (i, j), by the planes of its tile. A plane has one sample of each pixel of the block, row by row.
 abbrev pub sample_in : SampleCount → (ℕ → BlockSamples) → ℕ → ℕ → ℕ → CanvasSample
@@ -82,3 +95,15 @@ stored c first samples i j s = sample_in c.count (plane_of c first samples i j) 
 -- Sample s of the pixel in a column and a row of a tile, as it is stored in the tile's planes.
 abbrev pub stored_in_tile : SampleCount → List BlockSamples → ℕ → ℕ → ℕ → CanvasSample
 stored_in_tile count samples i j s = sample_in count (λ k. slice_index_or samples k (record { z = []; r = []; g = []; b = []; alpha = [] })) i j s
+
+-- The way in which block k of a tile keeps its samples, by the tile's planes.
+abbrev pub way_in_tile : List BlockSamples → ℕ → Way
+way_in_tile samples k = way_of (slice_index_or samples 0 (record { z = []; r = []; g = []; b = []; alpha = [] })) k
+
+-- Each sample of the tile is unchanged. It may be kept in another way.
+abbrev pub IsSameTile : SampleCount → List BlockSamples → List BlockSamples → Type 0
+IsSameTile count old new = (i j s : ℕ) → s < count_of count → stored_in_tile count new i j s ≡ stored_in_tile count old i j s
+
+-- All blocks of the tile but block k keep their samples in the way in which they did.
+abbrev pub KeepsOtherWays : ℕ → List BlockSamples → List BlockSamples → Type 0
+KeepsOtherWays k old new = (m : ℕ) → m < 64 → m ≢ k → way_in_tile new m ≡ way_in_tile old m

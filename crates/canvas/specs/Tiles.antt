@@ -7,7 +7,8 @@ use Rattle.lanes.specs.declared.block_samples.BlockSamples.{BlockSamples}
 use Rattle.canvas.specs.declared.canvas.Canvas.{Canvas}
 use Rattle.canvas.specs.declared.misfit.Misfit.{Misfit}
 use Rattle.canvas.specs.declared.misfit.Misfit.TheVariants as why
-use Rattle.canvas.specs.Layout.{IsStoredIn, HasTile, planes_of_tile, planes_of_row, stored, stored_in_tile}
+use Rattle.canvas.specs.Layout.{IsStoredIn, HasTile, planes_of_tile, planes_of_row, block_in_tile, stored, stored_in_tile, way_in_tile}
+use Rattle.canvas.specs.declared.way.Way.TheVariants.{Cleared}
 use Rattle.canvas.specs.Colours.{id_of}
 use Rattle.canvas.specs.Loaded.{AreChanged}
 
@@ -23,7 +24,7 @@ tile_entries count = 4096 * count_of count
 -- The entry of sample s of pixel (i, j) among those of its tile. Blocks of 8 by 8 pixels lie row by row, in a block sample index by sample
 -- index, and of each the pixels row by row.
 abbrev pub entry_in_tile : SampleCount → ℕ → ℕ → ℕ → ℕ
-entry_in_tile count i j s = ((j % 64 / 8 * 8 + i % 64 / 8) * count_of count + s) * 64 + (8 * (j % 8) + i % 8)
+entry_in_tile count i j s = (block_in_tile i j * count_of count + s) * 64 + (8 * (j % 8) + i % 8)
 
 -- What the entries say of sample s of pixel (i, j): one entry speaks for all samples of the tile.
 abbrev pub said_of : SampleCount → List ℕ → ℕ → ℕ → ℕ → ℕ
@@ -47,9 +48,9 @@ abbrev pub AreTileIds : Canvas → ℕ → ℕ → ℕ → ℕ → List BlockSam
 AreTileIds c first end column row samples ids =
     (i j s : ℕ) → IsStoredIn c first end i j s → IsInTile column row i j → said_of c.count ids i j s ≡ id_of (stored c first samples i j s)
 
--- The tile with these planes is unchanged since it was cleared, and all of its samples have one id.
+-- All blocks of the tile are kept as the one to which it was cleared, and all of its samples have one id.
 pub record IsUniformTile (count : SampleCount) (samples : List BlockSamples) : Type 0 where
-  pub mark : slice_index (slice_index_or samples 0 (record { z = []; r = []; g = []; b = []; alpha = [] })).r 0 ≡ 1
+  pub cleared : (k : ℕ) → k < 64 → way_in_tile samples k ≡ Cleared
   pub one : (i j s : ℕ) → s < count_of count → id_of (stored_in_tile count samples i j s) ≡ id_of (stored_in_tile count samples 0 0 0)
 
 -- The planes of the tile in a column and a row of tiles.

@@ -1,9 +1,10 @@
 //! The colours of pixels, written to the caller's memory.
-ghost use Rattle.std.specs.Prelude.{◌≡◌, false, ◌≢◌, ◌↔◌, ◌⊎◌, ℕ, ◌+◌, ◌-◌, ◌*◌, ◌/◌, ◌<◌, ◌≤◌, length, take, slice_index, IsOk, IsTrue, OnOk, OnErr, IfErr};
+ghost use Rattle.std.specs.Prelude.{◌≡◌, slice_index_or, [], false, ◌≢◌, ◌↔◌, ◌⊎◌, ℕ, ◌+◌, ◌-◌, ◌*◌, ◌/◌, ◌<◌, ◌≤◌, length, take, slice_index, IsOk, IsTrue, OnOk, OnErr, IfErr};
 ghost use Rattle.grid.specs.Pixels.{side_of};
 ghost use Rattle.grid.specs.Samples.{count_of};
 ghost use Rattle.grid.specs.declared.sample_count.SampleCount.TheVariants.{One, Four};
 ghost use Rattle.raster.specs.Samples.{planes_of};
+ghost use Rattle.lanes.specs.Block.{stored_at};
 ghost use Rattle.canvas.specs.Layout.{columns_of, rows_of, planes_of_tile, planes_of_row, stored};
 ghost use Rattle.canvas.specs.Pixels.{pixel_bytes, IsLargeEnough};
 ghost use Rattle.canvas.specs.Entries.{FitEntries, IsEntriesMisfit};
@@ -12,8 +13,9 @@ ghost use Rattle.canvas.specs.Colours.{IsPixelOf, IsPixelIn, IsTilePixel, IsSamp
 use crate::canvas::Canvas;
 use crate::format::{Format, arranged};
 use crate::misfit::Misfit;
-use crate::tile_planes::is_cleared;
+use crate::place::{block_in_tile, place_by};
 use crate::view::View;
+use crate::way::{Way, way_of};
 use grid::{SampleCount, TileSide};
 use lanes::BlockSamples;
 use raster::{Tile, alphas_by, colours_by};
@@ -85,6 +87,28 @@ fn resolve_run<const MORE: bool>(
     }
 }
 
+/// Writes the first `count` of the eight pixels in a row of a block, whose colours are those of the samples of one
+/// plane.
+#[inline(always)]
+fn resolve_plane(planes: &[BlockSamples], row: u32, format: Format, count: u32, bytes: &mut [u8])
+    requires planes { length planes.now ≡ 1 }
+    requires row { row < 8 }
+    requires count { count ≤ 8 }
+    requires bytes { length bytes.old ≡ count * pixel_bytes format }
+    ensures { (i : ℕ) → i < count →
+        IsSampleColour format (stored_at (slice_index_or planes.now 0 (record { z = []; r = []; g = []; b = []; alpha = [] })) (8 * row + i))
+        (λ k. slice_index bytes.new (i * pixel_bytes format + k)) }
+{
+    // A block of one sample a pixel resolves to that sample.
+    let one = Tile {
+        bx: 0,
+        by: 0,
+        side: TileSide::T8,
+        count: SampleCount::One,
+    };
+    resolve_run::<false>(&one, planes, row, 0, format, count, bytes);
+}
+
 impl Canvas {
     /// Writes the first `count` of eight pixels of row `j`, from column 8 * `block` on, from the planes of their tile,
     /// whose own blocks begin at plane `own`.
@@ -110,15 +134,9 @@ impl Canvas {
             IsPixelIn self.now.count samples.now format (8 * block + i) j
             (λ k. slice_index bytes.new (i * pixel_bytes format + k)) }
     {
-        if is_cleared(&samples[0]) {
-            let cleared = Tile {
-                bx: 0,
-                by: 0,
-                side: TileSide::T8,
-                count: self.count,
-            };
-            resolve_run::<MORE>(&cleared, &samples[1..own], j % 8, 0, format, count, bytes);
-        } else {
+        let number = block_in_tile(8 * block, j);
+        let way = way_of(&samples[0], number);
+        if let Way::Own = way {
             let tile = self.tile(block / 8, j / 64);
             resolve_run::<MORE>(
                 &tile,
@@ -129,6 +147,9 @@ impl Canvas {
                 count,
                 bytes,
             );
+        } else {
+            let place = place_by(self.count, way, number, 0);
+            resolve_plane(&samples[place..place + 1], j % 8, format, count, bytes);
         }
     }
 
@@ -194,23 +215,14 @@ impl Canvas {
             IsSampleColour format (stored self.now (j / 64) samples.now i j s)
             (λ k. slice_index bytes.new (i * pixel_bytes format + k)) }
     {
-        // A block of one sample a pixel resolves to that sample.
-        let one = Tile {
-            bx: 0,
-            by: 0,
-            side: TileSide::T8,
-            count: SampleCount::One,
-        };
         let unit = format.pixel_bytes();
         for block in 0..(self.width + 7) / 8 {
             let count = (self.width - 8 * block).min(8);
             let place = self.place(samples, 8 * block, j, s);
             let from = 8 * block as usize * unit;
-            resolve_run::<false>(
-                &one,
+            resolve_plane(
                 &samples[place..place + 1],
                 j % 8,
-                0,
                 format,
                 count,
                 &mut bytes[from..from + count as usize * unit],

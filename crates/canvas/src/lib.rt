@@ -28,6 +28,7 @@ mod tile_store;
 mod triangles;
 mod vertex;
 mod view;
+mod way;
 mod window;
 
 pub use canvas::Canvas;
@@ -38,12 +39,14 @@ pub use indexed::Indexed;
 pub use laws::{joins_batches, keeps_colours, keeps_tiles, moves_by_pixels, tells_last};
 pub use misfit::Misfit;
 pub use piece::Piece;
+pub use place::place_by;
 pub use shade::Triangles;
 pub use straight::{loads_what_was_written, multiplies_as_over};
-pub use tile_planes::fill_tile;
+pub use tile_planes::{fill_block, fill_tile, is_cleared, make_single, single_block};
 pub use tile_rows::TileRows;
 pub use vertex::Vertex;
 pub use view::View;
+pub use way::Way;
 pub use window::{Origin, Window, seen_point};
 
 #[cfg(test)]

@@ -1,6 +1,6 @@
 //! A picture in the caller's memory, stored as the colours of samples: of all samples of its pixels, or of those of one
 //! index.
-ghost use Rattle.std.specs.Prelude.{◌≡◌, ◌≢◌, ◌↔◌, ◌⊎◌, ℕ, ◌+◌, ◌*◌, ◌/◌, ◌%◌, ◌<◌, ◌≤◌, length, slice_index, IsOk, OnOk, OnErr, IfErr};
+ghost use Rattle.std.specs.Prelude.{◌≡◌, ◌≢◌, ◌↔◌, ◌⊎◌, ℕ, ◌+◌, ◌*◌, ◌/◌, ◌%◌, ◌<◌, ◌≤◌, length, slice_index, IsOk, IsTrue, OnOk, OnErr, IfErr};
 ghost use Rattle.lanes.specs.Block.{stored_at};
 ghost use Rattle.grid.specs.Samples.{count_of};
 ghost use Rattle.canvas.specs.Layout.{HasPixel, planes_of_tile, planes_of_row, planes_of_rows, stored_in_tile};
@@ -13,9 +13,10 @@ use crate::format::{Format, alpha_of, colour_of};
 use crate::misfit::Misfit;
 use crate::piece::Piece;
 use crate::pixel_rows::PixelRows;
-use crate::place::place_in_tile;
-use crate::tile_planes::fill_tile;
+use crate::place::{block_in_tile, place_by};
+use crate::tile_planes::{fill_block, single_block};
 use crate::tile_rows::TileRows;
+use crate::way::Way;
 use grid::SampleCount;
 use lanes::BlockSamples;
 
@@ -28,6 +29,15 @@ struct Indices {
     end: u32,
     /// Whether alpha is stored too.
     alpha: bool,
+}
+
+impl Indices {
+    /// Whether these are the indices of all samples of a pixel.
+    fn are_all(self, count: SampleCount) -> bool
+        ensures { IsTrue result → (s : ℕ) → s < count_of count → IsIndexIn self.first self.end s }
+    {
+        self.first == 0 && self.end == count.count()
+    }
 }
 
 /// Stores a colour in place of that of pixel `k` of a block.
@@ -57,7 +67,38 @@ fn recolour(plane: &mut BlockSamples, k: usize, format: Format, alpha: bool, pix
     plane.alpha[k] = if alpha { alpha_of(format, pixel) } else { 255 };
 }
 
-/// Stores the colour of these bytes in place of those of some samples of pixel (i, j), in the planes of its tile.
+/// Stores the colour of these bytes in place of those of some samples of pixel (i, j), each in its own plane of its tile.
+#[inline(always)]
+fn store_samples(
+    count: SampleCount,
+    i: u32,
+    j: u32,
+    indices: Indices,
+    pixel: &[u8],
+    format: Format,
+    samples: &mut [BlockSamples],
+)
+    requires indices { (indices.first ≤ indices.end) × (indices.end ≤ count_of count) }
+    requires bytes { length pixel.now ≡ pixel_bytes format }
+    requires samples { length samples.old ≡ planes_of_tile count }
+    ensures pixel { (s : ℕ) → IsIndexIn indices.first indices.end s →
+        stored_in_tile count samples.new i j s ≡
+        coloured format indices.alpha (λ k. slice_index pixel.now k) (stored_in_tile count samples.old i j s) }
+    ensures others { (column row s : ℕ) → s < count_of count →
+        ((column % 64 ≡ i % 64) → (row % 64 ≡ j % 64) → IsIndexIn indices.first indices.end s → ⊥) →
+        stored_in_tile count samples.new column row s ≡ stored_in_tile count samples.old column row s }
+{
+    let block = block_in_tile(i, j);
+    fill_block(count, block, samples);
+    let k = (8 * (j % 8) + i % 8) as usize;
+    for s in indices.first..indices.end {
+        let place = place_by(count, Way::Own, block, s);
+        recolour(&mut samples[place], k, format, indices.alpha, pixel);
+    }
+}
+
+/// Stores the colour of these bytes in place of those of some samples of pixel (i, j), in the planes of its tile. If
+/// these are all samples and one plane stands for them, it goes on to do so.
 #[inline(always)]
 fn store_pixel(
     count: SampleCount,
@@ -78,17 +119,13 @@ fn store_pixel(
         ((column % 64 ≡ i % 64) → (row % 64 ≡ j % 64) → IsIndexIn indices.first indices.end s → ⊥) →
         stored_in_tile count samples.new column row s ≡ stored_in_tile count samples.old column row s }
 {
-    fill_tile(count, samples);
-    let k = (8 * (j % 8) + i % 8) as usize;
-    let place = place_in_tile(&samples[0], count, i, j, 0);
-    for s in indices.first..indices.end {
-        recolour(
-            &mut samples[place + s as usize],
-            k,
-            format,
-            indices.alpha,
-            pixel,
-        );
+    let block = block_in_tile(i, j);
+    if indices.are_all(count) && single_block(count, block, samples) {
+        let k = (8 * (j % 8) + i % 8) as usize;
+        let place = place_by(count, Way::Single, block, 0);
+        recolour(&mut samples[place], k, format, indices.alpha, pixel);
+    } else {
+        store_samples(count, i, j, indices, pixel, format, samples);
     }
 }
 

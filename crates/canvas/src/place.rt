@@ -2,13 +2,38 @@
 ghost use Rattle.std.specs.Prelude.{◌≡◌, ◌↔◌, ℕ, ◌+◌, ◌*◌, ◌/◌, ◌%◌, ◌<◌, length, slice_index_or, [], IsTrue};
 ghost use Rattle.grid.specs.Samples.{count_of};
 ghost use Rattle.lanes.specs.Block.{stored_at};
-ghost use Rattle.canvas.specs.Layout.{HasPixel, HasTile, columns_of, planes_of_tile, planes_of_row, place_in_tile, stored};
+ghost use Rattle.canvas.specs.Layout.{HasPixel, HasTile, columns_of, planes_of_tile, planes_of_row, block_in_tile as block_of, place_by as place_of_way, place_in_tile, stored};
 
 use crate::canvas::Canvas;
-use crate::tile_planes::is_cleared;
 use crate::tile_rows::TileRows;
+use crate::way::{Way, way_of};
 use grid::SampleCount;
 use lanes::BlockSamples;
+
+/// The number of the block of pixel (i, j) among the 64 of its tile, row by row.
+#[inline]
+pub(crate) fn block_in_tile(i: u32, j: u32) -> usize
+    ensures value { result ≡ block_of i j }
+    ensures within { result < 64 }
+{
+    (j % 64 / 8 * 8 + i % 64 / 8) as usize
+}
+
+/// The index of the plane of sample `s` of block `k` among those of its tile, if it keeps its samples in this way.
+#[inline]
+pub fn place_by(count: SampleCount, way: Way, k: usize, s: u32) -> usize
+    requires block { k < 64 }
+    requires sample { s < count_of count }
+    ensures value { result ≡ place_of_way count way k s }
+    ensures within { result < planes_of_tile count }
+{
+    let own = 1 + (k + 1) * count.count() as usize;
+    match way {
+        Way::Cleared => 1,
+        Way::Single => own,
+        Way::Own => own + s as usize,
+    }
+}
 
 /// The index of the plane of sample `s` of pixel (i, j) among those of its tile, whose first plane this is.
 #[inline]
@@ -23,12 +48,8 @@ pub(crate) fn place_in_tile(
     ensures value { result ≡ place_in_tile count state.now i j s }
     ensures within { result < planes_of_tile count }
 {
-    let block = if is_cleared(state) {
-        0
-    } else {
-        j % 64 / 8 * 8 + i % 64 / 8 + 1
-    };
-    (1 + block * count.count() + s) as usize
+    let block = block_in_tile(i, j);
+    place_by(count, way_of(state, block), block, s)
 }
 
 impl Canvas {

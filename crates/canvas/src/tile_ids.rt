@@ -41,16 +41,15 @@ fn cleared_id(count: SampleCount, samples: &[BlockSamples]) -> Option<u32>
     ensures id { IfSome result (λ id. (i j s : ℕ) → s < count_of count →
         id_of (stored_in_tile count samples.now i j s) ≡ id) }
 {
-    if !is_cleared(&samples[0]) {
+    if !is_cleared(samples) {
         return None;
     }
     let id = u32::of(&samples[1], 0);
-    for s in 0..count.count() as usize {
-        if !has_id(&samples[1 + s], id) {
-            return None;
-        }
+    if has_id(&samples[1], id) {
+        Some(id)
+    } else {
+        None
     }
-    Some(id)
 }
 
 /// Writes the ids of all samples of a tile, plane by plane.

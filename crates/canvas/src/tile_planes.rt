@@ -1,29 +1,28 @@
-//! The planes of one tile. The first says whether the tile is unchanged since it was cleared. Behind it lie those of a
-//! block with the samples to which it was cleared, and then those of its own 64 blocks. So clearing a tile touches few
-//! of its planes.
-ghost use Rattle.std.specs.Prelude.{◌≡◌, ◌≢◌, ◌↔◌, ℕ, ◌<◌, length, slice_index, slice_index_or, [], IsTrue};
+//! The planes of one tile. The first says in which way each of the tile's 64 blocks keeps its samples. Behind it lie
+//! those of the block to which the tile was cleared, and then those of its own blocks. So clearing a tile touches two
+//! of its planes, and a block whose pixels are alike in all samples can be kept in one.
+ghost use Rattle.std.specs.Prelude.{◌≡◌, ◌≢◌, ◌↔◌, ℕ, ◌%◌, ◌+◌, ◌*◌, ◌<◌, false, length, IsTrue};
 ghost use Rattle.grid.specs.Samples.{count_of};
 ghost use Rattle.shade.specs.Canvas.{with_alpha};
-ghost use Rattle.canvas.specs.Layout.{planes_of_tile, stored_in_tile};
+ghost use Rattle.lanes.specs.Block.{stored_at};
+ghost use Rattle.canvas.specs.declared.way.Way.TheVariants.{Cleared as AsCleared, Single as AsSingle, Own as AsOwn};
+ghost use Rattle.canvas.specs.Layout.{planes_of_tile, block_in_tile, stored_in_tile, way_in_tile, IsSameTile, KeepsOtherWays};
 
+use crate::place::place_by;
+use crate::way::{Way, all_cleared, says_cleared, says_own, set_all_own, set_way, way_of};
 use grid::SampleCount;
 use lanes::BlockSamples;
 use shade::Sample;
 
-/// The samples of the first plane of a tile that is unchanged since it was cleared.
-const CLEARED: Sample = Sample {
-    r: 1,
-    g: 0,
-    b: 0,
-    z: 0,
-};
-
-/// Whether the tile with this first plane is unchanged since it was cleared.
+/// Whether all blocks of the tile with these planes are kept as the one to which it was cleared.
 #[inline]
-pub(crate) fn is_cleared(state: &BlockSamples) -> bool
-    ensures { IsTrue result ↔ (slice_index state.now.r 0 ≡ 1) }
+pub fn is_cleared(samples: &[BlockSamples]) -> bool
+    ensures { IsTrue result ↔ ((k : ℕ) → k < 64 → way_in_tile samples.now k ≡ AsCleared) }
 {
-    state.r[0] == 1
+    match samples {
+        [] => false,
+        [state, ..] => says_cleared(state),
+    }
 }
 
 /// Makes all samples of a tile the given one, with this alpha if alpha is stored.
@@ -37,27 +36,76 @@ pub(crate) fn clear_tile(
     ensures { (i j s : ℕ) → s < count_of count → stored_in_tile count samples.new i j s ≡
         with_alpha sample alpha }
 {
-    let plane = BlockSamples::filled(sample, alpha);
-    for s in 0..count.count() as usize {
-        samples[1 + s] = plane;
-    }
-    let state = BlockSamples::filled(CLEARED, 255);
-    samples[0] = state;
+    samples[0] = all_cleared();
+    samples[1] = BlockSamples::filled(sample, alpha);
 }
 
-/// Gives the blocks of a tile that is unchanged since it was cleared their samples, so that these can be changed.
-pub fn fill_tile(count: SampleCount, samples: &mut [BlockSamples])
-    requires { length samples.old ≡ planes_of_tile count }
-    ensures filled { slice_index (slice_index_or samples.new 0 (record { z = []; r = []; g = []; b = []; alpha = [] })).r 0 ≢ 1 }
-    ensures kept { (i j s : ℕ) → s < count_of count → stored_in_tile count samples.new i j s ≡
-        stored_in_tile count samples.old i j s }
+/// Gives block `k` of a tile its own planes, one for each sample of a pixel, so that each sample can be changed.
+pub fn fill_block(count: SampleCount, k: usize, samples: &mut [BlockSamples])
+    requires block { k < 64 }
+    requires samples { length samples.old ≡ planes_of_tile count }
+    ensures own { way_in_tile samples.new k ≡ AsOwn }
+    ensures ways { KeepsOtherWays k samples.old samples.new }
+    ensures kept { IsSameTile count samples.old samples.new }
 {
-    if !is_cleared(&samples[0]) {
+    let way = way_of(&samples[0], k);
+    if let Way::Own = way {
         return;
     }
-    let many = count.count() as usize;
-    for place in 1 + many..samples.len() {
-        samples[place] = samples[place - many];
+    let plane = samples[place_by(count, way, k, 0)];
+    for s in 0..count.count() {
+        samples[place_by(count, Way::Own, k, s)] = plane;
     }
-    samples[0].r[0] = 0;
+    set_way(&mut samples[0], k, Way::Own);
+}
+
+/// Gives all blocks of a tile their own planes.
+pub fn fill_tile(count: SampleCount, samples: &mut [BlockSamples])
+    requires { length samples.old ≡ planes_of_tile count }
+    ensures own { (k : ℕ) → way_in_tile samples.new k ≡ AsOwn }
+    ensures kept { IsSameTile count samples.old samples.new }
+{
+    if says_own(&samples[0]) {
+        return;
+    }
+    for k in 0..64 {
+        fill_block(count, k, samples);
+    }
+    set_all_own(&mut samples[0]);
+}
+
+/// Gives block `k` of a tile a single plane of its own, if one plane stands for all samples of its pixels. Returns
+/// whether it has one then; else all planes are unchanged.
+pub fn single_block(count: SampleCount, k: usize, samples: &mut [BlockSamples]) -> bool
+    requires block { k < 64 }
+    requires samples { length samples.old ≡ planes_of_tile count }
+    ensures single { IsTrue result → way_in_tile samples.new k ≡ AsSingle }
+    ensures own { result ≡ false → samples.new ≡ samples.old }
+    ensures ways { KeepsOtherWays k samples.old samples.new }
+    ensures kept { IsSameTile count samples.old samples.new }
+{
+    match way_of(&samples[0], k) {
+        Way::Cleared => {
+            let plane = samples[1];
+            make_single(count, k, &plane, samples);
+            true
+        }
+        Way::Single => true,
+        Way::Own => false,
+    }
+}
+
+/// Makes a plane the samples of block `k` of a tile: each of its samples is that of all samples of its pixel.
+pub fn make_single(count: SampleCount, k: usize, plane: &BlockSamples, samples: &mut [BlockSamples])
+    requires block { k < 64 }
+    requires samples { length samples.old ≡ planes_of_tile count }
+    ensures single { way_in_tile samples.new k ≡ AsSingle }
+    ensures ways { KeepsOtherWays k samples.old samples.new }
+    ensures made { (i j s : ℕ) → s < count_of count → block_in_tile i j ≡ k →
+        stored_in_tile count samples.new i j s ≡ stored_at plane.now (8 * (j % 8) + i % 8) }
+    ensures others { (i j s : ℕ) → s < count_of count → block_in_tile i j ≢ k →
+        stored_in_tile count samples.new i j s ≡ stored_in_tile count samples.old i j s }
+{
+    samples[place_by(count, Way::Single, k, 0)] = *plane;
+    set_way(&mut samples[0], k, Way::Single);
 }

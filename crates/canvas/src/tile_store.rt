@@ -54,17 +54,16 @@ fn fill_plane(plane: &mut BlockSamples, colour: u32)
     };
 }
 
-/// The end of the planes in which the samples of a tile with this first plane lie.
-fn end_of_planes(count: SampleCount, state: &BlockSamples) -> usize
-    ensures read { (i j s : ℕ) → s < count_of count → place_of count state.now i j s < result }
+/// The end of the planes in which the samples of a tile lie.
+fn end_of_planes(count: SampleCount, samples: &[BlockSamples]) -> usize
+    ensures read { (i j s : ℕ) → s < count_of count → place_of count (slice_index_or samples.now 0 (record { z = []; r = []; g = []; b = []; alpha = [] })) i j s < result }
     ensures within { result ≤ planes_of_tile count }
     ensures some { 1 ≤ result }
 {
-    let many = count.count() as usize;
-    if is_cleared(state) {
-        1 + many
+    if is_cleared(samples) {
+        2
     } else {
-        1 + 65 * many
+        1 + 65 * count.count() as usize
     }
 }
 
@@ -92,7 +91,7 @@ fn store_one(count: SampleCount, colour: u32, samples: &mut [BlockSamples])
     ensures first { slice_index_or samples.new 0 (record { z = []; r = []; g = []; b = []; alpha = [] }) ≡
         slice_index_or samples.old 0 (record { z = []; r = []; g = []; b = []; alpha = [] }) }
 {
-    for place in 1..end_of_planes(count, &samples[0]) {
+    for place in 1..end_of_planes(count, samples) {
         fill_plane(&mut samples[place], colour);
     }
 }

@@ -6,7 +6,7 @@ use Rattle.canvas.specs.Layout.{columns_of, stored}
 use Rattle.canvas.specs.Pixels.{IsAsStored, pixel_bytes, pixel_of, entry_of}
 use Rattle.canvas.specs.Colours.{IsSampleColour}
 use Rattle.canvas.specs.Loaded.{coloured}
-use Rattle.canvas.proofs.Changes.{cases_eq}
+use Rattle.canvas.proofs.TilePlanes.{cases_eq}
 use Rattle.canvas.proofs.laws.keeps_colours.Goals as goal
 
 three : (f g : ℕ → ℕ) → f 0 ≡ g 0 → f 1 ≡ g 1 → f 2 ≡ g 2 → (k : ℕ) → k < 3 → f k ≡ g k

@@ -3,7 +3,7 @@ use Rattle.shade.specs.declared.sample.CanvasSample.{CanvasSample}
 use Rattle.canvas.specs.Layout.{stored}
 use Rattle.canvas.specs.Colours.{id_of}
 use Rattle.canvas.specs.Tiles.{said_of, with_colour, HasBytes}
-use Rattle.canvas.proofs.Changes.{cases_eq}
+use Rattle.canvas.proofs.TilePlanes.{cases_eq}
 use Rattle.canvas.proofs.TileEntries.{in_channels}
 use Rattle.canvas.proofs.laws.keeps_tiles.Goals as goal
 

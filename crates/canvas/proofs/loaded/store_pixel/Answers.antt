@@ -1,34 +1,22 @@
-use Rattle.std.proofs.Common.{◌∙◌, ap, ◌+◌, ◌<◌, ◌≤◌, ℕ, slice_index, slice_index_or, arith}
-use Rattle.grid.specs.Samples.{count_of}
+use Rattle.std.proofs.Common.{◌∙◌, ap, slice_index, arith}
 use Rattle.canvas.specs.Loaded.{coloured}
-use Rattle.canvas.proofs.Changes.{no_sample_changed, one_sample_more, same_place}
-use Rattle.canvas.proofs.Places.{none, within_tile}
+use Rattle.canvas.specs.Layout.{stored_in_tile}
+use Rattle.canvas.proofs.Changes.{other_pixels}
+use Rattle.canvas.proofs.loaded.store_pixel.Goals.{else-are_all-via-then-are_all+else-single_block, else-are_all-via-else-are_all}
 use Rattle.canvas.proofs.loaded.store_pixel.Goals as goal
 
-pub loop-s-init : goal.loop-s-init
-loop-s-init c =
-    no_sample_changed c.args.count c.args.i c.args.j c.args.indices.first (λ sample. coloured c.args.format c.args.indices.alpha (λ k. slice_index c.args.pixel.now k) sample) c.args.samples.now c.fill_tile.new.samples c.fill_tile.ensures.filled c.fill_tile.ensures.kept
+pub returns-then-single_block-clause-others : goal.returns-then-single_block-clause-others
+returns-then-single_block-clause-others c column row s h other =
+    let middle = c.single_block.new.samples in
+    other_pixels c.args.count c.args.i c.args.j (λ sample. coloured c.args.format c.args.indices.alpha (λ k. slice_index c.args.pixel.now k) sample) c.args.samples.now middle c.recolour.new.plane c.place_by-place.result
+    (rw (c.block_in_tile-block.ensures.value) at c.single_block.ensures.single c.if-single_block.true) c.single_block.ensures.kept (rw (c.block_in_tile-block.ensures.value) at c.place_by-place.ensures.value)
+    (omega (arith, c.place_by-place.ensures.within, c.requires.samples, c.single_block.auto.samples)) c.recolour.ensures.kept c.recolour.ensures.stored column row s h
+    (λ a b. other a b (c.are_all.ensures c.if-are_all.true s h))
 
-pub loop-s-preserved : goal.loop-s-preserved
-loop-s-preserved c =
-    let i : ℕ = c.args.i in
-    let j : ℕ = c.args.j in
-    let s : ℕ = c.loop-s.s in
-    let h : s < count_of c.args.count = omega (arith, c.loop-s-test.true, c.requires.indices.1) in
-    let at = ap (λ first. first + s) c.place_in_tile-place.ensures.value ∙ same_place c.args.count (slice_index_or c.fill_tile.new.samples 0 none) (slice_index_or c.loop-s.samples 0 none) i j s c.fill_tile.ensures.filled c.loop-s.invariant.filled in
-    one_sample_more c.args.count i j c.args.indices.first s c.loop-s.auto.s h (λ sample. coloured c.args.format c.args.indices.alpha (λ k. slice_index c.args.pixel.now k) sample) c.args.samples.now c.loop-s.samples c.recolour.new.plane (c.place_in_tile-place.result + s) at
-    (omega (arith, at, within_tile c.args.count (slice_index_or c.loop-s.samples 0 none) i j s h, c.requires.samples, c.loop-s.auto.samples)) c.recolour.ensures.kept c.recolour.ensures.stored c.loop-s.invariant
-
-pub returns-clause-pixel : goal.returns-clause-pixel
-returns-clause-pixel c s index =
-    let below = index.below in
-    let from = index.from in
-    c.loop-s.invariant.pixel s (omega (arith, below, c.requires.indices.1)) (record { from = index.from; below = omega (arith, below, c.loop-s-test.false) })
-
-pub returns-clause-others : goal.returns-clause-others
-returns-clause-others c column row s h other =
-    c.loop-s.invariant.others column row s h
-    (λ a b index.
-    let from = index.from in
-    let below = index.below in
-    other a b (record { from = index.from; below = (let within : c.loop-s.s ≤ c.args.indices.end = c.loop-s.auto.s-end c.requires.indices.0 in omega (arith, below, within)) }))
+pub returns-else-are_all-clause-others : goal.returns-else-are_all-clause-others
+returns-else-are_all-clause-others c column row s h other =
+    c.store_samples.ensures.others column row s h other
+    ∙ elim c.else-are_all.branch [
+      | else-are_all-via-then-are_all+else-single_block w ↦ ap (λ xs. stored_in_tile c.args.count xs column row s) w.samples-is ∙ w.single_block.ensures.kept column row s h
+      | else-are_all-via-else-are_all w ↦ ap (λ xs. stored_in_tile c.args.count xs column row s) w.samples-is
+    ]

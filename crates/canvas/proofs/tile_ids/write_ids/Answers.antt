@@ -3,12 +3,12 @@ use Rattle.std.specs.Prelude.{slice_index_or}
 use Rattle.std.proofs.lemmas.List.{map-id}
 use Rattle.grid.specs.Samples.{count_of}
 use Rattle.lanes.specs.Block.{stored_at}
-use Rattle.canvas.specs.Layout.{place_in_tile}
+use Rattle.canvas.specs.Layout.{block_in_tile, place_in_tile}
 use Rattle.canvas.specs.Colours.{id_of}
 use Rattle.canvas.proofs.Places.{none}
-use Rattle.canvas.proofs.Changes.{pixel_in_block}
+use Rattle.canvas.proofs.TilePlanes.{pixel_in_block}
 use Rattle.canvas.proofs.Units.{no_units, more_units, all_units}
-use Rattle.canvas.proofs.TileEntries.{number_in, block_in, number_below, place_of_number, place_is}
+use Rattle.canvas.proofs.TileEntries.{number_in, number_below, place_of_number, place_is}
 use Rattle.canvas.proofs.tile_ids.write_ids.Goals as goal
 
 pub loop-number-init : goal.loop-number-init
@@ -48,7 +48,7 @@ pub returns : goal.returns
 returns c i j s h =
     let count = c.args.count in
     let xs = c.args.samples.now in
-    let q : ℕ = block_in i j in
+    let q : ℕ = block_in_tile i j in
     let below = number_below count q s (omega arith) h in
     all_units 64 (λ n ids. (k : ℕ) → k < 64 → ids k ≡ id_of (stored_at (slice_index_or xs (place_of_number count (slice_index_or xs 0 none) n) none) k)) c.loop-number.number (64 * count_of count) c.loop-number.ids
     (omega (arith, c.loop-number-test.false, c.count-many.ensures)) c.loop-number.invariant (number_in count i j s) below (pixel_in_block i j) (omega arith)

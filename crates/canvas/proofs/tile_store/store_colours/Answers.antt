@@ -2,7 +2,7 @@ use Rattle.std.proofs.Common.{◌≡◌, ◌∙◌, sym, ap, ◌<◌, ℕ, slice
 use Rattle.grid.specs.Samples.{count_of}
 use Rattle.shade.proofs.Resolved.{some_samples}
 use Rattle.lanes.specs.declared.block_samples.BlockSamples.{BlockSamples}
-use Rattle.canvas.specs.Layout.{stored_in_tile}
+use Rattle.canvas.specs.Layout.{way_of, stored_in_tile}
 use Rattle.canvas.specs.Colours.{id_of}
 use Rattle.canvas.specs.Tiles.{with_colour}
 use Rattle.canvas.proofs.TileEntries.{one_says, each_says}
@@ -18,7 +18,7 @@ returns-then-colours-eq1-clause-uniform c one u =
     let colour : ℕ = slice_index c.args.colours.now 0 in
     let same : (i j s : ℕ) → s < count_of count → id_of (stored_in_tile count c.store_one.new.samples i j s) ≡ id_of (with_colour colour (stored_in_tile count c.args.samples.now 0 0 0)) = λ i j s h. ap id_of (c.store_one.ensures.stored i j s h) in
     record {
-      mark = ap (λ (p : BlockSamples). slice_index p.r 0) c.store_one.ensures.first ∙ u.mark;
+      cleared = λ k l. ap (λ (p : BlockSamples). way_of p k) c.store_one.ensures.first ∙ u.cleared k l;
       one = λ i j s h. same i j s h ∙ sym (same 0 0 0 (some_samples count));
     }
 

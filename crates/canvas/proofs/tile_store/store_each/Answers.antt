@@ -2,13 +2,12 @@ use Rattle.std.proofs.Common.{◌≡◌, ◌∙◌, sym, ap, subst, ◌+◌, ◌
 use Rattle.std.specs.Prelude.{slice_index_or}
 use Rattle.grid.specs.Samples.{count_of}
 use Rattle.lanes.specs.Block.{stored_at}
-use Rattle.canvas.specs.Layout.{place_in_tile}
+use Rattle.canvas.specs.Layout.{block_in_tile, place_by, place_in_tile}
 use Rattle.canvas.specs.Tiles.{entry_in_tile, with_colour}
 use Rattle.canvas.proofs.Cut.{part_of}
 use Rattle.canvas.proofs.Places.{none}
-use Rattle.canvas.proofs.TilePlanes.{block_changed, own_place}
-use Rattle.canvas.proofs.Changes.{pixel_in_block}
-use Rattle.canvas.proofs.TileEntries.{number_in, block_in, number_below, AreRecoloured, none_recoloured, one_recoloured, sample_recoloured}
+use Rattle.canvas.proofs.TilePlanes.{pixel_in_block, own_place}
+use Rattle.canvas.proofs.TileEntries.{number_in, number_below, AreRecoloured, none_recoloured, one_recoloured, sample_recoloured}
 use Rattle.canvas.proofs.tile_store.store_each.Goals as goal
 
 pub loop-number-init : goal.loop-number-init
@@ -39,10 +38,10 @@ returns c i j s h =
     let number : ℕ = c.loop-number.number in
     let colours = c.args.colours.now in
     let filled = c.fill_tile.new.samples in
-    let q : ℕ = block_in i j in
+    let q : ℕ = block_in_tile i j in
     let f : ℕ → ℕ → ℕ = λ p k. slice_index colours (64 * (p - own) + k) in
     let state = slice_index_or filled 0 none in
-    let changed : place_in_tile count state i j s ≡ 1 + (q + 1) * count_of count + s = ap (λ b. 1 + b * count_of count + s) (block_changed state i j c.fill_tile.ensures.filled) in
+    let changed : place_in_tile count state i j s ≡ 1 + (q + 1) * count_of count + s = ap (λ way. place_by count way q s) (c.fill_tile.ensures.own q) in
     let place : place_in_tile count state i j s ≡ own + number_in count i j s = changed ∙ sym (own_place count q s) ∙ ap (λ m. 1 + m + (q * count_of count + s)) (sym c.count-many.ensures) in
     let below = number_below count q s (omega arith) h in
     let entry : 64 * (own + number_in count i j s - own) + pixel_in_block i j ≡ entry_in_tile count i j s = omega arith in

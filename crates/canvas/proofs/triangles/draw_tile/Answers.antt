@@ -19,6 +19,6 @@ returns c =
     let n : ℕ = length filled - own in
     let room : own + n ≤ length filled = omega (arith, fits) in
     let size : length part ≡ n = omega (arith, c.draw_blocks.auto.samples, fits) in
-    tile_drawn ts tile c.requires.side c.args.samples.now filled (put filled part own n) n own (omega (arith, fits, long)) at c.fill_tile.ensures.filled
+    tile_drawn ts tile c.requires.side c.args.samples.now filled (put filled part own n) n own (omega (arith, fits, long)) at c.fill_tile.ensures.own
     (mark_put filled part n own room size (omega arith)) c.fill_tile.ensures.kept
     (subst (λ xs. TileHasEnds ts tile (take n (drop own filled)) xs) (sym (own_put filled part n own room size)) c.draw_blocks.ensures)

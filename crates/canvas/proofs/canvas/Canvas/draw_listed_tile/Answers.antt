@@ -13,7 +13,7 @@ use Rattle.canvas.proofs.canvas.Canvas.draw_listed_tile.Goals as goal
 pub loop-from-init : goal.loop-from-init
 loop-from-init g c = record {
   place = refl;
-  drawn = record { filled = c.fill_tile.new.samples; changed = c.fill_tile.ensures.filled; mark = refl; kept = c.fill_tile.ensures.kept; draws = λ row column s h. refl };
+  drawn = record { filled = c.fill_tile.new.samples; are_own = c.fill_tile.ensures.own; mark = refl; kept = c.fill_tile.ensures.kept; draws = λ row column s h. refl };
 }
 
 pub draw_some-requires : goal.draw_some-requires
@@ -48,7 +48,7 @@ loop-from-preserved g c =
       place = omega (arith, c.loop-from.invariant.place);
       drawn = record {
         filled = filled;
-        changed = before.changed;
+        are_own = before.are_own;
         mark = mark_put xs part n own room size (omega arith) ∙ before.mark;
         kept = before.kept;
         draws = subst (λ ys. TileHasEnds (take (c.loop-from.from + 16) us) tile (take many (drop own filled)) ys) (sym back) next;
@@ -67,7 +67,7 @@ returns g c =
     let own : ℕ = 1 + c.count.result in
     let many : ℕ = 64 * count_of self.count in
     let at : own ≡ 1 + count_of tile.count = ap (λ n. 1 + n) c.count.ensures ∙ ap (λ n. 1 + count_of n) same in
-    tile_drawn ts tile c.requires.tile.2 c.args.samples.now filled c.loop-from.samples many own (rw c.requires.tile.3 (omega (arith, c.count.ensures))) at end.changed end.mark
+    tile_drawn ts tile c.requires.tile.2 c.args.samples.now filled c.loop-from.samples many own (rw c.requires.tile.3 (omega (arith, c.count.ensures))) at end.are_own end.mark
     (subst (λ n. (i j s : ℕ) → s < count_of n → stored_in_tile n filled i j s ≡ stored_in_tile n c.args.samples.now i j s) same end.kept)
     (tile_of_row ts self c.args.row c.args.column list.numbers list.columns.firsts list.columns.ends list.count list.span c.requires.list tile c.requires.tile c.requires.column
     c.loop-from.from (omega (arith, c.loop-from-test.false)) (take many (drop own filled)) (take many (drop own c.loop-from.samples)) end.draws)
