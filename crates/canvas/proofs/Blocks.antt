@@ -1,15 +1,13 @@
 -- Where a pixel's block lies among the planes of its tile.
-use Rattle.std.proofs.Common.{◌≡◌, ◌≢◌, ◌∙◌, ap, sym, ℕ, ◌+◌, ◌*◌, ◌/◌, ◌%◌, ◌<◌, List, take, drop, slice_index, arith}
+use Rattle.std.proofs.Common.{◌≡◌, ◌∙◌, ap, sym, ℕ, ◌+◌, ◌*◌, ◌/◌, ◌%◌, List, arith}
 use Rattle.std.specs.Prelude.{slice_index_or}
-use Rattle.std.proofs.Math.Nat.{add-mul}
 use Rattle.grid.specs.Samples.{count_of}
 use Rattle.grid.specs.declared.sample_count.SampleCount.{SampleCount}
-use Rattle.grid.specs.declared.pixels.TileSide.TheVariants.{T8, T64}
+use Rattle.grid.specs.declared.pixels.TileSide.TheVariants.{T64}
 use Rattle.lanes.specs.declared.block_samples.BlockSamples.{BlockSamples}
 use Rattle.lanes.specs.Block.{stored_at}
 use Rattle.raster.specs.declared.tile.Tile.{Tile}
 use Rattle.raster.specs.Samples.{place_of as place_in, stored as in_tile}
-use Rattle.canvas.proofs.Cut.{part_of}
 use Rattle.canvas.proofs.Places.{none}
 use Rattle.canvas.proofs.TilePlanes.{by_way, own_place}
 use Rattle.canvas.specs.declared.way.Way.TheVariants.{Own}

@@ -1,5 +1,5 @@
 -- Each tile has planes of its own.
-use Rattle.std.proofs.Common.{◌≡◌, ◌≢◌, ◌∙◌, ap, sym, ℕ, ◌+◌, ◌-◌, ◌*◌, ◌/◌, ◌%◌, ◌<◌, ◌≤◌, List, [], ◌++◌, length, take, drop, slice_index, get_or-append-add, arith}
+use Rattle.std.proofs.Common.{◌≡◌, ◌≢◌, ◌∙◌, ap, sym, ℕ, ◌+◌, ◌-◌, ◌*◌, ◌/◌, ◌%◌, ◌<◌, ◌≤◌, List, [], ◌++◌, length, take, drop, get_or-append-add, arith}
 use Rattle.std.specs.Prelude.{slice_index_or}
 use Rattle.std.proofs.Math.Nat.{mul_comm, add-mul}
 use Rattle.std.proofs.lemmas.List.{get_or_append_left}

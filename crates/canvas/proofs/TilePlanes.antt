@@ -1,20 +1,19 @@
 -- The planes of one tile.
-use Rattle.std.proofs.Common.{◌≡◌, ◌≢◌, ◌⊎◌, ◌∙◌, inl, inr, refl, ap, sym, subst, ℕ, ◌+◌, ◌-◌, ◌*◌, ◌/◌, ◌%◌, ◌<◌, ◌≤◌, List, [], ◌∷◌, length, slice_index, slice_set, arith}
+use Rattle.std.proofs.Common.{◌≡◌, ◌≢◌, ◌⊎◌, ◌∙◌, inl, inr, refl, ap, sym, ℕ, ◌+◌, ◌*◌, ◌%◌, ◌<◌, List, length, slice_set, arith}
 use Rattle.std.specs.Prelude.{slice_index_or}
 use Rattle.std.proofs.lemmas.Bool.{cases_lt}
-use Rattle.std.proofs.lemmas.List.{get_or-set_same, get_or-set_other, length-set}
+use Rattle.std.proofs.lemmas.List.{get_or-set_same, get_or-set_other}
 use Rattle.std.proofs.Math.Nat.{add-mul}
 use Rattle.std.proofs.lemmas.Nat.{same_from_place}
 use Rattle.grid.specs.Samples.{count_of}
 use Rattle.grid.specs.declared.sample_count.SampleCount.{SampleCount}
 use Rattle.grid.specs.declared.sample_count.SampleCount.TheVariants.{One, Two, Four, Eight, Sixteen}
-use Rattle.shade.specs.declared.sample.CanvasSample.{CanvasSample}
 use Rattle.shade.proofs.Resolved.{some_samples}
 use Rattle.lanes.specs.declared.block_samples.BlockSamples.{BlockSamples}
 use Rattle.lanes.specs.Block.{stored_at}
 use Rattle.canvas.specs.declared.way.Way.{Way}
 use Rattle.canvas.specs.declared.way.Way.TheVariants.{Cleared, Single, Own}
-use Rattle.canvas.specs.Layout.{planes_of_tile, block_in_tile, way_of, place_by, place_in_tile, stored_in_tile, way_in_tile, IsSameTile, KeepsOtherWays}
+use Rattle.canvas.specs.Layout.{planes_of_tile, block_in_tile, way_of, place_by, stored_in_tile, way_in_tile, IsSameTile, KeepsOtherWays}
 use Rattle.canvas.proofs.Places.{none, behind_first}
 use Rattle.canvas.proofs.Ways.{own_not_cleared}
 

@@ -11,6 +11,8 @@ use std::alloc::Global;
 use std::process::Abort;
 use std::test::Fail;
 
+mod ways;
+
 /// What a canvas is cleared to.
 const CLEAR: Sample = Sample {
     r: 10,

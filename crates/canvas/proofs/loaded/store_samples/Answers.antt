@@ -1,7 +1,6 @@
-use Rattle.std.proofs.Common.{◌<◌, ◌≤◌, ℕ, slice_index, arith}
+use Rattle.std.proofs.Common.{◌<◌, ◌≤◌, slice_index, arith}
 use Rattle.grid.specs.Samples.{count_of}
 use Rattle.canvas.specs.Loaded.{coloured}
-use Rattle.canvas.specs.Layout.{way_in_tile}
 use Rattle.canvas.proofs.Changes.{no_sample_changed, one_sample_more}
 use Rattle.canvas.proofs.loaded.store_samples.Goals as goal
 

@@ -1,4 +1,4 @@
-use Rattle.std.proofs.Common.{◌≡◌, ◌∙◌, refl, sym}
+use Rattle.std.proofs.Common.{◌∙◌, refl, sym}
 use Rattle.std.proofs.lemmas.Bool.{false≢true}
 use Rattle.canvas.proofs.TileEntries.{uniform_plane, all_uniform, is_uniform}
 use Rattle.canvas.proofs.tile_ids.cleared_id.Goals as goal

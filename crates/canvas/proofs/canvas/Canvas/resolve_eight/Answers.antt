@@ -1,16 +1,13 @@
-use Rattle.std.proofs.Common.{◌≡◌, ◌≢◌, ◌∙◌, ap, ◌+◌, ◌-◌, ◌*◌, ◌%◌, ◌<◌, ℕ, List, sym, subst, length, take, drop, slice_index, arith}
+use Rattle.std.proofs.Common.{◌≡◌, ◌∙◌, ap, ◌+◌, ◌-◌, ◌*◌, ◌%◌, ◌<◌, ℕ, sym, subst, length, take, drop, slice_index, arith}
 use Rattle.std.specs.Prelude.{slice_index_or}
 use Rattle.std.proofs.lemmas.List.{get_or-drop, length-drop}
 use Rattle.std.proofs.Math.Seq.{take-length}
 use Rattle.grid.specs.Samples.{count_of}
-use Rattle.grid.specs.declared.sample_count.SampleCount.{SampleCount}
-use Rattle.lanes.specs.declared.block_samples.BlockSamples.{BlockSamples}
 use Rattle.lanes.specs.Block.{stored_at}
-use Rattle.canvas.specs.declared.way.Way.{Way}
 use Rattle.canvas.specs.declared.way.Way.TheVariants.{Own}
-use Rattle.canvas.specs.Layout.{block_in_tile, place_by, stored_in_tile, way_in_tile}
+use Rattle.canvas.specs.Layout.{block_in_tile, place_by, way_in_tile}
 use Rattle.canvas.specs.Pixels.{pixel_bytes}
-use Rattle.canvas.specs.Colours.{IsTilePixel, IsSampleColour}
+use Rattle.canvas.specs.Colours.{IsTilePixel}
 use Rattle.canvas.proofs.Cut.{part_of}
 use Rattle.canvas.proofs.Places.{none}
 use Rattle.canvas.proofs.Blocks.{in_own}

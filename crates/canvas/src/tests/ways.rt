@@ -1,0 +1,105 @@
+//! Tiles whose blocks are kept in each way, compared with those whose blocks all have planes of their own.
+use super::{CLEAR, CLEAR_ALPHA, Numbers, cleared, piece, stored, untouched, view};
+use crate::{
+    Canvas, Format, TileRows, fill_block, fill_tile, is_cleared, make_single, single_block,
+};
+use grid::SampleCount;
+use lanes::BlockSamples;
+use shade::Sample;
+use std::alloc::Global;
+use std::process::Abort;
+use std::test::Fail;
+
+/// A canvas of one tile.
+fn tile(rt: &impl Abort, count: SampleCount) -> Canvas {
+    Canvas::new(64, 64, count).expect(rt, "1 to 4096 pixels a side")
+}
+
+/// The planes of the tile, cleared, with a triangle at the samples of block 20, and blocks 3 and 12 in one plane each.
+fn in_each_way(rt: &impl Abort, alloc: Global, canvas: &Canvas) -> Result<Vec<BlockSamples>, Fail> {
+    let (count, rows) = (canvas.count, canvas.all());
+    let mut samples = cleared(alloc, &rows)?;
+    piece(rt, &rows, &mut samples).clear(CLEAR, CLEAR_ALPHA);
+    assert!(rt; samples.len() == canvas.planes_of_tile());
+    assert!(rt; is_cleared(&samples));
+    assert!(rt; single_block(count, 3, &mut samples));
+    let other = Sample {
+        r: 90,
+        g: 80,
+        b: 70,
+        z: 600,
+    };
+    make_single(count, 12, &BlockSamples::filled(other, 200), &mut samples);
+    fill_block(count, 20, &mut samples);
+    assert!(rt; single_block(count, 12, &mut samples));
+    assert!(rt; !single_block(count, 20, &mut samples));
+    assert!(rt; !is_cleared(&samples));
+    Ok(samples)
+}
+
+/// The same planes, all blocks with planes of their own.
+fn filled(
+    rt: &impl Abort,
+    canvas: &Canvas,
+    samples: &Vec<BlockSamples>,
+) -> Result<Vec<BlockSamples>, Fail> {
+    let mut planes = samples.clone()?;
+    assert!(rt; planes.len() == canvas.planes_of_tile());
+    fill_tile(canvas.count, &mut planes);
+    assert!(rt; !single_block(canvas.count, 3, &mut planes));
+    Ok(planes)
+}
+
+/// The bytes, depths and ids that are read out of a tile: all colours, and what the last sample of each pixel has.
+fn read_out(
+    rt: &impl Abort,
+    alloc: Global,
+    rows: &TileRows,
+    samples: &[BlockSamples],
+) -> Result<(Vec<u8>, Vec<u8>, Vec<u32>), Fail> {
+    let view = view(rt, rows, samples);
+    let last = rows.canvas.count.count() - 1;
+    let mut colours = untouched(alloc, 256 * 64)?;
+    assert!(rt; view.resolve(&mut colours, Format::Rgba8, 256).is_ok());
+    let mut samples_of_one = untouched(alloc, 256 * 64)?;
+    assert!(rt; view.colors(last, &mut samples_of_one, Format::Bgra8, 256).is_ok());
+    let mut ids = Vec::new(alloc);
+    for _ in 0..65_536 {
+        ids.push(0u32)?;
+    }
+    assert!(rt; view.tile_ids(0, 0, &mut ids).is_ok());
+    Ok((colours, samples_of_one, ids))
+}
+
+/// Whether a tile in each way is read out, drawn, stored and loaded as one whose blocks have planes of their own.
+fn is_kept(rt: &impl Abort, alloc: Global, count: SampleCount) -> Result<bool, Fail> {
+    let canvas = tile(rt, count);
+    let rows = canvas.all();
+    let mut samples = in_each_way(rt, alloc, &canvas)?;
+    let mut own = filled(rt, &canvas, &samples)?;
+    let before = read_out(rt, alloc, &rows, &samples)?;
+    if before != read_out(rt, alloc, &rows, &own)? {
+        return Ok(false);
+    }
+    let (picture, _, _) = before;
+    for planes in [&mut samples, &mut own] {
+        let mut piece = piece(rt, &rows, planes);
+        assert!(rt; piece.store(0, &picture, Format::Bgra8, 256, true).is_ok());
+    }
+    if read_out(rt, alloc, &rows, &samples)? != read_out(rt, alloc, &rows, &own)? {
+        return Ok(false);
+    }
+    let triangles = Numbers { state: 3 }.triangles(rt, alloc, 3)?;
+    for planes in [&mut samples, &mut own] {
+        piece(rt, &rows, planes).draw(&stored(&triangles));
+    }
+    Ok(read_out(rt, alloc, &rows, &samples)? == read_out(rt, alloc, &rows, &own)?)
+}
+
+#[test]
+fn keeps_blocks_in_each_way(rt: HostRuntime) -> Result<(), Fail> {
+    for count in [SampleCount::One, SampleCount::Four, SampleCount::Sixteen] {
+        assert!(rt; is_kept(&rt, rt.alloc(), count)?);
+    }
+    Ok(())
+}
