@@ -74,7 +74,7 @@ in_mask Sixteen mask (suc (suc (suc (suc (suc (suc (suc (suc (suc (suc (suc (suc
 in_mask Sixteen mask (suc (suc (suc (suc (suc (suc (suc (suc (suc (suc (suc (suc (suc (suc (suc zero))))))))))))))) all below = omega (arith, all)
 in_mask Sixteen mask (suc (suc (suc (suc (suc (suc (suc (suc (suc (suc (suc (suc (suc (suc (suc (suc s)))))))))))))))) all below = absurd (omega (arith, below))
 
-always : (test : DepthTest) (new old : ℕ) → test ≡ Always → Passes test new old
+pub always : (test : DepthTest) (new old : ℕ) → test ≡ Always → Passes test new old
 always test new old is = rw is tt
 
 written_alike : (written : Bool) (e : Equation) (o p : Operands) (new : ℕ) → IsTrue written → e ≡ replace → o.source ≡ p.source → IsWritten written (IsBlended e Colour o) o.stored new
@@ -85,7 +85,7 @@ replaced : (m : Merge) (k source alpha e f x y new : ℕ) → Writes m k → m.b
 replaced m k source alpha e f x y new is plain h =
     written_alike (slice_index_or m.write k false) m.blend.colour (operands_of m k source alpha e x) (operands_of m k source alpha f y) new is plain refl h
 
-merged_alike : (state : State) (count : SampleCount) (f : Shaded) (x y new : CanvasSample) → ReplacesColours state count → y.z ≡ x.z → y.alpha ≡ x.alpha → IsCanvasMerged state.merge f x new → IsCanvasMerged state.merge f y new
+pub merged_alike : (state : State) (count : SampleCount) (f : Shaded) (x y new : CanvasSample) → ReplacesColours state count → y.z ≡ x.z → y.alpha ≡ x.alpha → IsCanvasMerged state.merge f x new → IsCanvasMerged state.merge f y new
 merged_alike state count f x y new r same same_alpha h = record {
   red = replaced state.merge 0 f.r f.a x.alpha y.alpha x.r y.r new.r r.red r.plain h.red;
   green = replaced state.merge 1 f.g f.a x.alpha y.alpha x.g y.g new.g r.green r.plain h.green;

@@ -23,7 +23,7 @@ fn has_all_samples(mask: u16, count: SampleCount) -> bool
 
 /// Whether a triangle in this state gives its colour to each sample of a pixel that it covers in its scissor, whatever
 /// is stored there.
-fn replaces_colours(state: &State, count: SampleCount) -> bool
+pub fn replaces_colours(state: &State, count: SampleCount) -> bool
     ensures { IsTrue result → ReplacesColours state.now count }
 {
     let merge = state.merge;

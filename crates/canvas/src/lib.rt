@@ -34,6 +34,7 @@ mod window;
 pub use canvas::Canvas;
 pub use entries::Entry;
 pub use format::Format;
+pub use hidden::replaces_colours;
 pub use ids::{Ids, colour_of_id, replacing};
 pub use indexed::Indexed;
 pub use laws::{joins_batches, keeps_colours, keeps_tiles, moves_by_pixels, tells_last};

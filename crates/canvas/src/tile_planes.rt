@@ -80,7 +80,8 @@ pub fn single_block(count: SampleCount, k: usize, samples: &mut [BlockSamples]) 
     requires block { k < 64 }
     requires samples { length samples.old ≡ planes_of_tile count }
     ensures single { IsTrue result → way_in_tile samples.new k ≡ AsSingle }
-    ensures own { result ≡ false → samples.new ≡ samples.old }
+    ensures own { result ≡ false → way_in_tile samples.old k ≡ AsOwn }
+    ensures unchanged { result ≡ false → samples.new ≡ samples.old }
     ensures ways { KeepsOtherWays k samples.old samples.new }
     ensures kept { IsSameTile count samples.old samples.new }
 {

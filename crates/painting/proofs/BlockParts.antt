@@ -1,4 +1,4 @@
--- The parts of a pixel's samples that are painted one after another, in a block or in a tile.
+-- The parts of a pixel's samples that are painted one after another, in a block.
 use Rattle.std.proofs.Common.{◌≡◌, inl, inr, sym, subst, ap, ◌∙◌, arith, ℕ, ◌+◌, ◌-◌, ◌*◌, ◌/◌, ◌%◌, ◌<◌, ◌≤◌, List, slice_index, IsBitSet}
 use Rattle.std.proofs.lemmas.Bool.{cases_lt}
 use Rattle.grid.specs.Samples.{count_of, parts_of}
@@ -9,7 +9,7 @@ use Rattle.raster.specs.Drawing.{IsChosen, IsInPart}
 use Rattle.raster.proofs.BlockDrawn.{part_at_most}
 use Rattle.canvas.specs.Layout.{stored_in_tile}
 use Rattle.painting.specs.declared.masks.Masks.{Masks}
-use Rattle.painting.specs.Parts.{mask_of, IsAllowed, IsInBlock, IsInTilePart, TilePaints}
+use Rattle.painting.specs.Parts.{mask_of, IsInBlock, TilePaints}
 use Rattle.painting.proofs.Columns.{none_set}
 use Rattle.painting.proofs.Joined.{tile_same, tile_joined}
 use Rattle.painting.proofs.SampleParts.{all_parts, part_end}
@@ -107,12 +107,3 @@ module _ (t : Placed) (tile : Tile) (bx by : ℕ) (masks : Masks) (k part : ℕ)
       let few = part_at_most tile.count in
       let samples = q.part.samples in
       none_set (8 * (row % 8) + column % 8) (subst (λ w. IsBitSet w (8 * (row % 8) + column % 8)) (zeros (s - 4 * part) (omega (arith, samples.low, samples.high, few.1))) q.in_masks))
-
--- ---- in a tile that is drawn whole
-module _ (t : Placed) (tile : Tile) (part : ℕ) where
-  pub tile_part_more : (old mid new : List BlockSamples) → TilePaints t tile (OfParts (IsAllowed t.state tile) part) old mid → TilePaints t tile (IsInTilePart t.state tile (4 * part)) mid new
-      → TilePaints t tile (OfParts (IsAllowed t.state tile) (part + 1)) old new
-  tile_part_more =
-      one_part_more t tile (IsAllowed t.state tile) part (IsInTilePart t.state tile (4 * part))
-      (λ row column s q. (q.samples, q.allowed))
-      (λ row column s samples p. record { samples = samples; allowed = p })

@@ -8,7 +8,7 @@ use Rattle.lanes.specs.declared.block_samples.BlockSamples.{BlockSamples}
 use Rattle.raster.specs.declared.tile.Tile.{Tile}
 use Rattle.raster.specs.Samples.{IsSampleOf}
 use Rattle.canvas.specs.declared.canvas.Canvas.{Canvas}
-use Rattle.canvas.specs.Layout.{IsStoredIn, stored, stored_in_tile}
+use Rattle.canvas.specs.Layout.{IsStoredIn, stored, stored_in_tile, IsSameTile}
 use Rattle.painting.specs.Parts.{TilePaints, RowsPaint}
 
 -- ---- in a tile
@@ -23,6 +23,15 @@ module _ (t : Placed) (tile : Tile) where
   tile_same P R old new d from into = record {
     met = λ row column s h r. d.met row column s h (from row column s h r);
     missed = λ row column s h n. d.missed row column s h (λ p. n (into row column s h p));
+  }
+
+  -- painted over the same samples, which may be kept in another way
+  pub tile_after_same : (P : ℕ → ℕ → ℕ → Type 0) (old mid new : List BlockSamples) → IsSameTile tile.count old mid → TilePaints t tile P mid new → TilePaints t tile P old new
+  tile_after_same P old mid new kept d = record {
+    met = λ row column s h p.
+        subst (λ (x : CanvasSample). IsCanvasDrawnAt t (sample_position (8 * tile.bx + column) (8 * tile.by + row) s tile.count) x (stored_in_tile tile.count new column row s)) (kept column row s h.is_sample)
+        (d.met row column s h p);
+    missed = λ row column s h n. d.missed row column s h n ∙ kept column row s h.is_sample;
   }
 
   module _ (P Q R : ℕ → ℕ → ℕ → Type 0) (old mid new : List BlockSamples) (first : TilePaints t tile P old mid) (second : TilePaints t tile Q mid new)

@@ -158,9 +158,9 @@ applied polygon origin count i j s old new h l drawn =
     by_alpha polygon.state.merge (fragment_of (shape_of polygon)) old new (subst (λ (f : Shaded). IsCanvasApplied t.state.merge f old new) same drawn.2)
 
 pub alike_over_screen : (polygon : Polygon) (origin : Origin) → IsAlikeOverScreen (over_screen polygon origin)
-alike_over_screen polygon origin count i j k l s old new hi hj hk hl drawn =
+alike_over_screen polygon origin m n i j r k l s old new hi hj hk hl drawn =
     let t = over_screen polygon origin in
-    let p = sample_position i j s count in
-    let same = fragment-unique t p drawn.0 (fragment_of (shape_of polygon)) drawn.1 (fragment_there polygon origin p (covers_screen polygon origin count i j s hi hj)) in
+    let p = sample_position i j r m in
+    let same = fragment-unique t p drawn.0 (fragment_of (shape_of polygon)) drawn.1 (fragment_there polygon origin p (covers_screen polygon origin m i j r hi hj)) in
     let there : IsCanvasApplied t.state.merge (fragment_of (shape_of polygon)) old new = subst (λ (f : Shaded). IsCanvasApplied t.state.merge f old new) same drawn.2 in
-    (fragment_of (shape_of polygon), fragment_there polygon origin (sample_position k l s count) (covers_screen polygon origin count k l s hk hl), there)
+    (fragment_of (shape_of polygon), fragment_there polygon origin (sample_position k l s n) (covers_screen polygon origin n k l s hk hl), there)

@@ -1,5 +1,5 @@
--- What is drawn at the samples of a tile's own blocks, drawn at the tile's samples.
-use Rattle.std.proofs.Common.{◌≡◌, ◌≢◌, ◌∙◌, ap, sym, subst, ℕ, ◌+◌, ◌*◌, ◌/◌, ◌%◌, ◌<◌, ◌≤◌, List, length, take, drop, slice_index, arith}
+-- What is drawn at the samples of a block with its own planes, drawn at the tile's samples.
+use Rattle.std.proofs.Common.{◌≡◌, ◌∙◌, refl, ap, sym, subst, ℕ, ◌+◌, ◌-◌, ◌*◌, ◌/◌, ◌%◌, ◌<◌, ◌≤◌, List, length, take, drop, slice_index, arith}
 use Rattle.std.specs.Prelude.{slice_index_or}
 use Rattle.grid.specs.Samples.{count_of, sample_position}
 use Rattle.grid.specs.declared.pixels.TileSide.TheVariants.{T64}
@@ -8,73 +8,118 @@ use Rattle.lanes.specs.Block.{stored_at}
 use Rattle.shade.specs.declared.placed.Placed.{Placed}
 use Rattle.shade.specs.declared.sample.CanvasSample.{CanvasSample}
 use Rattle.shade.specs.Canvas.{IsCanvasDrawnAt}
+use Rattle.shade.proofs.Resolved.{some_samples}
 use Rattle.raster.specs.declared.tile.Tile.{Tile}
-use Rattle.raster.specs.Drawing.{IsChosen, DrawsMasks}
+use Rattle.raster.specs.Drawing.{IsChosen, IsInSquare, DrawsMasks}
 use Rattle.raster.specs.Samples.{IsSampleOf, place_of as place_in, stored as in_tile}
-use Rattle.canvas.specs.Layout.{planes_of_tile, stored_in_tile}
-use Rattle.canvas.proofs.Cut.{put, part_of}
+use Rattle.canvas.specs.declared.way.Way.{Way}
+use Rattle.canvas.specs.declared.way.Way.TheVariants.{Cleared, Single, Own}
+use Rattle.canvas.specs.Layout.{planes_of_tile, stored_in_tile, way_of, way_in_tile, block_in_tile, place_by}
+use Rattle.canvas.proofs.Cut.{put, put_elsewhere, part_of}
 use Rattle.canvas.proofs.DrawnTiles.{own_put, mark_put}
 use Rattle.canvas.proofs.Places.{none}
-use Rattle.canvas.proofs.TilePlanes.{at_changed, own_place, within_own}
-use Rattle.painting.specs.Parts.{TilePaints}
+use Rattle.canvas.proofs.TilePlanes.{pixel_in_block, by_way, own_place, within_own}
+use Rattle.painting.specs.Parts.{number_of, TilePaints}
 
+-- ---- where the samples of a block are
+module _ (tile : Tile) (side : tile.side ≡ T64) (bx by row column s : ℕ) (h : IsSampleOf tile row column s) where
+  high_is : row < 64
+  high_is = let below = h.high in rw side at below
+
+  wide_is : column < 64
+  wide_is = let below = h.wide in rw side at below
+
+  pub in_block : IsInSquare tile bx by 8 row column s → block_in_tile column row ≡ number_of tile bx by
+  in_block q = let down = high_is in let across = wide_is in omega (arith, down, across, q.left, q.right, q.top, q.bottom)
+
+  pub of_block : tile.bx ≤ bx → bx < tile.bx + 8 → tile.by ≤ by → by < tile.by + 8 → block_in_tile column row ≡ number_of tile bx by → IsInSquare tile bx by 8 row column s
+  of_block l r t b e =
+      let down = high_is in
+      let across = wide_is in
+      record { left = omega (arith, down, across, e, l, r, t, b); right = omega (arith, down, across, e, l, r, t, b); top = omega (arith, down, across, e, l, r, t, b); bottom = omega (arith, down, across, e, l, r, t, b) }
+
+same_square : {tile : Tile} {bx by : ℕ} (row column r s : ℕ) → IsInSquare tile bx by 8 row column r → IsInSquare tile bx by 8 row column s
+same_square row column r s q = record { left = q.left; right = q.right; top = q.top; bottom = q.bottom }
+
+single_own : Single ≡ Own → ⊥
+single_own e = cc
+
+-- a block is kept in one of three ways
+way_cases : (P : Way → Type 0) → P Cleared → P Single → P Own → (way : Way) → P way
+way_cases P a b c Cleared = a
+way_cases P a b c Single = b
+way_cases P a b c Own = c
+
+-- ---- drawn in the planes of a block
 module _ (t : Placed) (tile : Tile) (side : tile.side ≡ T64) (bx by from : ℕ) (masks : List ℕ) (old part : List BlockSamples) (n a : ℕ) (many : a + n ≡ planes_of_tile tile.count) (at : a ≡ 1 + count_of tile.count)
-    (fits : a + n ≤ length old) (whole : length part ≡ n) (changed : slice_index (slice_index_or old 0 none).r 0 ≢ 1)
-    (draws : DrawsMasks t tile bx by from masks (take n (drop a old)) part) where
+    (fits : a + n ≤ length old) (whole : length part ≡ n) (own : way_in_tile old (number_of tile bx by) ≡ Own) (draws : DrawsMasks t tile bx by from masks (take n (drop a old)) part) where
   abbrev new : List BlockSamples
   new = put old part a n
 
-  pub still_changed : slice_index (slice_index_or new 0 none).r 0 ≢ 1
-  still_changed e =
-      let mark : slice_index_or new 0 none ≡ slice_index_or old 0 none = mark_put old part n a fits whole (omega (arith, at)) in
-      changed (ap (λ (p : BlockSamples). slice_index p.r 0) (sym mark) ∙ e)
+  same_state : slice_index_or new 0 none ≡ slice_index_or old 0 none
+  same_state = mark_put old part n a fits whole (omega (arith, at))
+
+  pub still_own : way_in_tile new (number_of tile bx by) ≡ Own
+  still_own = ap (λ (state : BlockSamples). way_of state (number_of tile bx by)) same_state ∙ own
 
   module _ (row column s : ℕ) (h : IsSampleOf tile row column s) where
     abbrev block : ℕ
-    block = row % 64 / 8 * 8 + column % 64 / 8
-
-    abbrev own : ℕ
-    own = block * count_of tile.count + s
-
-    abbrev pixel : ℕ
-    pixel = 8 * (row % 8) + column % 8
-
-    high : row < 64
-    high = let below = h.high in rw side at below
-
-    wide : column < 64
-    wide = let below = h.wide in rw side at below
+    block = block_in_tile column row
 
     same_block : row / 8 * 8 + column / 8 ≡ block
-    same_block = let down = high in let across = wide in omega (arith, down, across)
+    same_block = let down = high_is tile side bx by row column s h in let across = wide_is tile side bx by row column s h in omega (arith, down, across)
 
-    place_is : place_in tile (row / 8) (column / 8) s ≡ own
-    place_is = rw side (ap (λ b. b * count_of tile.count + s) same_block)
+    -- the own planes of the block
+    in_own : (r : ℕ) → r < count_of tile.count → (xs : List BlockSamples) → in_tile tile (take n (drop a xs)) row column r ≡ stored_at (slice_index_or xs (1 + (block + 1) * count_of tile.count + r) none) (pixel_in_block column row)
+    in_own r small xs =
+        let place : place_in tile (row / 8) (column / 8) r ≡ block * count_of tile.count + r = rw side (ap (λ b. b * count_of tile.count + r) same_block) in
+        ap (λ k. stored_at (slice_index_or (take n (drop a xs)) k none) (pixel_in_block column row)) place
+        ∙ ap (λ p. stored_at p (pixel_in_block column row)) (part_of xs a n none (block * count_of tile.count + r) (within_own tile.count block r n a (omega arith) small many at))
+        ∙ ap (λ k. stored_at (slice_index_or xs k none) (pixel_in_block column row)) (ap (λ b. b + (block * count_of tile.count + r)) at ∙ own_place tile.count block r)
 
-    inside : own < n
-    inside = within_own tile.count block s n a (omega arith) h.is_sample many at
+    in_new : (r : ℕ) → r < count_of tile.count → in_tile tile part row column r ≡ stored_at (slice_index_or new (1 + (block + 1) * count_of tile.count + r) none) (pixel_in_block column row)
+    in_new r small = ap (λ (xs : List BlockSamples). in_tile tile xs row column r) (sym (own_put old part n a fits whole)) ∙ in_own r small new
 
-    in_all : a + own ≡ 1 + (block + 1) * count_of tile.count + s
-    in_all = ap (λ b. b + own) at ∙ own_place tile.count block s
+    -- an own plane in which nothing was drawn at this pixel
+    same_own : (r : ℕ) → (small : r < count_of tile.count) → ¬ IsChosen t.state tile bx by from masks row column r
+        → stored_at (slice_index_or new (1 + (block + 1) * count_of tile.count + r) none) (pixel_in_block column row) ≡ stored_at (slice_index_or old (1 + (block + 1) * count_of tile.count + r) none) (pixel_in_block column row)
+    same_own r small other = sym (in_new r small) ∙ draws.kept row column r (record { high = h.high; wide = h.wide; is_sample = small }) other ∙ in_own r small old
 
-    in_own : (xs : List BlockSamples) → slice_index (slice_index_or xs 0 none).r 0 ≢ 1 → in_tile tile (take n (drop a xs)) row column s ≡ stored_in_tile tile.count xs column row s
-    in_own xs is =
-        ap (λ k. stored_at (slice_index_or (take n (drop a xs)) k none) pixel) place_is
-        ∙ ap (λ p. stored_at p pixel) (part_of xs a n none own inside)
-        ∙ ap (λ k. stored_at (slice_index_or xs k none) pixel) in_all
-        ∙ sym (at_changed tile.count xs column row s is)
+    at_way : (xs : List BlockSamples) (way : Way) → slice_index_or xs 0 none ≡ slice_index_or old 0 none → way_in_tile old block ≡ way
+        → stored_in_tile tile.count xs column row s ≡ stored_at (slice_index_or xs (place_by tile.count way block s) none) (pixel_in_block column row)
+    at_way xs way same e = by_way tile.count xs way column row s (ap (λ (state : BlockSamples). way_of state block) same ∙ e)
 
-    old_is : in_tile tile (take n (drop a old)) row column s ≡ stored_in_tile tile.count old column row s
-    old_is = in_own old changed
+    met : IsChosen t.state tile bx by from masks row column s
+        → IsCanvasDrawnAt t (sample_position (8 * tile.bx + column) (8 * tile.by + row) s tile.count) (stored_in_tile tile.count old column row s) (stored_in_tile tile.count new column row s)
+    met chosen =
+        let here : way_in_tile old block ≡ Own = ap (way_in_tile old) (in_block tile side bx by row column s h chosen.part.square) ∙ own in
+        let p = sample_position (8 * tile.bx + column) (8 * tile.by + row) s tile.count in
+        subst (λ (x : CanvasSample). IsCanvasDrawnAt t p x (stored_in_tile tile.count new column row s)) (in_own s h.is_sample old ∙ sym (at_way old Own refl here))
+        (subst (λ (y : CanvasSample). IsCanvasDrawnAt t p (in_tile tile (take n (drop a old)) row column s) y) (in_new s h.is_sample ∙ sym (at_way new Own same_state here)) (draws.drawn row column s h chosen))
 
-    new_is : in_tile tile part row column s ≡ stored_in_tile tile.count new column row s
-    new_is = ap (λ (xs : List BlockSamples). in_tile tile xs row column s) (sym (own_put old part n a fits whole)) ∙ in_own new still_changed
+    abbrev Missed : Way → Type 0
+    Missed way = way_in_tile old block ≡ way → ¬ IsChosen t.state tile bx by from masks row column s → stored_in_tile tile.count new column row s ≡ stored_in_tile tile.count old column row s
+
+    missed_cleared : Missed Cleared
+    missed_cleared e other =
+        at_way new Cleared same_state e
+        ∙ ap (λ p. stored_at p (pixel_in_block column row)) (put_elsewhere old part a n none fits whole 1 (λ k l m. let some = some_samples tile.count in omega (arith, m, at, some)))
+        ∙ sym (at_way old Cleared refl e)
+
+    missed_single : Missed Single
+    missed_single e other =
+        let first : 1 + (block + 1) * count_of tile.count ≡ 1 + (block + 1) * count_of tile.count + 0 = omega arith in
+        at_way new Single same_state e
+        ∙ ap (λ k. stored_at (slice_index_or new k none) (pixel_in_block column row)) first
+        ∙ same_own 0 (some_samples tile.count) (λ chosen. single_own (sym e ∙ ap (way_in_tile old) (in_block tile side bx by row column s h (same_square row column 0 s chosen.part.square)) ∙ own))
+        ∙ ap (λ k. stored_at (slice_index_or old k none) (pixel_in_block column row)) (sym first)
+        ∙ sym (at_way old Single refl e)
+
+    missed_own : Missed Own
+    missed_own e other = at_way new Own same_state e ∙ same_own s h.is_sample other ∙ sym (at_way old Own refl e)
+
+    missed : ¬ IsChosen t.state tile bx by from masks row column s → stored_in_tile tile.count new column row s ≡ stored_in_tile tile.count old column row s
+    missed = way_cases Missed missed_cleared missed_single missed_own (way_in_tile old block) refl
 
   pub tile_painted : TilePaints t tile (IsChosen t.state tile bx by from masks) old new
-  tile_painted = record {
-    met = λ row column s h chosen.
-        let p = sample_position (8 * tile.bx + column) (8 * tile.by + row) s tile.count in
-        subst (λ (x : CanvasSample). IsCanvasDrawnAt t p x (stored_in_tile tile.count new column row s)) (old_is row column s h)
-        (subst (λ (y : CanvasSample). IsCanvasDrawnAt t p (in_tile tile (take n (drop a old)) row column s) y) (new_is row column s h) (draws.drawn row column s h chosen));
-    missed = λ row column s h other. sym (new_is row column s h) ∙ draws.kept row column s h other ∙ old_is row column s h;
-  }
+  tile_painted = record { met = λ row column s h chosen. met row column s h chosen; missed = λ row column s h other. missed row column s h other }

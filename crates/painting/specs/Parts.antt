@@ -1,6 +1,6 @@
 -- Parts of a canvas that are painted one after another, by masks.
-use Rattle.std.specs.Prelude.{◌≡◌, ◌↔◌, ℕ, ◌+◌, ◌-◌, ◌*◌, ◌/◌, ◌%◌, ◌<◌, ◌≤◌, ◌==◌, if◌then◌else◌, pos, negsuc, ◌+ℤ◌, List, [], ◌∷◌, slice_index, IsBitSet}
-use Rattle.grid.specs.Samples.{parts_of, sample_position}
+use Rattle.std.specs.Prelude.{◌≡◌, ◌↔◌, ℕ, ◌+◌, ◌-◌, ◌*◌, ◌/◌, ◌%◌, ◌^◌, ◌<◌, ◌≤◌, ◌==◌, if◌then◌else◌, pos, negsuc, ◌+ℤ◌, List, [], ◌∷◌, slice_index, slice_index_or, IsBitSet}
+use Rattle.grid.specs.Samples.{count_of, parts_of, sample_position}
 use Rattle.grid.specs.Triangle.{Covers}
 use Rattle.grid.specs.declared.cull.Cull.TheVariants.{None as NoCulling}
 use Rattle.grid.specs.declared.sample_count.SampleCount.{SampleCount}
@@ -19,11 +19,12 @@ use Rattle.polygons.specs.Polygon.{PolygonCovers}
 use Rattle.polygons.specs.Rings.{IsInExtent}
 use Rattle.polygons.specs.Screen.{screen_sample}
 use Rattle.raster.specs.declared.tile.Tile.{Tile}
-use Rattle.raster.specs.Drawing.{Allows, IsInPart, IsInSquare}
+use Rattle.raster.specs.Drawing.{Allows, IsInSquare}
+use Rattle.raster.specs.Region.{HoldsTile}
 use Rattle.raster.specs.Samples.{IsSampleOf}
 use Rattle.canvas.specs.declared.canvas.Canvas.{Canvas}
 use Rattle.canvas.specs.declared.window.Origin.{Origin}
-use Rattle.canvas.specs.Layout.{IsStoredIn, columns_of, stored, stored_in_tile}
+use Rattle.canvas.specs.Layout.{IsStoredIn, columns_of, place_in_tile, stored, stored_in_tile}
 use Rattle.canvas.specs.Window.{moved_state}
 use Rattle.painting.specs.declared.masks.Masks.{Masks}
 use Rattle.painting.specs.declared.polygon.Polygon.{Polygon}
@@ -72,11 +73,11 @@ over_screen polygon origin = record {
 abbrev pub CoversScreen : Placed → Type 0
 CoversScreen t = (count : SampleCount) (i j s : ℕ) → i < 4096 → j < 4096 → Covers t.tri.a t.tri.b t.tri.c (sample_position i j s count)
 
--- The triangle makes the same of a sample wherever on the screen its pixel lies.
+-- The triangle makes the same of a sample wherever on the screen it lies, and however many a pixel has.
 abbrev pub IsAlikeOverScreen : Placed → Type 0
 IsAlikeOverScreen t =
-    (count : SampleCount) (i j k l s : ℕ) (old new : CanvasSample) → i < 4096 → j < 4096 → k < 4096 → l < 4096
-    → IsCanvasDrawnAt t (sample_position i j s count) old new → IsCanvasDrawnAt t (sample_position k l s count) old new
+    (m n : SampleCount) (i j r k l s : ℕ) (old new : CanvasSample) → i < 4096 → j < 4096 → k < 4096 → l < 4096
+    → IsCanvasDrawnAt t (sample_position i j r m) old new → IsCanvasDrawnAt t (sample_position k l s n) old new
 
 -- The triangle is drawn at those samples of the tile that are in this part, and the others are unchanged.
 pub record TilePaints (t : Placed) (tile : Tile) (part : ℕ → ℕ → ℕ → Type 0) (old new : List BlockSamples) : Type 0 where
@@ -106,10 +107,20 @@ mask_of masks column row s = mask_at masks.flags.now masks.columns column row s
 abbrev pub IsAllowed : State → Tile → ℕ → ℕ → ℕ → Type 0
 IsAllowed state tile row column s = Allows state (8 * tile.bx + column) (8 * tile.by + row) s
 
--- The sample is in the part that begins with sample `from`, and the state lets it be drawn.
-pub record IsInTilePart (state : State) (tile : Tile) (from : ℕ) (row column s : ℕ) : Type 0 where
-  pub samples : IsInPart tile.count from s
-  pub allowed : IsAllowed state tile row column s
+-- The state lets each sample of the tile be drawn: its pixels are in the scissor, and the bits of all samples of a pixel are set in the
+-- sample mask.
+pub record AllowsTile (state : State) (tile : Tile) : Type 0 where
+  pub in_scissor : HoldsTile state.scissor tile
+  pub in_mask : (s : ℕ) → s < count_of tile.count → state.sample_mask / 2 ^ s % 2 ≡ 1
+
+-- The number of block (bx, by) among the 64 of its tile, row by row.
+abbrev pub number_of : Tile → ℕ → ℕ → ℕ
+number_of tile bx by = (by - tile.by) * 8 + (bx - tile.bx)
+
+-- The sample is kept in the plane of this index among those of the tile.
+abbrev pub IsKeptAt : SampleCount → List BlockSamples → ℕ → ℕ → ℕ → ℕ → Type 0
+IsKeptAt count samples place row column s =
+    place_in_tile count (slice_index_or samples 0 (record { z = []; r = []; g = []; b = []; alpha = [] })) column row s ≡ place
 
 -- The sample is in block (bx, by) and is drawn there: its bit is set in column k of the masks, and the state lets it be drawn.
 pub record IsInBlock (state : State) (tile : Tile) (bx by : ℕ) (masks : Masks) (k : ℕ) (row column s : ℕ) : Type 0 where

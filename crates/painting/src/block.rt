@@ -1,21 +1,33 @@
 //! The samples of a block.
-ghost use Rattle.std.specs.Prelude.{◌≡◌, ◌≢◌, ◌<◌, [], length, slice_index, slice_index_or, IsTrue};
+ghost use Rattle.std.specs.Prelude.{◌≡◌, ◌<◌, length, IsTrue};
 ghost use Rattle.grid.specs.Samples.{IsPart};
 ghost use Rattle.grid.specs.declared.pixels.TileSide.TheVariants.{T64};
-ghost use Rattle.raster.specs.Drawing.{LiesIn, IsChosen};
-ghost use Rattle.raster.specs.Region.{HoldsTile};
-ghost use Rattle.canvas.specs.Layout.{planes_of_tile};
-ghost use Rattle.painting.specs.Parts.{CoversScreen, IsInBlock, TilePaints};
+ghost use Rattle.raster.specs.Drawing.{LiesIn, IsChosen, IsInSquare};
+ghost use Rattle.canvas.specs.declared.way.Way.TheVariants.{Own, Single};
+ghost use Rattle.canvas.specs.Layout.{planes_of_tile, way_in_tile};
+ghost use Rattle.painting.specs.Parts.{CoversScreen, IsAlikeOverScreen, AllowsTile, number_of as number_in_tile, IsInBlock, TilePaints};
 
 use crate::masks::{Masks, has_some};
-use canvas::fill_tile;
+use crate::plane::paint_plane;
+use canvas::{Way, fill_block, place_by, single_block};
 use lanes::{BlockSamples, Interpolants};
 use planes::Corrections;
 use raster::{Tile, draw_masks};
 
+/// The number of block (bx, by) among the 64 of its tile, row by row.
+#[inline(always)]
+fn number_of(tile: &Tile, bx: u32, by: u32) -> usize
+    requires side { tile.now.side ≡ T64 }
+    requires block { LiesIn tile.now bx by 8 }
+    ensures value { result ≡ number_in_tile tile.now bx by }
+    ensures few { result < 64 }
+{
+    ((by - tile.by) * 8 + (bx - tile.bx)) as usize
+}
+
 /// Draws a triangle that covers the screen at those samples of block (bx, by) of the tile that are in the masks, of the
-/// part that begins with sample `from`. The tile's blocks have their own samples. `whole` says that all pixels of the
-/// tile are in the scissor.
+/// part that begins with sample `from`. The block has its own planes. `whole` says that the state lets all samples of
+/// the tile be drawn.
 #[inline]
 fn paint_part(
     triangle: &Interpolants,
@@ -31,10 +43,10 @@ fn paint_part(
     requires block { LiesIn tile.now bx by 8 }
     requires part { IsPart tile.now.count from }
     requires covers { CoversScreen triangle.now }
-    requires whole { IsTrue whole → HoldsTile triangle.now.state.scissor tile.now }
+    requires whole { IsTrue whole → AllowsTile triangle.now.state tile.now }
     requires samples { length samples.old ≡ planes_of_tile tile.now.count }
-    requires filled { slice_index (slice_index_or samples.old 0 (record { z = []; r = []; g = []; b = []; alpha = [] })).r 0 ≢ 1 }
-    ensures filled { slice_index (slice_index_or samples.new 0 (record { z = []; r = []; g = []; b = []; alpha = [] })).r 0 ≢ 1 }
+    requires own { way_in_tile samples.old (number_in_tile tile.now bx by) ≡ Own }
+    ensures own { way_in_tile samples.new (number_in_tile tile.now bx by) ≡ Own }
     ensures painted { TilePaints triangle.now tile.now
         (IsChosen triangle.now.state tile.now bx by from masks.now) samples.old samples.new }
 {
@@ -55,7 +67,62 @@ fn paint_part(
 }
 
 /// Draws a triangle that covers the screen at those samples of block (bx, by) of the tile whose bits are set, in column
-/// `k` of the masks. `whole` says that all pixels of the tile are in the scissor.
+/// `k` of the masks, each in its own plane.
+fn paint_parts(
+    triangle: &Interpolants,
+    tile: &Tile,
+    bx: u32,
+    by: u32,
+    masks: &Masks<'_>,
+    k: usize,
+    whole: bool,
+    samples: &mut [BlockSamples],
+)
+    requires side { tile.now.side ≡ T64 }
+    requires count { masks.now.count ≡ tile.now.count }
+    requires block { LiesIn tile.now bx by 8 }
+    requires column { k < masks.now.columns }
+    requires covers { CoversScreen triangle.now }
+    requires whole { IsTrue whole → AllowsTile triangle.now.state tile.now }
+    requires samples { length samples.old ≡ planes_of_tile tile.now.count }
+    ensures { TilePaints triangle.now tile.now (IsInBlock triangle.now.state tile.now bx by masks.now k) samples.old
+        samples.new }
+{
+    fill_block(tile.count, number_of(tile, bx, by), samples);
+    for part in 0..tile.count.parts() {
+        let words = masks.part(k, (by - tile.by) as usize, part);
+        if has_some(&words) {
+            paint_part(triangle, tile, bx, by, 4 * part, &words, whole, samples);
+        }
+    }
+}
+
+/// Draws a triangle that covers the screen, in one colour and at one depth, at all samples of block (bx, by) of the
+/// tile, for which one plane stands.
+fn paint_single(
+    triangle: &Interpolants,
+    tile: &Tile,
+    bx: u32,
+    by: u32,
+    samples: &mut [BlockSamples],
+)
+    requires side { tile.now.side ≡ T64 }
+    requires block { LiesIn tile.now bx by 8 }
+    requires covers { CoversScreen triangle.now }
+    requires alike { IsAlikeOverScreen triangle.now }
+    requires whole { AllowsTile triangle.now.state tile.now }
+    requires samples { length samples.old ≡ planes_of_tile tile.now.count }
+    requires single { way_in_tile samples.old (number_in_tile tile.now bx by) ≡ Single }
+    ensures { TilePaints triangle.now tile.now (IsInSquare tile.now bx by 8) samples.old samples.new }
+{
+    let number = number_of(tile, bx, by);
+    let place = place_by(tile.count, Way::Single, number, 0);
+    paint_plane(triangle, tile, bx, by, place, samples);
+}
+
+/// Draws a triangle that covers the screen, in one colour and at one depth, at those samples of block (bx, by) of the
+/// tile whose bits are set, in column `k` of the masks. `whole` says that the state lets all samples of the tile be
+/// drawn. A block that is drawn whole stays in one plane if it is kept in one.
 pub(crate) fn paint_block(
     triangle: &Interpolants,
     tile: &Tile,
@@ -71,16 +138,19 @@ pub(crate) fn paint_block(
     requires block { LiesIn tile.now bx by 8 }
     requires column { k < masks.now.columns }
     requires covers { CoversScreen triangle.now }
-    requires whole { IsTrue whole → HoldsTile triangle.now.state.scissor tile.now }
+    requires alike { IsAlikeOverScreen triangle.now }
+    requires whole { IsTrue whole → AllowsTile triangle.now.state tile.now }
     requires samples { length samples.old ≡ planes_of_tile tile.now.count }
     ensures { TilePaints triangle.now tile.now (IsInBlock triangle.now.state tile.now bx by masks.now k) samples.old
         samples.new }
 {
-    fill_tile(tile.count, samples);
-    for part in 0..tile.count.parts() {
-        let words = masks.part(k, (by - tile.by) as usize, part);
-        if has_some(&words) {
-            paint_part(triangle, tile, bx, by, 4 * part, &words, whole, samples);
-        }
+    if !whole || !masks.is_full(k, (by - tile.by) as usize) {
+        paint_parts(triangle, tile, bx, by, masks, k, whole, samples);
+        return;
     }
+    if !single_block(tile.count, number_of(tile, bx, by), samples) {
+        paint_parts(triangle, tile, bx, by, masks, k, whole, samples);
+        return;
+    }
+    paint_single(triangle, tile, bx, by, samples);
 }

@@ -2,15 +2,16 @@
 ghost use Rattle.std.specs.Prelude.{◌≡◌, ◌+◌, ◌<◌, ◌≤◌, length};
 ghost use Rattle.grid.specs.declared.pixels.TileSide.TheVariants.{T64};
 ghost use Rattle.canvas.specs.Layout.{planes_of_tile};
-ghost use Rattle.painting.specs.Parts.{CoversScreen, IsInColumn, TilePaints};
+ghost use Rattle.painting.specs.Parts.{CoversScreen, IsAlikeOverScreen, IsInColumn, TilePaints};
 
+use crate::allowed::allows_tile;
 use crate::block::paint_block;
 use crate::masks::Masks;
 use lanes::{BlockSamples, Interpolants};
-use raster::{Tile, holds_tile};
+use raster::Tile;
 
-/// Draws a triangle that covers the screen at those samples of a column of blocks of the tile whose bits are set, in
-/// column `k` of the masks. A block without any is not touched.
+/// Draws a triangle that covers the screen, in one colour and at one depth, at those samples of a column of blocks of the
+/// tile whose bits are set, in column `k` of the masks. A block without any is not touched.
 pub(crate) fn paint_column(
     triangle: &Interpolants,
     tile: &Tile,
@@ -25,11 +26,12 @@ pub(crate) fn paint_column(
     requires right { bx + 1 ≤ tile.now.bx + 8 }
     requires column { k < masks.now.columns }
     requires covers { CoversScreen triangle.now }
+    requires alike { IsAlikeOverScreen triangle.now }
     requires samples { length samples.old ≡ planes_of_tile tile.now.count }
     ensures { TilePaints triangle.now tile.now (IsInColumn triangle.now.state tile.now bx 8 masks.now k) samples.old
         samples.new }
 {
-    let whole = holds_tile(&triangle.placed().state.scissor, tile);
+    let whole = allows_tile(&triangle.placed().state, tile);
     for row in 0..8u32 {
         if masks.has_some(k, row as usize) {
             paint_block(triangle, tile, bx, tile.by + row, masks, k, whole, samples);

@@ -1,10 +1,12 @@
 //! Polygons drawn on a canvas: each in one colour and at one depth, merged as triangles are. No call allocates.
 #![tactic(auto)]
 
+mod allowed;
 mod batch;
 mod block;
 mod column;
 mod masks;
+mod plane;
 mod polygon;
 mod row;
 mod rows;

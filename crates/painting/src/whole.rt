@@ -1,16 +1,18 @@
-//! Tiles that are covered whole while they are unchanged since they were cleared. One block stands for all of their
-//! blocks, and goes on to do so.
-ghost use Rattle.std.specs.Prelude.{◌≡◌, ℕ, ◌+◌, ◌%◌, ◌<◌, ◌≤◌, [], length, slice_index, slice_index_or, IsBitSet, IsTrue};
-ghost use Rattle.grid.specs.Samples.{count_of, IsPart};
+//! Tiles that are drawn whole while all of their blocks are as the tile was cleared. One plane stands for all of their
+//! samples, and goes on to do so.
+ghost use Rattle.std.specs.Prelude.{◌≡◌, ℕ, ◌+◌, ◌%◌, ◌<◌, ◌≤◌, length, IsBitSet, IsTrue};
+ghost use Rattle.grid.specs.Samples.{count_of};
 ghost use Rattle.grid.specs.declared.pixels.TileSide.TheVariants.{T64};
-ghost use Rattle.raster.specs.Region.{HoldsTile};
-ghost use Rattle.canvas.specs.Layout.{planes_of_tile};
-ghost use Rattle.painting.specs.Parts.{mask_of, CoversScreen, IsAlikeOverScreen, IsAllowed, IsInTilePart, TilePaints};
+ghost use Rattle.canvas.specs.declared.way.Way.TheVariants.{Cleared};
+ghost use Rattle.canvas.specs.Layout.{planes_of_tile, way_in_tile};
+ghost use Rattle.painting.specs.Parts.{mask_of, CoversScreen, IsAlikeOverScreen, AllowsTile, IsAllowed, TilePaints};
 
+use crate::allowed::allows_tile;
 use crate::masks::Masks;
+use crate::plane::paint_plane;
+use canvas::{Way, is_cleared, place_by};
 use lanes::{BlockSamples, Interpolants};
-use planes::Corrections;
-use raster::{Tile, draw_masks, holds_tile};
+use raster::Tile;
 
 /// Whether all bits of the eight columns of blocks from column `k` on are set.
 fn are_full_columns(masks: &Masks<'_>, k: usize) -> bool
@@ -28,20 +30,8 @@ fn are_full_columns(masks: &Masks<'_>, k: usize) -> bool
     true
 }
 
-/// Whether the tile with these planes is unchanged since it was cleared.
-#[inline(always)]
-fn is_cleared(samples: &[BlockSamples]) -> bool
-    ensures { IsTrue result →
-        slice_index (slice_index_or samples.now 0 (record { z = []; r = []; g = []; b = []; alpha = [] })).r 0 ≡ 1 }
-{
-    match samples {
-        [] => false,
-        [mark, ..] => mark.r[0] == 1,
-    }
-}
-
-/// Whether the tile is unchanged since it was cleared, begins with column `k` of the masks, lies in the scissor, and all
-/// bits of its columns are set.
+/// Whether all blocks of the tile are as it was cleared, it begins with column `k` of the masks, the state lets all of
+/// its samples be drawn, and all bits of its columns are set.
 pub(crate) fn is_whole(
     triangle: &Interpolants,
     tile: &Tile,
@@ -52,9 +42,8 @@ pub(crate) fn is_whole(
 ) -> bool
     ensures begins { IsTrue result → bx % 8 ≡ 0 }
     ensures columns { IsTrue result → k + 8 ≤ masks.now.columns }
-    ensures scissor { IsTrue result → HoldsTile triangle.now.state.scissor tile.now }
-    ensures cleared { IsTrue result →
-        slice_index (slice_index_or samples.now 0 (record { z = []; r = []; g = []; b = []; alpha = [] })).r 0 ≡ 1 }
+    ensures allows { IsTrue result → AllowsTile triangle.now.state tile.now }
+    ensures cleared { IsTrue result → (block : ℕ) → block < 64 → way_in_tile samples.now block ≡ Cleared }
     ensures full { IsTrue result → (column row s bit : ℕ) → k ≤ column → column < k + 8 → row < 8 →
         s < count_of masks.now.count → bit < 64 → IsBitSet (mask_of masks.now column row s) bit }
 {
@@ -64,59 +53,23 @@ pub(crate) fn is_whole(
     if masks.columns - 8 < k {
         return false;
     }
-    if !is_cleared(samples) || !holds_tile(&triangle.placed().state.scissor, tile) {
+    if !is_cleared(samples) || !allows_tile(&triangle.placed().state, tile) {
         return false;
     }
     are_full_columns(masks, k)
 }
 
-/// Draws a triangle that covers the screen, in one colour and at one depth, at all samples of a tile that is unchanged
-/// since it was cleared, of the part that begins with sample `from`: at those of the block that stands for all.
-fn paint_part_of_whole(
-    triangle: &Interpolants,
-    tile: &Tile,
-    from: u32,
-    samples: &mut [BlockSamples],
-)
-    requires side { tile.now.side ≡ T64 }
-    requires part { IsPart tile.now.count from }
-    requires covers { CoversScreen triangle.now }
-    requires alike { IsAlikeOverScreen triangle.now }
-    requires scissor { HoldsTile triangle.now.state.scissor tile.now }
-    requires cleared { slice_index (slice_index_or samples.old 0 (record { z = []; r = []; g = []; b = []; alpha = [] })).r 0 ≡ 1 }
-    requires samples { length samples.old ≡ planes_of_tile tile.now.count }
-    ensures painted { TilePaints triangle.now tile.now (IsInTilePart triangle.now.state tile.now from) samples.old samples.new }
-    ensures cleared { slice_index (slice_index_or samples.new 0 (record { z = []; r = []; g = []; b = []; alpha = [] })).r 0 ≡ 1 }
-{
-    let end = 1 + 64 * tile.count.count() as usize;
-    let masks = [u64::MAX; 4];
-    let mut corrections = Corrections::none();
-    draw_masks(
-        triangle,
-        tile,
-        tile.count,
-        tile.bx,
-        tile.by,
-        from,
-        &masks,
-        true,
-        &mut samples[1..end],
-        &mut corrections,
-    );
-}
-
-/// Draws a triangle that covers the screen, in one colour and at one depth, at all samples of a tile that is unchanged
-/// since it was cleared.
+/// Draws a triangle that covers the screen, in one colour and at one depth, at all samples of a tile all of whose blocks
+/// are as it was cleared: in the plane that stands for them.
 pub(crate) fn paint_whole(triangle: &Interpolants, tile: &Tile, samples: &mut [BlockSamples])
     requires side { tile.now.side ≡ T64 }
     requires covers { CoversScreen triangle.now }
     requires alike { IsAlikeOverScreen triangle.now }
-    requires scissor { HoldsTile triangle.now.state.scissor tile.now }
-    requires cleared { slice_index (slice_index_or samples.old 0 (record { z = []; r = []; g = []; b = []; alpha = [] })).r 0 ≡ 1 }
+    requires allows { AllowsTile triangle.now.state tile.now }
+    requires cleared { (block : ℕ) → block < 64 → way_in_tile samples.old block ≡ Cleared }
     requires samples { length samples.old ≡ planes_of_tile tile.now.count }
     ensures { TilePaints triangle.now tile.now (IsAllowed triangle.now.state tile.now) samples.old samples.new }
 {
-    for part in 0..tile.count.parts() {
-        paint_part_of_whole(triangle, tile, 4 * part, samples);
-    }
+    let place = place_by(tile.count, Way::Cleared, 0, 0);
+    paint_plane(triangle, tile, tile.bx, tile.by, place, samples);
 }

@@ -1,6 +1,6 @@
 use Rattle.std.proofs.Common.{◌≡◌, ◌+◌, ◌-◌, ◌≤◌, ℕ, ap, length, arith}
 use Rattle.grid.specs.Samples.{count_of}
-use Rattle.painting.proofs.Tiles.{still_changed, tile_painted}
+use Rattle.painting.proofs.Tiles.{still_own, tile_painted}
 use Rattle.painting.proofs.block.paint_part.Goals as goal
 
 pub draw_masks-requires-clause-covered : goal.draw_masks-requires-clause-covered
@@ -13,16 +13,19 @@ draw_masks-requires-clause-covered c row column s high wide small set =
     let down = rw c.requires.side at tile.row.aligned in
     c.requires.covers tile.count _ _ (c.args.from + s) (omega (arith, right, across, wide, tile.column.on_screen)) (omega (arith, bottom, down, high, tile.row.on_screen))
 
-pub returns-clause-filled : goal.returns-clause-filled
-returns-clause-filled c =
+pub draw_masks-requires-clause-whole : goal.draw_masks-requires-clause-whole
+draw_masks-requires-clause-whole c is = let allows = c.requires.whole is in allows.in_scissor
+
+pub returns-clause-own : goal.returns-clause-own
+returns-clause-own c =
     let tile = c.args.tile.now in
     let old = c.args.samples.now in
     let own : ℕ = 1 + c.count.result in
     let at : own ≡ 1 + count_of tile.count = ap (λ n. 1 + n) c.count.ensures in
     let fits : own ≤ length old = omega (arith, at, c.requires.samples) in
     let n : ℕ = length old - own in
-    still_changed c.args.triangle.now tile c.requires.side c.args.bx c.args.by c.args.from c.args.masks.now old c.draw_masks.new.samples n own (omega (arith, fits, c.requires.samples)) at
-    (omega (arith, fits)) (omega (arith, c.draw_masks.auto.samples, fits)) c.requires.filled c.draw_masks.ensures
+    still_own c.args.triangle.now tile c.requires.side c.args.bx c.args.by c.args.from c.args.masks.now old c.draw_masks.new.samples n own (omega (arith, fits, c.requires.samples)) at
+    (omega (arith, fits)) (omega (arith, c.draw_masks.auto.samples, fits)) c.requires.own c.draw_masks.ensures
 
 pub returns-clause-painted : goal.returns-clause-painted
 returns-clause-painted c =
@@ -33,4 +36,4 @@ returns-clause-painted c =
     let fits : own ≤ length old = omega (arith, at, c.requires.samples) in
     let n : ℕ = length old - own in
     tile_painted c.args.triangle.now tile c.requires.side c.args.bx c.args.by c.args.from c.args.masks.now old c.draw_masks.new.samples n own (omega (arith, fits, c.requires.samples)) at
-    (omega (arith, fits)) (omega (arith, c.draw_masks.auto.samples, fits)) c.requires.filled c.draw_masks.ensures
+    (omega (arith, fits)) (omega (arith, c.draw_masks.auto.samples, fits)) c.requires.own c.draw_masks.ensures

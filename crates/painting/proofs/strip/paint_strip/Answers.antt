@@ -17,8 +17,8 @@ loop-k-init c =
       painted = rows_none t canvas c.args.row (c.args.row + 1) (IsFlagged t.state c.args.first 0 c.args.masks.now) c.args.samples.now (λ i j s h p. omega (arith, p.left, p.right));
     }
 
-pub paint_whole-requires-clause-scissor : goal.paint_whole-requires-clause-scissor
-paint_whole-requires-clause-scissor c = c.if-is_whole.ensures.scissor refl
+pub paint_whole-requires-clause-allows : goal.paint_whole-requires-clause-allows
+paint_whole-requires-clause-allows c = c.if-is_whole.ensures.allows refl
 
 pub slice_bounds-is_whole-end : goal.slice_bounds-is_whole-end
 slice_bounds-is_whole-end c =

@@ -1,22 +1,15 @@
-use Rattle.std.proofs.Common.{refl, arith}
-use Rattle.painting.specs.Parts.{IsAllowed}
-use Rattle.painting.proofs.BlockParts.{no_part, tile_part_more, every_part}
-use Rattle.painting.proofs.SampleParts.{is_part}
+use Rattle.std.proofs.Common.{subst, arith, ◌+◌, ◌*◌, ◌≤◌}
+use Rattle.painting.specs.Parts.{IsKeptAt, TilePaints}
+use Rattle.painting.proofs.OnePlane.{whole_painted}
 use Rattle.painting.proofs.whole.paint_whole.Goals as goal
 
-pub paint_part_of_whole-requires-clause-part : goal.paint_part_of_whole-requires-clause-part
-paint_part_of_whole-requires-clause-part c = is_part c.args.tile.now.count c.loop-part.part (omega (arith, c.loop-part-test.true, c.parts-part-end.ensures))
-
-pub loop-part-init : goal.loop-part-init
-loop-part-init c = record { cleared = c.requires.cleared; painted = no_part c.args.triangle.now c.args.tile.now (IsAllowed c.args.triangle.now.state c.args.tile.now) c.args.samples.now c.args.samples.now (λ i j s h. refl) }
-
-pub loop-part-preserved : goal.loop-part-preserved
-loop-part-preserved c = record {
-  cleared = c.paint_part_of_whole.ensures.cleared;
-  painted = tile_part_more c.args.triangle.now c.args.tile.now c.loop-part.part c.args.samples.now c.loop-part.samples c.paint_part_of_whole.new.samples c.loop-part.invariant.painted c.paint_part_of_whole.ensures.painted;
-}
+pub paint_plane-requires-clause-block : goal.paint_plane-requires-clause-block
+paint_plane-requires-clause-block c = record { left = omega arith; right = rw c.requires.side (omega arith); top = omega arith; bottom = rw c.requires.side (omega arith) }
 
 pub returns : goal.returns
 returns c =
+    let t = c.args.triangle.now in
     let tile = c.args.tile.now in
-    every_part c.args.triangle.now tile (IsAllowed c.args.triangle.now.state tile) c.loop-part.part c.args.samples.now c.loop-part.samples (omega (arith, c.loop-part-test.false, c.parts-part-end.ensures)) c.loop-part.invariant.painted
+    let old = c.args.samples.now in
+    let new = c.paint_plane.new.samples in
+    whole_painted t tile old new c.requires.cleared c.requires.allows (subst (λ q. TilePaints t tile (IsKeptAt tile.count old q) old new) c.place_by-place.ensures.value c.paint_plane.ensures)

@@ -1,0 +1,192 @@
+-- A plane of a tile that stands for all samples of its pixels.
+use Rattle.std.proofs.Common.{◌≡◌, ◌≢◌, refl, inl, inr, sym, subst, ap, ◌∙◌, arith, zero, suc, ℕ, ◌+◌, ◌-◌, ◌*◌, ◌/◌, ◌%◌, ◌^◌, ◌<◌, ◌≤◌, List, [], ◌∷◌, length, take, drop, slice_index, IsBitSet}
+use Rattle.std.specs.Prelude.{slice_index_or}
+use Rattle.grid.specs.Samples.{count_of, sample_position}
+use Rattle.grid.specs.declared.pixels.PixelBox.{PixelBox}
+use Rattle.grid.specs.declared.pixels.TileSide.TheVariants.{T8, T64}
+use Rattle.grid.specs.declared.sample_count.SampleCount.TheVariants.{One}
+use Rattle.lanes.specs.declared.block_samples.BlockSamples.{BlockSamples}
+use Rattle.lanes.specs.Block.{stored_at}
+use Rattle.shade.specs.declared.placed.Placed.{Placed}
+use Rattle.shade.specs.declared.sample.CanvasSample.{CanvasSample}
+use Rattle.shade.specs.declared.state.State.{State}
+use Rattle.shade.specs.Canvas.{IsCanvasDrawnAt}
+use Rattle.shade.proofs.Resolved.{some_samples}
+use Rattle.raster.specs.declared.tile.Tile.{Tile}
+use Rattle.raster.specs.Drawing.{IsChosen, IsInSquare, LiesIn, DrawsMasks}
+use Rattle.raster.specs.Region.{HoldsTile}
+use Rattle.raster.specs.Samples.{IsSampleOf, place_of as place_in, stored as in_tile}
+use Rattle.raster.proofs.Rows.{word_full}
+use Rattle.canvas.specs.declared.way.Way.{Way}
+use Rattle.canvas.specs.declared.way.Way.TheVariants.{Cleared, Single}
+use Rattle.canvas.specs.Layout.{stored_in_tile, block_in_tile, place_by, place_in_tile, way_in_tile, IsSameTile}
+use Rattle.canvas.proofs.Cut.{put, put_here, put_elsewhere, part_of}
+use Rattle.canvas.proofs.Places.{none}
+use Rattle.canvas.proofs.TilePlanes.{cases_eq, apart}
+use Rattle.painting.specs.declared.masks.Masks.{Masks}
+use Rattle.painting.specs.Parts.{mask_of, number_of, IsAlikeOverScreen, AllowsTile, IsAllowed, IsInBlock, IsKeptAt, TilePaints}
+use Rattle.painting.proofs.Joined.{tile_same, tile_after_same}
+use Rattle.painting.proofs.Tiles.{in_block, of_block}
+
+-- the state lets each sample of the tile be drawn
+allowed_all : (state : State) (tile : Tile) → AllowsTile state tile → (row column s : ℕ) → IsSampleOf tile row column s → IsAllowed state tile row column s
+allowed_all state tile allows row column s h = record { in_scissor = allows.in_scissor row column h.high h.wide; in_mask = allows.in_mask s h.is_sample }
+
+-- the pixels of a block of the tile are in the rectangle that holds the tile
+pub holds_block : (r : PixelBox) (tile o : Tile) → tile.side ≡ T64 → (bx by : ℕ) → LiesIn tile bx by 8 → (o.bx ≡ bx) × (o.by ≡ by) × (o.side ≡ T8) × (o.count ≡ One) → HoldsTile r tile → HoldsTile r o
+holds_block r tile o side bx by block at_block holds row column high wide =
+    let few_rows : row < 8 = rw at_block.2 at high in
+    let few_columns : column < 8 = rw at_block.2 at wide in
+    let right = rw side at block.right in
+    let bottom = rw side at block.bottom in
+    let left = block.left in
+    let top = block.top in
+    let across : 8 * tile.bx + (8 * (bx - tile.bx) + column) ≡ 8 * o.bx + column = omega (arith, left, at_block.0) in
+    let down : 8 * tile.by + (8 * (by - tile.by) + row) ≡ 8 * o.by + row = omega (arith, top, at_block.1) in
+    rw (across, down) at (holds (8 * (by - tile.by) + row) (8 * (bx - tile.bx) + column) (rw side (omega (arith, bottom, top, few_rows))) (rw side (omega (arith, right, left, few_columns))))
+
+abbrev pub ones : List ℕ
+ones = 18446744073709551615 ∷ 0 ∷ 0 ∷ 0 ∷ []
+
+zero_word : (s k : ℕ) → s < 1 → k < 64 → IsBitSet (slice_index ones s) k
+zero_word zero k h low = word_full k low
+zero_word (suc s) k h low = absurd (omega (arith, h))
+
+-- The triangle is drawn at plane q of the tile, by the samples of the centres of the pixels of block (bx, by).
+module _ (t : Placed) (tile o : Tile) (side : tile.side ≡ T64) (bx by q : ℕ) (xs part : List BlockSamples) (n : ℕ) (single : n ≡ 1) (first : 1 ≤ q) (fits : q + n ≤ length xs) (long : length part ≡ n)
+    (at_block : (o.bx ≡ bx) × (o.by ≡ by) × (o.side ≡ T8) × (o.count ≡ One)) (on_screen : (8 * bx < 4096) × (8 * by < 4096))
+    (alike : IsAlikeOverScreen t) (scissor : HoldsTile t.state.scissor o) (in_mask : t.state.sample_mask / 2 ^ 0 % 2 ≡ 1) (draws : DrawsMasks t o bx by 0 ones (take n (drop q xs)) part) where
+  abbrev pub after : List BlockSamples
+  after = put xs part q n
+
+  same_state : slice_index_or after 0 none ≡ slice_index_or xs 0 none
+  same_state = put_elsewhere xs part q n none fits long 0 (λ s l e. omega (arith, e, first))
+
+  -- the sample of the block's own tile that lies in the same pixel
+  module _ (row column : ℕ) where
+    in_o : IsSampleOf o (row % 8) (column % 8) 0
+    in_o = record { high = rw at_block.2 (omega arith); wide = rw at_block.2 (omega arith); is_sample = rw at_block.3 (omega arith) }
+
+    place_is : place_in o (row % 8 / 8) (column % 8 / 8) 0 ≡ 0
+    place_is = rw (at_block.2, at_block.3) (omega arith)
+
+    same_pixel : 8 * (row % 8 % 8) + column % 8 % 8 ≡ 8 * (row % 8) + column % 8
+    same_pixel = omega arith
+
+    in_part : (ys : List BlockSamples) → in_tile o ys (row % 8) (column % 8) 0 ≡ stored_at (slice_index_or ys 0 none) (8 * (row % 8) + column % 8)
+    in_part ys =
+        ap (λ k. stored_at (slice_index_or ys k none) (8 * (row % 8 % 8) + column % 8 % 8)) place_is
+        ∙ ap (λ p. stored_at (slice_index_or ys 0 none) p) same_pixel
+
+    chosen : IsChosen t.state o bx by 0 ones (row % 8) (column % 8) 0
+    chosen = record {
+      part = record {
+        square = record {
+          left = let e = at_block.0 in omega (arith, e);
+          right = let e = at_block.0 in omega (arith, e);
+          top = let e = at_block.1 in omega (arith, e);
+          bottom = let e = at_block.1 in omega (arith, e);
+        };
+        samples = record { low = omega arith; high = rw at_block.3 (omega arith) };
+      };
+      in_masks = zero_word 0 (8 * (row % 8 % 8) + column % 8 % 8) (omega arith) (omega arith);
+      allowed = record { in_scissor = scissor (row % 8) (column % 8) in_o.high in_o.wide; in_mask = in_mask };
+    }
+
+    old_plane : in_tile o (take n (drop q xs)) (row % 8) (column % 8) 0 ≡ stored_at (slice_index_or xs q none) (8 * (row % 8) + column % 8)
+    old_plane =
+        in_part (take n (drop q xs))
+        ∙ ap (λ p. stored_at p (8 * (row % 8) + column % 8)) (part_of xs q n none 0 (omega (arith, single)))
+        ∙ ap (λ k. stored_at (slice_index_or xs k none) (8 * (row % 8) + column % 8)) (let same : q + 0 ≡ q = omega arith in same)
+
+    new_plane : in_tile o part (row % 8) (column % 8) 0 ≡ stored_at (slice_index_or after q none) (8 * (row % 8) + column % 8)
+    new_plane =
+        in_part part
+        ∙ ap (λ p. stored_at p (8 * (row % 8) + column % 8)) (sym (put_here xs part q n none fits long 0 (omega (arith, single))))
+        ∙ ap (λ k. stored_at (slice_index_or after k none) (8 * (row % 8) + column % 8)) (let same : q + 0 ≡ q = omega arith in same)
+
+  module _ (row column s : ℕ) (h : IsSampleOf tile row column s) where
+    high : row < 64
+    high = let below = h.high in rw side at below
+
+    wide : column < 64
+    wide = let below = h.wide in rw side at below
+
+    across : 8 * tile.bx + column < 4096
+    across = let aligned = rw side at tile.column.aligned in let small = wide in omega (arith, aligned, tile.column.on_screen, small)
+
+    down : 8 * tile.by + row < 4096
+    down = let aligned = rw side at tile.row.aligned in let small = high in omega (arith, aligned, tile.row.on_screen, small)
+
+    -- a sample that is kept there
+    pub drawn_there : place_in_tile tile.count (slice_index_or xs 0 none) column row s ≡ q
+        → IsCanvasDrawnAt t (sample_position (8 * tile.bx + column) (8 * tile.by + row) s tile.count) (stored_in_tile tile.count xs column row s) (stored_in_tile tile.count after column row s)
+    drawn_there at =
+        let pixel : ℕ = 8 * (row % 8) + column % 8 in
+        let old_is : stored_in_tile tile.count xs column row s ≡ stored_at (slice_index_or xs q none) pixel = ap (λ k. stored_at (slice_index_or xs k none) pixel) at in
+        let new_is : stored_in_tile tile.count after column row s ≡ stored_at (slice_index_or after q none) pixel =
+        ap (λ (state : BlockSamples). stored_at (slice_index_or after (place_in_tile tile.count state column row s) none) pixel) same_state ∙ ap (λ k. stored_at (slice_index_or after k none) pixel) at in
+        let there = sample_position (8 * tile.bx + column) (8 * tile.by + row) s tile.count in
+        let drawn = draws.drawn (row % 8) (column % 8) 0 (in_o row column) (chosen row column) in
+        let moved = alike o.count tile.count (8 * o.bx + column % 8) (8 * o.by + row % 8) 0 (8 * tile.bx + column) (8 * tile.by + row) s _ _
+        (let e = at_block.0 in omega (arith, e, on_screen.0)) (let e = at_block.1 in omega (arith, e, on_screen.1)) across down drawn in
+        subst (λ (x : CanvasSample). IsCanvasDrawnAt t there x (stored_in_tile tile.count after column row s)) (old_plane row column ∙ sym old_is)
+        (subst (λ (y : CanvasSample). IsCanvasDrawnAt t there (in_tile o (take n (drop q xs)) (row % 8) (column % 8) 0) y) (new_plane row column ∙ sym new_is) moved)
+
+    -- a sample that is kept elsewhere
+    pub kept_elsewhere : place_in_tile tile.count (slice_index_or xs 0 none) column row s ≢ q → stored_in_tile tile.count after column row s ≡ stored_in_tile tile.count xs column row s
+    kept_elsewhere other =
+        let pixel : ℕ = 8 * (row % 8) + column % 8 in
+        ap (λ (state : BlockSamples). stored_at (slice_index_or after (place_in_tile tile.count state column row s) none) pixel) same_state
+        ∙ ap (λ (p : BlockSamples). stored_at p pixel)
+        (put_elsewhere xs part q n none fits long (place_in_tile tile.count (slice_index_or xs 0 none) column row s)
+        (λ k l e. other (omega (arith, e, l, single))))
+
+  pub plane_painted : TilePaints t tile (IsKeptAt tile.count xs q) xs after
+  plane_painted = record { met = λ row column s h at. drawn_there row column s h at; missed = λ row column s h other. kept_elsewhere row column s h other }
+
+-- ---- of a block that is kept in one plane
+single_cleared : Single ≡ Cleared → ⊥
+single_cleared e = cc
+
+module _ (t : Placed) (tile : Tile) (side : tile.side ≡ T64) (bx by : ℕ) (block : LiesIn tile bx by 8) (xs after : List BlockSamples) (single : way_in_tile xs (number_of tile bx by) ≡ Single)
+    (paints : TilePaints t tile (IsKeptAt tile.count xs (place_by tile.count Single (number_of tile bx by) 0)) xs after) where
+  pub single_painted : TilePaints t tile (IsInSquare tile bx by 8) xs after
+  single_painted =
+      let left = block.left in
+      let right = rw side at block.right in
+      let top = block.top in
+      let bottom = rw side at block.bottom in
+      tile_same t tile (IsKeptAt tile.count xs (place_by tile.count Single (number_of tile bx by) 0)) (IsInSquare tile bx by 8) xs after paints
+      (λ row column s h q.
+      let here = in_block tile side bx by row column s h q in
+      ap (λ m. place_by tile.count (way_in_tile xs m) m s) here ∙ ap (λ (way : Way). place_by tile.count way (number_of tile bx by) s) single)
+      (λ row column s h at. elim (cases_eq (block_in_tile column row) (number_of tile bx by)) [
+        | inl here ↦ of_block tile side bx by row column s h left (omega (arith, right)) top (omega (arith, bottom)) here
+        | inr other ↦ absurd (apart tile.count (way_in_tile xs (block_in_tile column row)) Single (block_in_tile column row) (number_of tile bx by) s 0 other h.is_sample (some_samples tile.count) single_cleared at)
+      ])
+
+-- ---- of a tile all of whose blocks are kept as the one to which it was cleared
+module _ (t : Placed) (tile : Tile) (xs after : List BlockSamples) (cleared : (k : ℕ) → k < 64 → way_in_tile xs k ≡ Cleared) (allows : AllowsTile t.state tile)
+    (paints : TilePaints t tile (IsKeptAt tile.count xs 1) xs after) where
+  pub whole_painted : TilePaints t tile (IsAllowed t.state tile) xs after
+  whole_painted =
+      tile_same t tile (IsKeptAt tile.count xs 1) (IsAllowed t.state tile) xs after paints
+      (λ row column s h p. ap (λ (way : Way). place_by tile.count way (block_in_tile column row) s) (cleared (block_in_tile column row) (omega arith)))
+      (λ row column s h at. allowed_all t.state tile allows row column s h)
+
+-- ---- of a block all of whose bits are set
+module _ (t : Placed) (tile : Tile) (bx by : ℕ) (masks : Masks) (k : ℕ) (low : tile.by ≤ by) (allows : AllowsTile t.state tile)
+    (full : (s bit : ℕ) → s < count_of tile.count → bit < 64 → IsBitSet (mask_of masks k (by - tile.by) s) bit) (old mid new : List BlockSamples) (kept : IsSameTile tile.count old mid) where
+  pub full_painted : TilePaints t tile (IsInSquare tile bx by 8) mid new → TilePaints t tile (IsInBlock t.state tile bx by masks k) old new
+  full_painted paints =
+      tile_after_same t tile (IsInBlock t.state tile bx by masks k) old mid new kept
+      (tile_same t tile (IsInSquare tile bx by 8) (IsInBlock t.state tile bx by masks k) mid new paints
+      (λ row column s h p. p.square)
+      (λ row column s h q.
+      let line : by - tile.by ≡ row / 8 = omega (arith, q.top, q.bottom, low) in
+      record {
+        square = q;
+        in_masks = subst (λ r. IsBitSet (mask_of masks k r s) (8 * (row % 8) + column % 8)) line (full s (8 * (row % 8) + column % 8) h.is_sample (omega arith));
+        allowed = allowed_all t.state tile allows row column s h;
+      }))

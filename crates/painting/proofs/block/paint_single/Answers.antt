@@ -1,0 +1,17 @@
+use Rattle.std.proofs.Common.{◌≡◌, ◌∙◌, ap, subst}
+use Rattle.canvas.specs.declared.way.Way.TheVariants.{Single}
+use Rattle.canvas.specs.Layout.{place_by}
+use Rattle.painting.specs.Parts.{number_of, IsKeptAt, TilePaints}
+use Rattle.painting.proofs.OnePlane.{single_painted}
+use Rattle.painting.proofs.block.paint_single.Goals as goal
+
+pub returns : goal.returns
+returns c =
+    let t = c.args.triangle.now in
+    let tile = c.args.tile.now in
+    let old = c.args.samples.now in
+    let new = c.paint_plane.new.samples in
+    let number = number_of tile c.args.bx c.args.by in
+    let at : c.place_by-place.result ≡ place_by tile.count Single number 0 = c.place_by-place.ensures.value ∙ ap (λ k. place_by tile.count Single k 0) c.number_of-number.ensures.value in
+    single_painted t tile c.requires.side c.args.bx c.args.by c.requires.block old new c.requires.single
+    (subst (λ q. TilePaints t tile (IsKeptAt tile.count old q) old new) at c.paint_plane.ensures)
