@@ -1,6 +1,6 @@
 -- The masks of a block of which four rows alone are covered, by the masks of these rows.
 use Rattle.std.proofs.Common.{◌≡◌, ◌↔◌, ◌∙◌, ap, arith, ℕ, ◌+◌, ◌-◌, ◌*◌, ◌%◌, ◌^◌, ◌<◌, ◌≤◌, ℤ, slice_index}
-use Rattle.grid.specs.Samples.{count_of, part_size, IsPart, offsets_y, box_start}
+use Rattle.grid.specs.Samples.{count_of, IsPart, offsets_y, box_start}
 use Rattle.grid.specs.declared.pixels.TileSide.{TileSide}
 use Rattle.grid.specs.declared.sample_count.SampleCount.{SampleCount}
 use Rattle.grid.specs.declared.triangle.Tri.{Tri}

@@ -1,5 +1,5 @@
 use Rattle.std.proofs.Common.{refl, arith}
-use Rattle.cover.proofs.TwoRows.{IsStart, start_is, can_grow, move_none, one_move, two_moves, three_moves, four_rows, eight_rows}
+use Rattle.cover.proofs.TwoRows.{start_is, can_grow, move_none, one_move, two_moves, three_moves, four_rows, eight_rows}
 use Rattle.cover.proofs.edge.Edge.block.Goals as goal
 
 pub negative_lanes-requires : goal.negative_lanes-requires
