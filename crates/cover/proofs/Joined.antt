@@ -21,7 +21,7 @@ use Rattle.cover.specs.Inside.{IsSquareOf}
 use Rattle.cover.specs.Masks.{AreMasksWhere, AreWordsWhere, AreMasksOf, AreMasksOfPart, IsPlaneOf, to_column, to_row}
 use Rattle.cover.specs.Square.{box_reach}
 use Rattle.cover.proofs.Corners.{sample_test, room_x, room_y, ends_lt}
-use Rattle.cover.proofs.Words.{set_in_both, full, empty_word, no_bits}
+use Rattle.cover.proofs.Words.{set_in_both, empty_word, no_bits}
 
 -- ---- where a sample lies in the box
 pub column_in_reach : (count : SampleCount) (s column : ℕ) → s < count_of count → column < 8 → to_column count s column ≤ box_reach T8 count
@@ -67,37 +67,47 @@ kept z h = to_z-of_z w64 z (omega (arith, ints, h))
 abbrev pub Passes : Edge → ℤ → SampleCount → ℕ → ℕ → ℕ → Type 0
 Passes e at count s row column = pos 0 ≤ℤ grown e at (to_column count s column) (to_row count s row)
 
-pub all_pass : (e : Edge) (at : ℤ) (count : SampleCount) (from : ℕ) (m : Masks) → IsPart count from → ((k l : ℕ) → k ≤ box_reach T8 count → l ≤ box_reach T8 count → pos 0 ≤ℤ grown e at k l)
-    → ((s : ℕ) → s < part_size count → slice_index m.plane s ≡ 2 ^ 64 - 1) → ((s : ℕ) → part_size count ≤ s → slice_index m.plane s ≡ 0) → AreMasksWhere (Passes e at count) count from m
-all_pass e at count from m part pass each empty = record {
-  exact = λ s row column lt below within.
-      (λ set. pass (to_column count (from + s) column) (to_row count (from + s) row) (column_in_reach count (from + s) column (omega (arith, lt, part)) within) (row_in_reach count (from + s) row (omega (arith, lt, part)) below), λ h. full _ (8 * row + column) (each s lt) (omega arith));
-  empty = empty;
-}
+-- the same in the first rows of a block alone
+abbrev pub PassesInRows : ℕ → Edge → ℤ → SampleCount → ℕ → ℕ → ℕ → Type 0
+PassesInRows rows e at count s row column = (row < rows) × Passes e at count s row column
 
--- with the number as a call was given it
-pub all_pass_kept : (e : Edge) (at least : ℤ) (reach : ℕ) (count : SampleCount) (from : ℕ) (m : Masks) → IsPart count from → IsScreenBounded at → reach ≡ box_reach T8 count → pos 0 ≤ℤ least → ((k l : ℕ) → k ≤ reach → l ≤ reach → least ≤ℤ grown e (bits64 at) k l)
-    → ((s : ℕ) → s < part_size count → slice_index m.plane s ≡ 2 ^ 64 - 1) → ((s : ℕ) → part_size count ≤ s → slice_index m.plane s ≡ 0) → AreMasksWhere (Passes e at count) count from m
-all_pass_kept e at least reach count from m part small is over bound each empty =
-    all_pass e at count from m part (λ k l hk hl. subst (λ (z : ℤ). pos 0 ≤ℤ grown e z k l) (kept at small) (trans _ (bound k l (omega (arith, is, hk)) (omega (arith, is, hl))))) each empty
-  where
-    trans : (z : ℤ) → least ≤ℤ z → pos 0 ≤ℤ z
-    trans z h = omega (arith, ints)
+-- a word of all pixels of the first rows
+abbrev pub HasRows : ℕ → ℕ → Type 0
+HasRows rows word = (row column : ℕ) → row < 8 → column < 8 → (IsBitSet word (8 * row + column) ↔ (row < rows))
 
-pub none_pass : (e : Edge) (at : ℤ) (count : SampleCount) (from : ℕ) (m : Masks) → IsPart count from → ((k l : ℕ) → k ≤ box_reach T8 count → l ≤ box_reach T8 count → grown e at k l <ℤ pos 0)
-    → ((s : ℕ) → s < part_size count → slice_index m.plane s ≡ 0) → ((s : ℕ) → part_size count ≤ s → slice_index m.plane s ≡ 0) → AreMasksWhere (Passes e at count) count from m
-none_pass e at count from m part fail each empty = record {
+pub all_pass : (e : Edge) (at : ℤ) (count : SampleCount) (from rows word : ℕ) (m : Masks) → HasRows rows word → IsPart count from → ((k l : ℕ) → k ≤ box_reach T8 count → l ≤ box_reach T8 count → pos 0 ≤ℤ grown e at k l)
+    → ((s : ℕ) → s < part_size count → slice_index m.plane s ≡ word) → ((s : ℕ) → part_size count ≤ s → slice_index m.plane s ≡ 0) → AreMasksWhere (PassesInRows rows e at count) count from m
+all_pass e at count from rows word m in_rows part pass each empty = record {
   exact = λ s row column lt below within. (
-    λ set. absurd (empty_word _ _ (each s lt) set),
-    λ h. absurd (let under = fail (to_column count (from + s) column) (to_row count (from + s) row) (column_in_reach count (from + s) column (omega (arith, lt, part)) within) (row_in_reach count (from + s) row (omega (arith, lt, part)) below) in omega (arith, ints)),
+    λ set. ((in_rows row column below within).0 (rw (each s lt) at set), pass (to_column count (from + s) column) (to_row count (from + s) row) (column_in_reach count (from + s) column (omega (arith, lt, part)) within) (row_in_reach count (from + s) row (omega (arith, lt, part)) below)),
+    λ h. rw (each s lt) ((in_rows row column below within).1 h.0),
   );
   empty = empty;
 }
 
-pub none_pass_kept : (e : Edge) (at greatest : ℤ) (reach : ℕ) (count : SampleCount) (from : ℕ) (m : Masks) → IsPart count from → IsScreenBounded at → reach ≡ box_reach T8 count → greatest <ℤ pos 0 → ((k l : ℕ) → k ≤ reach → l ≤ reach → grown e (bits64 at) k l ≤ℤ greatest)
-    → ((s : ℕ) → s < part_size count → slice_index m.plane s ≡ 0) → ((s : ℕ) → part_size count ≤ s → slice_index m.plane s ≡ 0) → AreMasksWhere (Passes e at count) count from m
-none_pass_kept e at greatest reach count from m part small is under bound each empty =
-    none_pass e at count from m part (λ k l hk hl. subst (λ (z : ℤ). grown e z k l <ℤ pos 0) (kept at small) (trans _ (bound k l (omega (arith, is, hk)) (omega (arith, is, hl))))) each empty
+-- with the number as a call was given it
+pub all_pass_kept : (e : Edge) (at least : ℤ) (reach : ℕ) (count : SampleCount) (from rows word : ℕ) (m : Masks) → HasRows rows word → IsPart count from → IsScreenBounded at → reach ≡ box_reach T8 count → pos 0 ≤ℤ least → ((k l : ℕ) → k ≤ reach → l ≤ reach → least ≤ℤ grown e (bits64 at) k l)
+    → ((s : ℕ) → s < part_size count → slice_index m.plane s ≡ word) → ((s : ℕ) → part_size count ≤ s → slice_index m.plane s ≡ 0) → AreMasksWhere (PassesInRows rows e at count) count from m
+all_pass_kept e at least reach count from rows word m in_rows part small is over bound each empty =
+    all_pass e at count from rows word m in_rows part (λ k l hk hl. subst (λ (z : ℤ). pos 0 ≤ℤ grown e z k l) (kept at small) (trans _ (bound k l (omega (arith, is, hk)) (omega (arith, is, hl))))) each empty
+  where
+    trans : (z : ℤ) → least ≤ℤ z → pos 0 ≤ℤ z
+    trans z h = omega (arith, ints)
+
+pub none_pass : (e : Edge) (at : ℤ) (count : SampleCount) (from rows : ℕ) (m : Masks) → IsPart count from → ((k l : ℕ) → k ≤ box_reach T8 count → l ≤ box_reach T8 count → grown e at k l <ℤ pos 0)
+    → ((s : ℕ) → s < part_size count → slice_index m.plane s ≡ 0) → ((s : ℕ) → part_size count ≤ s → slice_index m.plane s ≡ 0) → AreMasksWhere (PassesInRows rows e at count) count from m
+none_pass e at count from rows m part fail each empty = record {
+  exact = λ s row column lt below within. (
+    λ set. absurd (empty_word _ _ (each s lt) set),
+    λ h. absurd (let over = h.1 in let under = fail (to_column count (from + s) column) (to_row count (from + s) row) (column_in_reach count (from + s) column (omega (arith, lt, part)) within) (row_in_reach count (from + s) row (omega (arith, lt, part)) below) in omega (arith, ints)),
+  );
+  empty = empty;
+}
+
+pub none_pass_kept : (e : Edge) (at greatest : ℤ) (reach : ℕ) (count : SampleCount) (from rows : ℕ) (m : Masks) → IsPart count from → IsScreenBounded at → reach ≡ box_reach T8 count → greatest <ℤ pos 0 → ((k l : ℕ) → k ≤ reach → l ≤ reach → grown e (bits64 at) k l ≤ℤ greatest)
+    → ((s : ℕ) → s < part_size count → slice_index m.plane s ≡ 0) → ((s : ℕ) → part_size count ≤ s → slice_index m.plane s ≡ 0) → AreMasksWhere (PassesInRows rows e at count) count from m
+none_pass_kept e at greatest reach count from rows m part small is under bound each empty =
+    none_pass e at count from rows m part (λ k l hk hl. subst (λ (z : ℤ). grown e z k l <ℤ pos 0) (kept at small) (trans _ (bound k l (omega (arith, is, hk)) (omega (arith, is, hl))))) each empty
   where
     trans : (z : ℤ) → z ≤ℤ greatest → z <ℤ pos 0
     trans z h = omega (arith, ints)
@@ -137,13 +147,13 @@ sample_value e at w m n h hm hn is =
     value : (a b : ℤ) → IsWithin (2 ^ 33) a → IsWithin (2 ^ 33) b → w ≡ at +ℤ a +ℤ b → (IsWithin (2 ^ 38) (bits64 w)) × (bits64 w ≡ at +ℤ a +ℤ b)
     value a b ha hb e = (record { low = omega (arith, ints); high = omega (arith, ints) }, to_z-of_z w64 w (omega (arith, ints)) ∙ e)
 
-pub plane_bit : {B : Type 0} (e : Edge) (at w : ℤ) (count : SampleCount) (s row column m n : ℕ) → bits64 w ≡ grown e at m n
+pub plane_bit : {B R : Type 0} (e : Edge) (at w : ℤ) (count : SampleCount) (s row column m n : ℕ) → bits64 w ≡ grown e at m n
     → m ≡ slice_index (offsets_x count) s - box_start count → n ≡ slice_index (offsets_y count) s - box_start count
-    → B ↔ (pos 0 ≤ℤ grown e (bits64 w) (256 * column) (256 * row)) → B ↔ Passes e at count s row column
-plane_bit {B} e at w count s row column m n is x y bit =
+    → B ↔ (R × (pos 0 ≤ℤ grown e (bits64 w) (256 * column) (256 * row))) → B ↔ (R × Passes e at count s row column)
+plane_bit {B} {R} e at w count s row column m n is x y bit =
     let value : grown e (bits64 w) (256 * column) (256 * row) ≡ grown e at (to_column count s column) (to_row count s row) =
     ap (λ z. grown e z (256 * column) (256 * row)) is ∙ further_on e at m n (256 * column) (256 * row) ∙ (λ i. grown e at (256 * column + x i) (256 * row + y i)) in
-    subst (λ (z : ℤ). B ↔ (pos 0 ≤ℤ z)) value bit
+    subst (λ (z : ℤ). B ↔ (R × (pos 0 ≤ℤ z))) value bit
 
 -- ---- the words of a part
 pub record IsWord (P : ℕ → ℕ → ℕ → Type 0) (count : SampleCount) (from s word : ℕ) : Type 0 where
@@ -189,6 +199,13 @@ means {P} {Q} count from m same h = record {
   empty = h.empty;
 }
 
+-- the first eight rows are all rows of a block
+pub all_rows : (P : ℕ → ℕ → ℕ → Type 0) (count : SampleCount) (from : ℕ) (m : Masks) → AreMasksWhere (λ s row column. (row < 8) × P s row column) count from m → AreMasksWhere P count from m
+all_rows P count from m h = record {
+  exact = λ s row column lt below within. let bit = h.exact s row column lt below within in (λ set. (bit.0 set).1, λ p. bit.1 (below, p));
+  empty = h.empty;
+}
+
 -- ---- the first part
 pub begins_with_part : (count : SampleCount) → IsPart count 0
 begins_with_part One = omega arith
@@ -204,7 +221,7 @@ pub plane_of_first : {t : Tri} {bx by : ℕ} {count : SampleCount} {m : Masks} �
 plane_of_first {t} {bx} {by} {count} {m} h s lt = of_first_part (λ n. IsPlaneOf t bx by count n (slice_index m.plane s)) s (h.covered s lt)
 
 -- ---- a triangle's block
-pub inside_is : (e : Edges) (at : Values) (m n : ℕ) → AreScreenBounded at
+inside_is : (e : Edges) (at : Values) (m n : ℕ) → AreScreenBounded at
     → (((pos 0 ≤ℤ grown e.ab (bits64 at.ab) m n) × (pos 0 ≤ℤ grown e.bc (bits64 at.bc) m n)) × (pos 0 ≤ℤ grown e.ca (bits64 at.ca) m n)) ↔ IsInsideAfter e at m n
 inside_is e at m n h =
     let ab = kept at.ab h.ab in
@@ -212,6 +229,14 @@ inside_is e at m n h =
     let ca = kept at.ca h.ca in (
       λ k. record { ab = subst (λ (z : ℤ). pos 0 ≤ℤ grown e.ab z m n) ab k.0.0; bc = subst (λ (z : ℤ). pos 0 ≤ℤ grown e.bc z m n) bc k.0.1; ca = subst (λ (z : ℤ). pos 0 ≤ℤ grown e.ca z m n) ca k.1 },
       λ k. ((subst (λ (z : ℤ). pos 0 ≤ℤ grown e.ab z m n) (sym ab) k.ab, subst (λ (z : ℤ). pos 0 ≤ℤ grown e.bc z m n) (sym bc) k.bc), subst (λ (z : ℤ). pos 0 ≤ℤ grown e.ca z m n) (sym ca) k.ca),
+    )
+
+pub inside_in_rows : (R : Type 0) (e : Edges) (at : Values) (m n : ℕ) → AreScreenBounded at
+    → (((R × (pos 0 ≤ℤ grown e.ab (bits64 at.ab) m n)) × (R × (pos 0 ≤ℤ grown e.bc (bits64 at.bc) m n))) × (R × (pos 0 ≤ℤ grown e.ca (bits64 at.ca) m n))) ↔ (R × IsInsideAfter e at m n)
+inside_in_rows R e at m n h =
+    let inside = inside_is e at m n h in (
+      λ k. (k.1.0, inside.0 ((k.0.0.1, k.0.1.1), k.1.1)),
+      λ k. let parts = inside.1 k.1 in (((k.0, parts.0.0), (k.0, parts.0.1)), (k.0, parts.1)),
     )
 
 pub masks_of_square : (t : Tri) (e : Edges) (at : Values) (bx by : ℕ) (side : TileSide) (count : SampleCount) (from : ℕ) (m : Masks) → IsPart count from → IsSquareOf t e at bx by side count

@@ -1,5 +1,5 @@
 -- An edge's function over the pixels of a block, in lanes.
-use Rattle.std.proofs.Common.{◌≡◌, ◌↔◌, refl, sym, ap, ap₂, ◌∙◌, subst, arith, [], ◌∷◌, ℕ, ◌+◌, ◌-◌, ◌*◌, ◌/◌, ◌%◌, ◌^◌, ◌<◌, List, Bool, false, cond, length, get_or, map, ℤ, pos, ◌+ℤ◌, ◌*ℤ◌, ◌<ℤ◌, ◌≤ℤ◌, w32, w64, to_z, of_z, FitsSigned}
+use Rattle.std.proofs.Common.{◌≡◌, ◌↔◌, refl, sym, ap, ap₂, ◌∙◌, subst, arith, [], ◌∷◌, ℕ, ◌+◌, ◌-◌, ◌*◌, ◌/◌, ◌%◌, ◌^◌, ◌<◌, ◌≤◌, bit_and, List, Bool, false, cond, length, get_or, map, ℤ, pos, ◌+ℤ◌, ◌*ℤ◌, ◌<ℤ◌, ◌≤ℤ◌, w32, w64, to_z, of_z, FitsSigned}
 use Rattle.std.proofs.lemmas.Int.{ints, to_z-of_z}
 use Rattle.std.proofs.lemmas.Simd.{bit_mask_l, mask_l-lt, Each1-from_get_or}
 use Rattle.std.proofs.lemmas.List.{get_or-map}
@@ -14,7 +14,7 @@ use lib.ListN.{length-map}
 use Rattle.cover.specs.declared.edge.Edge.{Edge}
 use Rattle.cover.specs.Block.{CanGrow, is_negative, growth, growths}
 use Rattle.cover.specs.Edge.{grown}
-use Rattle.cover.proofs.Words.{AreBits, joined, four_groups, passes_exactly}
+use Rattle.cover.proofs.Words.{AreBits, joined, two_groups, four_groups, passes_exactly, set_in_both}
 
 -- ---- the growth over two rows
 growth_within : (right down : ℤ) (k : ℕ) → IsWithin (2 ^ 25) right → IsWithin (2 ^ 25) down → k < 16 → IsWithin (2 ^ 29) (growth right down k)
@@ -243,38 +243,61 @@ here e at row column =
 same_sign : (at first m : ℤ) → (pos 256 *ℤ first) ≤ℤ at → at <ℤ (pos 256 *ℤ first +ℤ pos 256) → (pos 0 ≤ℤ (m +ℤ first)) ↔ (pos 0 ≤ℤ (at +ℤ pos 256 *ℤ m))
 same_sign at first m low high = (λ h. omega (arith, ints), λ h. omega (arith, ints))
 
-pub block_bit : (e : Edge) (at first : ℤ) (outside row column : ℕ) → (pos 256 *ℤ first) ≤ℤ at → at <ℤ (pos 256 *ℤ first +ℤ pos 256)
-    → AreBits (wanted e first) 64 outside → row < 8 → column < 8
-    → IsBitSet (bit_not w64 outside) (8 * row + column) ↔ (pos 0 ≤ℤ grown e at (256 * column) (256 * row))
-block_bit e at first outside row column low high bits lt within =
-    let k = 8 * row + column in
-    let below : k < 64 = omega arith in
-    let across : k % 8 ≡ column = omega arith in
-    let along : k / 8 ≡ row = omega arith in
+-- the bit of a pixel, where `outside` has the bits of the first k pixels and `inside` those of the first rows
+pub block_bit : (e : Edge) (at first : ℤ) (rows k outside inside row column : ℕ) → (pos 256 *ℤ first) ≤ℤ at → at <ℤ (pos 256 *ℤ first +ℤ pos 256)
+    → AreBits (wanted e first) k outside → outside < 2 ^ 64 → (row < rows → 8 * row + column < k) → (IsBitSet inside (8 * row + column) ↔ (row < rows)) → row < 8 → column < 8
+    → IsBitSet (bit_and (bit_not w64 outside) inside) (8 * row + column) ↔ ((row < rows) × (pos 0 ≤ℤ grown e at (256 * column) (256 * row)))
+block_bit e at first rows k outside inside row column low high bits fits known in_rows lt within =
+    let i = 8 * row + column in
+    let below : i < 64 = omega arith in
+    let across : i % 8 ≡ column = omega arith in
+    let along : i / 8 ≡ row = omega arith in
     let m = e.right *ℤ pos column +ℤ e.down *ℤ pos row in
-    let value : growth e.right e.down k ≡ m = λ i. e.right *ℤ pos (across i) +ℤ e.down *ℤ pos (along i) in
-    let bit : bit_at (bit_not w64 outside) k ≡ 1 - bit_of (m +ℤ first) = bit_at_not w64 outside k bits.low below ∙ ap (λ b. 1 - b) (bits.bits k below ∙ ap (λ z. bit_of (z +ℤ first)) value) in
-    let set = passes_exactly (bit_not w64 outside) k (m +ℤ first) bit in
+    let value : growth e.right e.down i ≡ m = λ j. e.right *ℤ pos (across j) +ℤ e.down *ℤ pos (along j) in
+    let bit : row < rows → bit_at (bit_not w64 outside) i ≡ 1 - bit_of (m +ℤ first) = λ h. bit_at_not w64 outside i fits below ∙ ap (λ b. 1 - b) (bits.bits i (known h) ∙ ap (λ z. bit_of (z +ℤ first)) value) in
+    let both = set_in_both (bit_not w64 outside) inside i in
     let sign = same_sign at first m low high in
-    let there = here e at row column in
-    (λ s. rw there (sign.0 (set.0 s)), λ h. set.1 (sign.1 (rw there at h)))
+    let there = here e at row column in (
+      λ s. let parts = both.0 s in let h = in_rows.0 parts.1 in let set = passes_exactly (bit_not w64 outside) i (m +ℤ first) (bit h) in (h, rw there (sign.0 (set.0 parts.0))),
+      λ h. let set = passes_exactly (bit_not w64 outside) i (m +ℤ first) (bit h.0) in both.1 (set.1 (sign.1 (rw there at h.1)), in_rows.1 h.0),
+    )
 
--- the four masks together
+-- the masks of two rows together
 abbrev pub IsMaskOf : Edge → ℤ → ℕ → Type 0
 IsMaskOf e by n = n ≡ mask_l (map (λ v. is_negative (v +ℤ bits32 by)) (map (to_z w32) (map (of_z w32) e.rows)))
 
-pub block_is : (e : Edge) (at first below : ℤ) (a b c d : ℕ) → IsStart at first → below ≡ pos 2 *ℤ e.down → IsWithin (2 ^ 26) below
-    → IsMaskOf e first a → IsMaskOf e (move_once first below) b → IsMaskOf e (move_by 2 first below) c → IsMaskOf e (move_by 3 first below) d
-    → (row column : ℕ) → row < 8 → column < 8
-    → IsBitSet (bit_not w64 (joined (joined (joined a b 16) c 32) d 48)) (8 * row + column) ↔ (pos 0 ≤ℤ grown e at (256 * column) (256 * row))
-block_is e at first below a b c d start is size p q r s row column lt within =
-    let once = one_move first below start.size size in
-    let twice = two_moves first below start.size size in
-    let thrice = three_moves first below start.size size in
-    let to : (n : ℕ) → first +ℤ pos n *ℤ below ≡ first +ℤ pos n *ℤ (pos 2 *ℤ e.down) = λ n. ap (λ z. first +ℤ pos n *ℤ z) is in
-    let bits = four_groups (wanted e first) a b c d
-    (bits_of_rows e a first _ (wanted e first) (move_none first start.size) refl p (λ j l. refl))
-    (bits_of_rows e b _ _ (λ j. wanted e first (16 + j)) once.size refl q (λ j l. next_rows e first _ 1 j (once.is ∙ to 1)))
-    (bits_of_rows e c _ _ (λ j. wanted e first (32 + j)) twice.size refl r (λ j l. next_rows e first _ 2 j (twice.is ∙ to 2)))
-    (bits_of_rows e d _ _ (λ j. wanted e first (48 + j)) thrice.size refl s (λ j l. next_rows e first _ 3 j (thrice.is ∙ to 3))) in
-    block_bit e at first _ row column start.low start.high bits lt within
+module _ (e : Edge) (at first below : ℤ) (start : IsStart at first) (is : below ≡ pos 2 *ℤ e.down) (size : IsWithin (2 ^ 26) below) where
+  rows_on : (n : ℕ) → first +ℤ pos n *ℤ below ≡ first +ℤ pos n *ℤ (pos 2 *ℤ e.down)
+  rows_on n = ap (λ z. first +ℤ pos n *ℤ z) is
+
+  first_group : (a : ℕ) → IsMaskOf e first a → AreBits (wanted e first) 16 a
+  first_group a p = bits_of_rows e a first _ (wanted e first) (move_none first start.size) refl p (λ j l. refl)
+
+  second_group : (b : ℕ) → IsMaskOf e (move_once first below) b → AreBits (λ j. wanted e first (16 + j)) 16 b
+  second_group b q =
+      let once = one_move first below start.size size in
+      bits_of_rows e b _ _ (λ j. wanted e first (16 + j)) once.size refl q (λ j l. next_rows e first _ 1 j (once.is ∙ rows_on 1))
+
+  third_group : (c : ℕ) → IsMaskOf e (move_by 2 first below) c → AreBits (λ j. wanted e first (32 + j)) 16 c
+  third_group c r =
+      let twice = two_moves first below start.size size in
+      bits_of_rows e c _ _ (λ j. wanted e first (32 + j)) twice.size refl r (λ j l. next_rows e first _ 2 j (twice.is ∙ rows_on 2))
+
+  fourth_group : (d : ℕ) → IsMaskOf e (move_by 3 first below) d → AreBits (λ j. wanted e first (48 + j)) 16 d
+  fourth_group d s =
+      let thrice = three_moves first below start.size size in
+      bits_of_rows e d _ _ (λ j. wanted e first (48 + j)) thrice.size refl s (λ j l. next_rows e first _ 3 j (thrice.is ∙ rows_on 3))
+
+  pub four_rows : (rows a b inside : ℕ) → IsMaskOf e first a → IsMaskOf e (move_once first below) b → rows ≤ 4
+      → (row column : ℕ) → row < 8 → column < 8 → IsBitSet inside (8 * row + column) ↔ (row < rows)
+      → IsBitSet (bit_and (bit_not w64 (joined a b 16)) inside) (8 * row + column) ↔ ((row < rows) × (pos 0 ≤ℤ grown e at (256 * column) (256 * row)))
+  four_rows rows a b inside p q few row column lt within in_rows =
+      let bits = two_groups (wanted e first) a b (first_group a p) (second_group b q) in
+      block_bit e at first rows 32 _ inside row column start.low start.high bits (omega (arith, bits.low)) (λ h. omega (arith, h, few, within)) in_rows lt within
+
+  pub eight_rows : (rows a b c d inside : ℕ) → IsMaskOf e first a → IsMaskOf e (move_once first below) b → IsMaskOf e (move_by 2 first below) c → IsMaskOf e (move_by 3 first below) d
+      → (row column : ℕ) → row < 8 → column < 8 → IsBitSet inside (8 * row + column) ↔ (row < rows)
+      → IsBitSet (bit_and (bit_not w64 (joined (joined (joined a b 16) c 32) d 48)) inside) (8 * row + column) ↔ ((row < rows) × (pos 0 ≤ℤ grown e at (256 * column) (256 * row)))
+  eight_rows rows a b c d inside p q r s row column lt within in_rows =
+      let bits = four_groups (wanted e first) a b c d (first_group a p) (second_group b q) (third_group c r) (fourth_group d s) in
+      block_bit e at first rows 64 _ inside row column start.low start.high bits bits.low (λ h. omega (arith, lt, within)) in_rows lt within

@@ -50,10 +50,10 @@ impl Sides {
             (to_row count s row)) count 0 result }
     {
         self.ab
-            .masks(self.ab.on_screen(x, y), 0, count)
-            .both(self.bc.masks(self.bc.on_screen(x, y), 0, count))
-            .both(self.cd.masks(self.cd.on_screen(x, y), 0, count))
-            .both(self.da.masks(self.da.on_screen(x, y), 0, count))
+            .masks::<8>(self.ab.on_screen(x, y), 0, count)
+            .both(self.bc.masks::<8>(self.bc.on_screen(x, y), 0, count))
+            .both(self.cd.masks::<8>(self.cd.on_screen(x, y), 0, count))
+            .both(self.da.masks::<8>(self.da.on_screen(x, y), 0, count))
     }
 }
 

@@ -2,18 +2,20 @@
 ghost use Rattle.std.specs.Prelude.{◌≡◌, length, IfSome, IsTrue, None};
 ghost use Rattle.grid.specs.declared.pixels.TileSide.TheVariants.{T8};
 ghost use Rattle.grid.specs.Samples.{count_of, IsPart};
+ghost use Rattle.cover.specs.Bounds.{HoldsCovered};
+ghost use Rattle.cover.specs.Masks.{AreMasksOfPart};
 ghost use Rattle.cover.specs.Rasterized.{IsRasterized};
-ghost use Rattle.cover.specs.Square.{CoversAll, IsClassOf};
+ghost use Rattle.cover.specs.Square.{CoversAll, CoversInFourRows, IsClassOf};
 ghost use Rattle.raster.specs.Samples.{planes_of};
 ghost use Rattle.raster.specs.Region.{HoldsTile};
 ghost use Rattle.raster.specs.Drawing.{DrawsTile, DrawsPart, IsInSquare, IsInSquarePart, ArePlanesOf, CoversNoneOf, LiesIn, square_of};
 
 use crate::block::draw_masks;
-use crate::region::Region;
+use crate::region::{Region, four_rows};
 use crate::scissor::holds_tile;
 use crate::tile::Tile;
-use cover::{Class, Setup, Square};
-use grid::{SampleCount, TileSide};
+use cover::{Class, Masks, Setup, Square};
+use grid::{PixelBox, SampleCount, TileSide};
 use lanes::{BlockSamples, Interpolants};
 use planes::Corrections;
 use shade::Placed;
@@ -33,13 +35,34 @@ fn class_of(block: &Square, all: bool) -> Class
     if all { Class::All } else { block.class() }
 }
 
-/// Which samples of a block of this class the triangle covers, of the part that begins with sample `from`, or `None` if
-/// it covers none of them. Each `N` has code of its own.
+/// Which samples of a block the triangle covers, of the part that begins with sample `from`. If `top` is given, the
+/// samples of the four rows from there on hold all that are covered, and only these are tested.
 #[inline(always)]
-fn planes<const N: u32>(block: &Square, class: Class, from: u32) -> Option<[u64; 4]>
+fn masks<const N: u32>(block: &Square, from: u32, top: Option<u32>) -> Masks
+    requires part { IsPart block.now.count from }
+    requires rows { IfSome top (CoversInFourRows block.now) }
+    ensures { AreMasksOfPart block.now.triangle block.now.bx block.now.by block.now.count from result }
+{
+    match top {
+        Some(top) => block.masks_of_rows::<N>(from, top),
+        None => block.masks_of_part::<N>(from),
+    }
+}
+
+/// Which samples of a block of this class the triangle covers, of the part that begins with sample `from`, or `None` if
+/// it covers none of them. If `top` is given, all that it covers of the block are in the four rows from there on. Each
+/// `N` has code of its own.
+#[inline(always)]
+fn planes<const N: u32>(
+    block: &Square,
+    class: Class,
+    from: u32,
+    top: Option<u32>,
+) -> Option<[u64; 4]>
     requires side { block.now.side ≡ T8 }
     requires part { IsPart block.now.count from }
     requires class { IsClassOf block.now class }
+    requires rows { IfSome top (CoversInFourRows block.now) }
     ensures some { IfSome result (ArePlanesOf block.now.triangle block.now.bx block.now.by block.now.count from) }
     ensures none { result ≡ None → CoversNoneOf block.now from }
 {
@@ -47,7 +70,7 @@ fn planes<const N: u32>(block: &Square, class: Class, from: u32) -> Option<[u64;
         Class::Out => None,
         Class::All => Some(ALL),
         Class::Mixed => {
-            let planes = block.masks_of_part::<N>(from).plane;
+            let planes = masks::<N>(block, from, top).plane;
             if planes == NONE { None } else { Some(planes) }
         }
     }
@@ -89,7 +112,8 @@ fn raise_if_asked(interpolants: &mut Interpolants, corrections: &mut Corrections
 }
 
 /// Draws the triangle at the samples of block (bx, by) of the tile, of the part that begins with sample `from`. The
-/// block is of this class. The triangle is made ready at the first block that is not left out.
+/// block is of this class. If `top` is given, all samples that are covered are in the four rows from there on. The
+/// triangle is made ready at the first block that is not left out.
 #[inline(always)]
 fn draw_part<const N: u32>(
     triangle: &Placed,
@@ -100,6 +124,7 @@ fn draw_part<const N: u32>(
     bx: u32,
     by: u32,
     from: u32,
+    top: Option<u32>,
     whole: bool,
     interpolants: &mut Interpolants,
     is_made: &mut bool,
@@ -114,12 +139,14 @@ fn draw_part<const N: u32>(
     requires class { IsClassOf (record { triangle = triangle.now.tri; bx = bx; by = by; side = T8; count = count })
         class }
     requires part { IsPart count from }
+    requires rows { IfSome top (CoversInFourRows
+        (record { triangle = triangle.now.tri; bx = bx; by = by; side = T8; count = count })) }
     requires whole { IsTrue whole → HoldsTile triangle.now.state.scissor tile.now }
     requires made { IsTrue is_made.old → interpolants.old ≡ triangle.now }
     ensures drawn { DrawsPart triangle.now tile.now (IsInSquarePart tile.now bx by 8 from) samples.old samples.new }
     ensures made { IsTrue is_made.new → interpolants.new ≡ triangle.now }
 {
-    if let Some(covered) = planes::<N>(block, class, from) {
+    if let Some(covered) = planes::<N>(block, class, from, top) {
         make_once(triangle, interpolants, is_made);
         draw_masks(
             interpolants,
@@ -138,11 +165,13 @@ fn draw_part<const N: u32>(
 }
 
 /// Draws the triangle at the samples of block (bx, by) of the tile, one part of at most four samples of a pixel after
-/// another. A pixel has `N` samples, which is `count`. `all` says that all samples of the tile are covered.
+/// another. A pixel has `N` samples, which is `count`. `bounds` is the box of the triangle's pixels, and `all` says that
+/// all samples of the tile are covered.
 #[inline(always)]
 fn draw_parts<const N: u32>(
     triangle: &Placed,
     setup: &Setup,
+    bounds: &PixelBox,
     tile: &Tile,
     count: SampleCount,
     bx: u32,
@@ -156,6 +185,7 @@ fn draw_parts<const N: u32>(
 )
     requires samples { length samples.old ≡ planes_of tile.now.side tile.now.count }
     requires setup { setup.now ≡ triangle.now.tri }
+    requires bounds { HoldsCovered triangle.now.tri bounds.now }
     requires count { count ≡ tile.now.count }
     requires number { count_of count ≡ N }
     requires lies { LiesIn tile.now bx by 8 }
@@ -179,6 +209,7 @@ fn draw_parts<const N: u32>(
             bx,
             by,
             0,
+            None,
             whole,
             interpolants,
             is_made,
@@ -186,6 +217,7 @@ fn draw_parts<const N: u32>(
             corrections,
         );
     } else {
+        let top = four_rows(bounds, by);
         for part in 0..count.parts() {
             draw_part::<N>(
                 triangle,
@@ -196,6 +228,7 @@ fn draw_parts<const N: u32>(
                 bx,
                 by,
                 4 * part,
+                top,
                 whole,
                 interpolants,
                 is_made,
@@ -227,7 +260,8 @@ fn draw_blocks<const N: u32>(
     requires made { IsTrue is_made.old → interpolants.old ≡ triangle.now }
     ensures { DrawsTile triangle.now tile.now samples.old samples.new }
 {
-    let region = Region::of(tile, &setup.bounds(), &triangle.state.scissor);
+    let bounds = setup.bounds();
+    let region = Region::of(tile, &bounds, &triangle.state.scissor);
     // A triangle whose region has not all of the tile's blocks does not cover the tile.
     let all = region.has_all_of(tile) && covers_tile(setup, tile);
     let whole = holds_tile(&triangle.state.scissor, tile);
@@ -237,6 +271,7 @@ fn draw_blocks<const N: u32>(
             draw_parts::<N>(
                 triangle,
                 setup,
+                &bounds,
                 tile,
                 count,
                 bx,
