@@ -11,7 +11,7 @@
 --   HasPixel: Pixel (i, j) is in the picture, and in a tile of the tile rows from `first` to before `end`.
 --   HasTile: These tile rows have a tile in a column and a row of tiles.
 --   block_in_tile: The number of the block of pixel (i, j) among the 64 of its tile, row by row.
---   way_of: The way in which block k of a tile keeps its samples, by the tile's first plane: its red byte k says so, unless its first green byte is 0, which stands for 64 own blocks.
+--   way_of: The way in which block k of a tile keeps its samples, by the tile's first plane.
 --   place_by: The index of the plane of sample s of block k among those of its tile, if the block keeps its samples in this way.
 --   place_in_tile: The index of the plane of sample s of pixel (i, j) among those of its tile, whose first plane this is.
 --   sample_in: Sample s of pixel (i, j), by the planes of its tile.
