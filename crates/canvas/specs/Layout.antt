@@ -62,7 +62,7 @@ pub record HasTile (c : Canvas) (first end : ℕ) (column row : ℕ) : Type 0 wh
 abbrev pub block_in_tile : ℕ → ℕ → ℕ
 block_in_tile i j = j % 64 / 8 * 8 + i % 64 / 8
 
--- The way in which block k of a tile keeps its samples, by the tile's first plane: its red byte k says so, unless its first green
+-- The way in which block k of a tile keeps its samples, by the tile's first plane. Its red byte k says so, unless its first green
 -- byte is 0, which stands for 64 own blocks.
 abbrev pub way_of : BlockSamples → ℕ → Way
 way_of state k =

@@ -10,12 +10,17 @@
 --   IsStoredIn: Sample s of pixel (i, j) is in a tile of the tile rows from `first` to before `end`.
 --   HasPixel: Pixel (i, j) is in the picture, and in a tile of the tile rows from `first` to before `end`.
 --   HasTile: These tile rows have a tile in a column and a row of tiles.
---   block_of: The number of the block of pixel (i, j) in its tile, whose first plane this is.
+--   block_in_tile: The number of the block of pixel (i, j) among the 64 of its tile, row by row.
+--   way_of: The way in which block k of a tile keeps its samples, by the tile's first plane.
+--   place_by: The index of the plane of sample s of block k among those of its tile, if the block keeps its samples in this way.
 --   place_in_tile: The index of the plane of sample s of pixel (i, j) among those of its tile, whose first plane this is.
 --   sample_in: Sample s of pixel (i, j), by the planes of its tile.
 --   plane_of: Plane k of the tile of pixel (i, j), among those of the tile rows from `first` on.
 --   stored: Sample s of pixel (i, j), as it is stored.
 --   stored_in_tile: Sample s of the pixel in a column and a row of a tile, as it is stored in the tile's planes.
+--   way_in_tile: The way in which block k of a tile keeps its samples, by the tile's planes.
+--   IsSameTile: Each sample of the tile is unchanged.
+--   KeepsOtherWays: All blocks of the tile but block k keep their samples in the way in which they did.
 --
 -- Drawing.antt
 --   AreCleared: Each sample of the tile rows from `first` to before `end` is this one.
@@ -91,7 +96,7 @@
 --   FitTileOrOne: The entries fit the tile, or one stands for all of them.
 --   IsTileMisfit: What does not fit, if one of the two does not: the tile first, and then `Fit`.
 --   AreTileIds: The entries are the ids of the samples of a tile.
---   IsUniformTile: The tile with these planes is unchanged since it was cleared, and all of its samples have one id.
+--   IsUniformTile: All blocks of the tile are kept as the one to which it was cleared, and all of its samples have one id.
 --   planes_in: The planes of the tile in a column and a row of tiles.
 --   IsUniform: The tile in a column and a row of tiles is unchanged since it was cleared, and all of its samples have one id.
 --   IsIdCount: The number of ids that are written of a tile: one if it is unchanged since it was cleared, else one for each sample.

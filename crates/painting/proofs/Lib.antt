@@ -3,6 +3,7 @@ pub mod Joined
 pub mod SampleParts
 pub mod BlockParts
 pub mod Tiles
+pub mod BlocksAlike
 pub mod OnePlane
 pub mod Columns
 pub mod Strips

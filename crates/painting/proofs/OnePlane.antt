@@ -1,5 +1,5 @@
 -- A plane of a tile that stands for all samples of its pixels.
-use Rattle.std.proofs.Common.{◌≡◌, ◌≢◌, refl, inl, inr, sym, subst, ap, ◌∙◌, arith, zero, suc, ℕ, ◌+◌, ◌-◌, ◌*◌, ◌/◌, ◌%◌, ◌^◌, ◌<◌, ◌≤◌, List, [], ◌∷◌, length, take, drop, slice_index, IsBitSet}
+use Rattle.std.proofs.Common.{◌≡◌, ◌≢◌, inl, inr, sym, subst, ap, ◌∙◌, arith, zero, suc, ℕ, ◌+◌, ◌-◌, ◌*◌, ◌/◌, ◌%◌, ◌^◌, ◌<◌, ◌≤◌, List, [], ◌∷◌, length, take, drop, slice_index, IsBitSet}
 use Rattle.std.specs.Prelude.{slice_index_or}
 use Rattle.grid.specs.Samples.{count_of, sample_position}
 use Rattle.grid.specs.declared.pixels.PixelBox.{PixelBox}
@@ -19,13 +19,13 @@ use Rattle.raster.specs.Samples.{IsSampleOf, place_of as place_in, stored as in_
 use Rattle.raster.proofs.Rows.{word_full}
 use Rattle.canvas.specs.declared.way.Way.{Way}
 use Rattle.canvas.specs.declared.way.Way.TheVariants.{Cleared, Single}
-use Rattle.canvas.specs.Layout.{stored_in_tile, block_in_tile, place_by, place_in_tile, way_in_tile, IsSameTile}
+use Rattle.canvas.specs.Layout.{stored_in_tile, block_in_tile, place_by, place_in_tile, way_in_tile}
 use Rattle.canvas.proofs.Cut.{put, put_here, put_elsewhere, part_of}
 use Rattle.canvas.proofs.Places.{none}
 use Rattle.canvas.proofs.TilePlanes.{cases_eq, apart}
 use Rattle.painting.specs.declared.masks.Masks.{Masks}
-use Rattle.painting.specs.Parts.{mask_of, number_of, IsAlikeOverScreen, AllowsTile, IsAllowed, IsInBlock, IsKeptAt, TilePaints}
-use Rattle.painting.proofs.Joined.{tile_same, tile_after_same}
+use Rattle.painting.specs.Parts.{mask_of, number_of, IsAlikeOverScreen, AllowsTile, IsAllowed, IsInBlock, IsKeptAt, TilePaints, DrawsAlike, KeepsOtherBlocks}
+use Rattle.painting.proofs.Joined.{tile_same}
 use Rattle.painting.proofs.Tiles.{in_block, of_block}
 
 -- the state lets each sample of the tile be drawn
@@ -176,17 +176,30 @@ module _ (t : Placed) (tile : Tile) (xs after : List BlockSamples) (cleared : (k
       (λ row column s h at. allowed_all t.state tile allows row column s h)
 
 -- ---- of a block all of whose bits are set
-module _ (t : Placed) (tile : Tile) (bx by : ℕ) (masks : Masks) (k : ℕ) (low : tile.by ≤ by) (allows : AllowsTile t.state tile)
-    (full : (s bit : ℕ) → s < count_of tile.count → bit < 64 → IsBitSet (mask_of masks k (by - tile.by) s) bit) (old mid new : List BlockSamples) (kept : IsSameTile tile.count old mid) where
-  pub full_painted : TilePaints t tile (IsInSquare tile bx by 8) mid new → TilePaints t tile (IsInBlock t.state tile bx by masks k) old new
-  full_painted paints =
-      tile_after_same t tile (IsInBlock t.state tile bx by masks k) old mid new kept
-      (tile_same t tile (IsInSquare tile bx by 8) (IsInBlock t.state tile bx by masks k) mid new paints
-      (λ row column s h p. p.square)
-      (λ row column s h q.
-      let line : by - tile.by ≡ row / 8 = omega (arith, q.top, q.bottom, low) in
-      record {
-        square = q;
-        in_masks = subst (λ r. IsBitSet (mask_of masks k r s) (8 * (row % 8) + column % 8)) line (full s (8 * (row % 8) + column % 8) h.is_sample (omega arith));
-        allowed = allowed_all t.state tile allows row column s h;
-      }))
+module _ (t : Placed) (tile : Tile) (side : tile.side ≡ T64) (bx by : ℕ) (block : LiesIn tile bx by 8) (masks : Masks) (k : ℕ) (allows : AllowsTile t.state tile)
+    (full : (s bit : ℕ) → s < count_of tile.count → bit < 64 → IsBitSet (mask_of masks k (by - tile.by) s) bit) (old mid new : List BlockSamples)
+    (alike : DrawsAlike t tile.count old mid) (others : KeepsOtherBlocks (number_of tile bx by) tile.count old mid) (paints : TilePaints t tile (IsInSquare tile bx by 8) mid new) where
+  module _ (row column s : ℕ) (h : IsSampleOf tile row column s) where
+    in_full : IsInSquare tile bx by 8 row column s → IsInBlock t.state tile bx by masks k row column s
+    in_full q =
+        let low = block.top in
+        let line : by - tile.by ≡ row / 8 = omega (arith, q.top, q.bottom, low) in
+        record {
+          square = q;
+          in_masks = subst (λ r. IsBitSet (mask_of masks k r s) (8 * (row % 8) + column % 8)) line (full s (8 * (row % 8) + column % 8) h.is_sample (omega arith));
+          allowed = allowed_all t.state tile allows row column s h;
+        }
+
+    in_number : block_in_tile column row ≡ number_of tile bx by → IsInSquare tile bx by 8 row column s
+    in_number here =
+        let right = rw side at block.right in
+        let bottom = rw side at block.bottom in
+        of_block tile side bx by row column s h block.left (omega (arith, right)) block.top (omega (arith, bottom)) here
+
+  pub full_painted : TilePaints t tile (IsInBlock t.state tile bx by masks k) old new
+  full_painted = record {
+    met = λ row column s h p. alike column row s _ _ h.is_sample (paints.met row column s h p.square);
+    missed = λ row column s h other.
+        paints.missed row column s h (λ q. other (in_full row column s h q))
+        ∙ others column row s h.is_sample (λ here. other (in_full row column s h (in_number row column s h here)));
+  }

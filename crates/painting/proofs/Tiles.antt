@@ -1,5 +1,5 @@
 -- What is drawn at the samples of a block with its own planes, drawn at the tile's samples.
-use Rattle.std.proofs.Common.{◌≡◌, ◌∙◌, refl, ap, sym, subst, ℕ, ◌+◌, ◌-◌, ◌*◌, ◌/◌, ◌%◌, ◌<◌, ◌≤◌, List, length, take, drop, slice_index, arith}
+use Rattle.std.proofs.Common.{◌≡◌, ◌∙◌, refl, ap, sym, subst, ℕ, ◌+◌, ◌*◌, ◌/◌, ◌<◌, ◌≤◌, List, length, take, drop, arith}
 use Rattle.std.specs.Prelude.{slice_index_or}
 use Rattle.grid.specs.Samples.{count_of, sample_position}
 use Rattle.grid.specs.declared.pixels.TileSide.TheVariants.{T64}

@@ -1,5 +1,6 @@
 -- Parts of a canvas that are painted one after another, by masks.
-use Rattle.std.specs.Prelude.{◌≡◌, ◌↔◌, ℕ, ◌+◌, ◌-◌, ◌*◌, ◌/◌, ◌%◌, ◌^◌, ◌<◌, ◌≤◌, ◌==◌, if◌then◌else◌, pos, negsuc, ◌+ℤ◌, List, [], ◌∷◌, slice_index, slice_index_or, IsBitSet}
+use Rattle.std.specs.Prelude.{◌≡◌, ◌≢◌, ◌↔◌, ℕ, ◌+◌, ◌-◌, ◌*◌, ◌/◌, ◌%◌, ◌^◌, ◌<◌, ◌≤◌, ◌==◌, if◌then◌else◌, pos, negsuc, ◌+ℤ◌, List, [], ◌∷◌, slice_index, slice_index_or, IsBitSet}
+use Rattle.grid.specs.Position.{Position}
 use Rattle.grid.specs.Samples.{count_of, parts_of, sample_position}
 use Rattle.grid.specs.Triangle.{Covers}
 use Rattle.grid.specs.declared.cull.Cull.TheVariants.{None as NoCulling}
@@ -24,7 +25,7 @@ use Rattle.raster.specs.Region.{HoldsTile}
 use Rattle.raster.specs.Samples.{IsSampleOf}
 use Rattle.canvas.specs.declared.canvas.Canvas.{Canvas}
 use Rattle.canvas.specs.declared.window.Origin.{Origin}
-use Rattle.canvas.specs.Layout.{IsStoredIn, columns_of, place_in_tile, stored, stored_in_tile}
+use Rattle.canvas.specs.Layout.{IsStoredIn, block_in_tile, columns_of, place_in_tile, stored, stored_in_tile}
 use Rattle.canvas.specs.Window.{moved_state}
 use Rattle.painting.specs.declared.masks.Masks.{Masks}
 use Rattle.painting.specs.declared.polygon.Polygon.{Polygon}
@@ -84,6 +85,16 @@ pub record TilePaints (t : Placed) (tile : Tile) (part : ℕ → ℕ → ℕ →
   pub met : (row column s : ℕ) → IsSampleOf tile row column s → part row column s
       → IsCanvasDrawnAt t (sample_position (8 * tile.bx + column) (8 * tile.by + row) s tile.count) (stored_in_tile tile.count old column row s) (stored_in_tile tile.count new column row s)
   pub missed : (row column s : ℕ) → IsSampleOf tile row column s → ¬ part row column s → stored_in_tile tile.count new column row s ≡ stored_in_tile tile.count old column row s
+
+-- What the triangle makes of a sample as it is stored in the new planes of a tile, it makes of it as it was stored in the old ones too.
+abbrev pub DrawsAlike : Placed → SampleCount → List BlockSamples → List BlockSamples → Type 0
+DrawsAlike t count old new =
+    (i j s : ℕ) (p : Position) (made : CanvasSample) → s < count_of count
+    → IsCanvasDrawnAt t p (stored_in_tile count new i j s) made → IsCanvasDrawnAt t p (stored_in_tile count old i j s) made
+
+-- The samples of all blocks of the tile but block k are unchanged.
+abbrev pub KeepsOtherBlocks : ℕ → SampleCount → List BlockSamples → List BlockSamples → Type 0
+KeepsOtherBlocks k count old new = (i j s : ℕ) → s < count_of count → block_in_tile i j ≢ k → stored_in_tile count new i j s ≡ stored_in_tile count old i j s
 
 -- The triangle is drawn at those samples of the tile rows that are in this part, and the others are unchanged.
 pub record RowsPaint (t : Placed) (c : Canvas) (first end : ℕ) (part : ℕ → ℕ → ℕ → Type 0) (old new : List BlockSamples) : Type 0 where

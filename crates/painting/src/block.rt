@@ -9,7 +9,8 @@ ghost use Rattle.painting.specs.Parts.{CoversScreen, IsAlikeOverScreen, AllowsTi
 
 use crate::masks::{Masks, has_some};
 use crate::plane::paint_plane;
-use canvas::{Way, fill_block, place_by, single_block};
+use crate::replaced::has_one_plane;
+use canvas::{Way, fill_block, place_by};
 use lanes::{BlockSamples, Interpolants};
 use planes::Corrections;
 use raster::{Tile, draw_masks};
@@ -122,7 +123,7 @@ fn paint_single(
 
 /// Draws a triangle that covers the screen, in one colour and at one depth, at those samples of block (bx, by) of the
 /// tile whose bits are set, in column `k` of the masks. `whole` says that the state lets all samples of the tile be
-/// drawn. A block that is drawn whole stays in one plane if it is kept in one.
+/// drawn. A block that is drawn whole is kept in one plane if it can be.
 pub(crate) fn paint_block(
     triangle: &Interpolants,
     tile: &Tile,
@@ -148,7 +149,7 @@ pub(crate) fn paint_block(
         paint_parts(triangle, tile, bx, by, masks, k, whole, samples);
         return;
     }
-    if !single_block(tile.count, number_of(tile, bx, by), samples) {
+    if !has_one_plane(triangle, tile, number_of(tile, bx, by), samples) {
         paint_parts(triangle, tile, bx, by, masks, k, whole, samples);
         return;
     }

@@ -8,6 +8,7 @@ mod column;
 mod masks;
 mod plane;
 mod polygon;
+mod replaced;
 mod row;
 mod rows;
 mod scratch;

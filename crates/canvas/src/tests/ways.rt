@@ -15,7 +15,7 @@ fn tile(rt: &impl Abort, count: SampleCount) -> Canvas {
     Canvas::new(64, 64, count).expect(rt, "1 to 4096 pixels a side")
 }
 
-/// The planes of the tile, cleared, with a triangle at the samples of block 20, and blocks 3 and 12 in one plane each.
+/// The planes of the tile, cleared, with blocks 3 and 12 in one plane each and block 20 in planes of its own.
 fn in_each_way(rt: &impl Abort, alloc: Global, canvas: &Canvas) -> Result<Vec<BlockSamples>, Fail> {
     let (count, rows) = (canvas.count, canvas.all());
     let mut samples = cleared(alloc, &rows)?;
@@ -62,7 +62,10 @@ fn read_out(
     let mut colours = untouched(alloc, 256 * 64)?;
     assert!(rt; view.resolve(&mut colours, Format::Rgba8, 256).is_ok());
     let mut samples_of_one = untouched(alloc, 256 * 64)?;
-    assert!(rt; view.colors(last, &mut samples_of_one, Format::Bgra8, 256).is_ok());
+    assert!(rt;
+        view.colors(last, &mut samples_of_one, Format::Bgra8, 256)
+            .is_ok()
+    );
     let mut ids = Vec::new(alloc);
     for _ in 0..65_536 {
         ids.push(0u32)?;
@@ -71,7 +74,13 @@ fn read_out(
     Ok((colours, samples_of_one, ids))
 }
 
-/// Whether a tile in each way is read out, drawn, stored and loaded as one whose blocks have planes of their own.
+/// Stores a picture in place of the colours of the first sample of each pixel.
+fn store(rt: &impl Abort, rows: &TileRows, picture: &[u8], samples: &mut [BlockSamples]) {
+    let stored = piece(rt, rows, samples).store(0, picture, Format::Bgra8, 256, true);
+    assert!(rt; stored.is_ok());
+}
+
+/// Whether a tile in each way is read out, stored and drawn as one whose blocks have planes of their own.
 fn is_kept(rt: &impl Abort, alloc: Global, count: SampleCount) -> Result<bool, Fail> {
     let canvas = tile(rt, count);
     let rows = canvas.all();
@@ -82,17 +91,14 @@ fn is_kept(rt: &impl Abort, alloc: Global, count: SampleCount) -> Result<bool, F
         return Ok(false);
     }
     let (picture, _, _) = before;
-    for planes in [&mut samples, &mut own] {
-        let mut piece = piece(rt, &rows, planes);
-        assert!(rt; piece.store(0, &picture, Format::Bgra8, 256, true).is_ok());
-    }
+    store(rt, &rows, &picture, &mut samples);
+    store(rt, &rows, &picture, &mut own);
     if read_out(rt, alloc, &rows, &samples)? != read_out(rt, alloc, &rows, &own)? {
         return Ok(false);
     }
     let triangles = Numbers { state: 3 }.triangles(rt, alloc, 3)?;
-    for planes in [&mut samples, &mut own] {
-        piece(rt, &rows, planes).draw(&stored(&triangles));
-    }
+    piece(rt, &rows, &mut samples).draw(&stored(&triangles));
+    piece(rt, &rows, &mut own).draw(&stored(&triangles));
     Ok(read_out(rt, alloc, &rows, &samples)? == read_out(rt, alloc, &rows, &own)?)
 }
 

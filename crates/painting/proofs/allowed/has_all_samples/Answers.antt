@@ -1,4 +1,4 @@
-use Rattle.std.proofs.Common.{◌≡◌, sym, subst, ap, arith, rules, ℕ, ◌+◌, ◌-◌, ◌^◌, ◌<◌, IsBitSet, bit_and}
+use Rattle.std.proofs.Common.{◌≡◌, sym, subst, arith, ℕ, ◌+◌, ◌-◌, ◌^◌, ◌<◌, IsBitSet, bit_and}
 use Rattle.std.proofs.lemmas.Bool.Decides.{nat_tests}
 use Rattle.grid.specs.Samples.{count_of}
 use Rattle.raster.proofs.Bits.{is_one, both_set, ones_between}

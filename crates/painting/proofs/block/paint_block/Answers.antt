@@ -1,4 +1,5 @@
-use Rattle.std.proofs.Common.{rules, ◌+◌, ◌-◌, ◌*◌, ◌≤◌, subst, arith, IsTrue}
+use Rattle.std.proofs.Common.{rules, IsTrue, subst}
+use Rattle.painting.specs.Parts.{KeepsOtherBlocks}
 use Rattle.painting.proofs.OnePlane.{full_painted}
 use Rattle.painting.proofs.block.paint_block.Goals as goal
 
@@ -7,6 +8,10 @@ returns c =
     let tile = c.args.tile.now in
     let whole : IsTrue c.args.whole = search rules in
     let is_full : IsTrue c.is_full.result = search rules in
-    full_painted c.args.triangle.now tile c.args.bx c.args.by c.args.masks.now c.args.k c.requires.block.top (c.requires.whole whole)
+    let one_plane : IsTrue c.has_one_plane.result = search rules in
+    let old = c.args.samples.now in
+    let mid = c.has_one_plane.new.samples in
+    full_painted c.args.triangle.now tile c.requires.side c.args.bx c.args.by c.requires.block c.args.masks.now c.args.k (c.requires.whole whole)
     (λ s bit h l. c.is_full.ensures is_full s bit (rw c.requires.count h) l)
-    c.args.samples.now c.single_block.new.samples c.paint_single.new.samples c.single_block.ensures.kept c.paint_single.ensures
+    old mid c.paint_single.new.samples (c.has_one_plane.ensures.alike one_plane)
+    (subst (λ k. KeepsOtherBlocks k tile.count old mid) c.number_of.ensures.value (c.has_one_plane.ensures.others one_plane)) c.paint_single.ensures

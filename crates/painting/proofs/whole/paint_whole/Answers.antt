@@ -1,4 +1,4 @@
-use Rattle.std.proofs.Common.{subst, arith, ◌+◌, ◌*◌, ◌≤◌}
+use Rattle.std.proofs.Common.{subst, arith}
 use Rattle.painting.specs.Parts.{IsKeptAt, TilePaints}
 use Rattle.painting.proofs.OnePlane.{whole_painted}
 use Rattle.painting.proofs.whole.paint_whole.Goals as goal

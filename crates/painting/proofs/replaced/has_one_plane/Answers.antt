@@ -1,0 +1,32 @@
+use Rattle.std.proofs.Common.{rules, ◌≡◌, subst, sym, ℕ, ◌+◌, ◌-◌, ◌≤◌, List, length, drop, arith}
+use Rattle.std.proofs.lemmas.List.{length-take, length-drop}
+use Rattle.grid.specs.Samples.{count_of}
+use Rattle.shade.specs.declared.placed.Placed.{Placed}
+use Rattle.lanes.specs.declared.block_samples.BlockSamples.{BlockSamples}
+use Rattle.canvas.specs.declared.way.Way.TheVariants.{Own}
+use Rattle.canvas.specs.Hidden.{ReplacesColours}
+use Rattle.canvas.specs.Layout.{way_in_tile}
+use Rattle.painting.specs.Parts.{DrawsAlike}
+use Rattle.painting.proofs.BlocksAlike.{replaced_alike}
+use Rattle.painting.proofs.replaced.has_one_plane.Goals as goal
+
+pub returns-clause-alike : goal.returns-clause-alike
+returns-clause-alike c single =
+    let t = c.args.triangle.now in
+    let count = c.args.tile.now.count in
+    let k = c.args.k in
+    let old = c.args.samples.now in
+    let mid = c.single_block.new.samples in
+    let new = c.make_single.new.samples in
+    let same : mid ≡ old = c.single_block.ensures.unchanged c.if-single_block.false in
+    let own : way_in_tile mid k ≡ Own = subst (λ (xs : List BlockSamples). way_in_tile xs k ≡ Own) (sym same) (c.single_block.ensures.own c.if-single_block.false) in
+    let replaces : ReplacesColours t.state count = subst (λ (p : Placed). ReplacesColours p.state count) c.placed.ensures (c.replaces_colours.ensures (search rules)) in
+    let first : ℕ = c.place_by-first.result in
+    let n : ℕ = first + c.count.result - first in
+    let many : n ≡ count_of count = omega (arith, c.count.ensures) in
+    let taken = length-take n (drop first mid) in
+    let dropped = length-drop first mid in
+    let fits : first + n ≤ length mid = search rules in
+    let depths = c.have_same_depths.ensures (search rules) in
+    let all = replaced_alike t count k first n mid new replaces own c.place_by-first.ensures.value many (λ s h. depths s (omega (arith, h, taken, dropped, fits))) c.make_single.ensures.made c.make_single.ensures.others in
+    subst (λ (xs : List BlockSamples). DrawsAlike t count xs new) same all
