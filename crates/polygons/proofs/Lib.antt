@@ -12,6 +12,7 @@ pub mod Masks
 pub mod RunningSums
 pub mod Outside
 pub mod Columns
+pub mod ShortEdges
 pub mod Division
 pub mod Exact
 pub mod Parity

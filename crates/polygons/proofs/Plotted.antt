@@ -1,7 +1,7 @@
 -- What is added to the rows of a strip, one edge after another.
 use Rattle.std.proofs.Common.{◌≡◌, inl, inr, refl, sym, subst, ap, ◌∙◌, arith, ℕ, zero, suc, ◌+◌, ◌*◌, ◌<◌, ◌≤◌, Bool, true, false, List, [], ◌∷◌, ◌++◌, length, drop, get_or, drop-cons, add-one, ℤ, pos, w32, w64, to_z, of_z, FitsSigned, ◌+ℤ◌, ◌-ℤ◌, ◌*ℤ◌, ◌<ℤ◌, ◌≤ℤ◌}
 use Rattle.std.proofs.lemmas.Int.{ints}
-use Rattle.std.proofs.lemmas.Bool.{cases_lt}
+use Rattle.std.proofs.lemmas.Bool.{cases_eq, cases_lt}
 use Rattle.grid.specs.Position.{Position, IsInBand}
 use Rattle.grid.proofs.Ring.{var, plus, times, ring}
 use Rattle.grid.specs.Samples.{part_size}
@@ -18,7 +18,7 @@ use Rattle.polygons.specs.Crossing.{winding}
 use Rattle.polygons.specs.Polygon.{path_edges, path_end, ring_edges, polygon_edges}
 use Rattle.polygons.specs.Rows.{direction, from_column}
 use Rattle.polygons.specs.Strip.{strip_sample}
-use Rattle.polygons.specs.Cells.{modulus, signed, added_by, IsAlike, IsAdded, HasCounters, IsPlotted}
+use Rattle.polygons.specs.Cells.{modulus, signed, added_by, running_sum, IsAlike, IsAdded, HasCounters, AreMarked, IsPlotted}
 use Rattle.polygons.specs.Plotting.{ArePlotted}
 use Rattle.polygons.proofs.Exact.{exact64}
 use Rattle.polygons.proofs.Counters.{direction-from, direction-none}
@@ -139,6 +139,52 @@ added_all rule s first end number f c f' c' s_small above under h = record {
   kept = h.kept;
 }
 
+-- ---- the samples of a strip, one index after another
+-- what holds once the first n of them are done
+pub record AreSamplesAdded (rule : Rule) (strip : Strip) (change : Position → ℤ) (n : ℕ) (f c f' c' : List (List ℕ)) : Type 0 where
+  pub flags_len : length f' ≡ length f
+  pub counters_len : length c' ≡ length c
+  pub done : (s row k : ℕ) → s < n → s < 4 → row < 64 → k < 8 * length f → IsAlike (modulus rule) (running_sum rule f' c' s row k) (running_sum rule f c s row k +ℤ change (strip_sample strip s row k))
+  pub rest : (s row k : ℕ) → n ≤ s → s < 4 → row < 64 → running_sum rule f' c' s row k ≡ running_sum rule f c s row k
+  pub kept : rule ≡ EvenOdd → c' ≡ c
+  pub marked : AreMarked rule f c → AreMarked rule f' c'
+
+pub no_samples : (rule : Rule) (strip : Strip) (change : Position → ℤ) (f c : List (List ℕ)) → AreSamplesAdded rule strip change 0 f c f c
+no_samples rule strip change f c = record {
+  flags_len = refl;
+  counters_len = refl;
+  done = λ s row k h. absurd (omega arith);
+  rest = λ s row k h l m. refl;
+  kept = λ e. refl;
+  marked = λ h. h;
+}
+
+pub one_sample_more : (rule : Rule) (strip : Strip) (change : Position → ℤ) (n : ℕ) (number : ℕ → ℕ → ℤ) (f c f' c' f'' c'' : List (List ℕ)) → n < 4 → ((row k : ℕ) → number row k ≡ change (strip_sample strip n row k))
+    → AreSamplesAdded rule strip change n f c f' c' → IsAdded rule n 0 64 number f' c' f'' c'' → AreSamplesAdded rule strip change (n + 1) f c f'' c''
+one_sample_more rule strip change n number f c f' c' f'' c'' n_small is v p = record {
+  flags_len = p.flags_len ∙ v.flags_len;
+  counters_len = p.counters_len ∙ v.counters_len;
+  done = λ s row k x y h i. elim (cases_eq s n) [
+    | inl q ↦
+        let a = p.here row k (omega arith) h (let l = v.flags_len in omega arith) in
+        let at_n = alike_from (modulus rule) _ _ _ _ _ _ refl (v.rest n row k (omega arith) n_small h) (is row k) a in
+        subst (λ (j : ℕ). IsAlike (modulus rule) (running_sum rule f'' c'' j row k) (running_sum rule f c j row k +ℤ change (strip_sample strip j row k))) (sym q) at_n
+    | inr q ↦ alike_moved (modulus rule) _ _ _ (sym (p.others s row k y h (λ z _ _. q z))) (v.done s row k (before_of s n x q) y h i)
+  ];
+  rest = λ s row k x y h. p.others s row k y h (λ z _ _. omega arith) ∙ v.rest s row k (omega arith) y h;
+  kept = λ e. p.kept e ∙ v.kept e;
+  marked = λ h. p.marked (v.marked h);
+}
+
+pub all_samples : (rule : Rule) (strip : Strip) (change : Position → ℤ) (n : ℕ) (f c f' c' : List (List ℕ)) → part_size strip.count ≤ n → AreSamplesAdded rule strip change n f c f' c' → IsPlotted rule strip change f c f' c'
+all_samples rule strip change n f c f' c' all v = record {
+  flags_len = v.flags_len;
+  counters_len = v.counters_len;
+  totals = λ s row k x y z. v.done s row k (omega arith) (let few = part_small strip.count in omega arith) y z;
+  marked = v.marked;
+  kept = v.kept;
+}
+
 -- ---- what is added to a strip
 pub plotted_on : (strip : Strip) (f g : Position → ℤ) (a b : Cells) → ((s row k : ℕ) → row < 64 → k < 8 * length a.flags.now → f (strip_sample strip s row k) ≡ g (strip_sample strip s row k)) → ArePlotted strip f a b → ArePlotted strip g a b
 plotted_on strip f g a b e h = record {
@@ -156,17 +202,20 @@ pub plotted_as : (strip : Strip) (f g : Position → ℤ) (a b : Cells) → ((p 
 plotted_as strip f g a b e h = plotted_on strip f g a b (λ s row k x y. e (strip_sample strip s row k)) h
 
 -- an edge that is crossed at no sample of the strip
-pub plotted_apart : (strip : Strip) (f : Position → ℤ) (a : Cells) → ((s row k : ℕ) → row < 64 → k < 8 * length a.flags.now → f (strip_sample strip s row k) ≡ pos 0) → ArePlotted strip f a a
-plotted_apart strip f a e = record {
+pub plotted_nowhere : (strip : Strip) (f : Position → ℤ) (a : Cells) → ((s row k : ℕ) → s < part_size strip.count → row < 64 → k < 8 * length a.flags.now → f (strip_sample strip s row k) ≡ pos 0) → ArePlotted strip f a a
+plotted_nowhere strip f a e = record {
   plotted = record {
     flags_len = refl;
     counters_len = refl;
-    totals = λ s row k x y z. alike_none (modulus a.rule) _ _ _ refl (e s row k y z);
+    totals = λ s row k x y z. alike_none (modulus a.rule) _ _ _ refl (e s row k x y z);
     marked = λ h. h;
     kept = λ e. refl;
   };
   same = (refl, (refl, refl));
 }
+
+pub plotted_apart : (strip : Strip) (f : Position → ℤ) (a : Cells) → ((s row k : ℕ) → row < 64 → k < 8 * length a.flags.now → f (strip_sample strip s row k) ≡ pos 0) → ArePlotted strip f a a
+plotted_apart strip f a e = plotted_nowhere strip f a (λ s row k _ x y. e s row k x y)
 
 pub plotted_none : (strip : Strip) (f : Position → ℤ) (a : Cells) → ((p : Position) → f p ≡ pos 0) → ArePlotted strip f a a
 plotted_none strip f a e = plotted_apart strip f a (λ s row k x y. e (strip_sample strip s row k))

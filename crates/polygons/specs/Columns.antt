@@ -4,6 +4,7 @@ use Rattle.grid.specs.Bounds.{IsWithin}
 use Rattle.grid.specs.Position.{Position, IsInBand}
 use Rattle.grid.specs.Edge.{side}
 use Rattle.polygons.specs.declared.edge.Edge.{Edge}
+use Rattle.polygons.specs.declared.slope.Slope.{Slope}
 use Rattle.polygons.specs.Crossing.{CrossesDown}
 
 -- The position k pixels to the right of p, or to the left if k is negative.
@@ -40,6 +41,11 @@ pub record IsEdgeStep (e : Edge) (columns part : ℤ) : Type 0 where
   pub sum : e.b.x -ℤ e.a.x ≡ columns *ℤ (e.b.y -ℤ e.a.y) +ℤ part
   pub part_low : pos 0 ≤ℤ part
   pub part_high : part <ℤ (e.b.y -ℤ e.a.y)
+
+-- The slope is that of an edge that runs downwards.
+pub record IsSlope (e : Edge) (slope : Slope) : Type 0 where
+  pub step : IsEdgeStep e slope.columns slope.part
+  pub size : IsWithin (2 ^ 25) slope.columns
 
 -- All coordinates of the edge, and x, are inside of the guard band.
 pub record IsWalkInBand (e : Edge) (x : ℤ) : Type 0 where

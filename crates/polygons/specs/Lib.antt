@@ -148,6 +148,8 @@ pub mod Arrays
 pub mod Laws
 pub mod Partition
 pub mod Columns
+pub mod Pixels
+pub mod Short
 pub mod Rows
 pub mod Blocks
 pub mod ManyRows

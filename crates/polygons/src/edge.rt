@@ -13,6 +13,8 @@ pub struct Edge {
 impl Edge {
     ghost use Rattle.polygons.specs.Crossing.{is_crossed_down, is_crossed_up, CrossesDown, CrossesUp, IsLineAtOrLeft};
     ghost use Rattle.polygons.specs.Laws.{reversed, AreOpposite};
+    ghost use Rattle.polygons.specs.Cells.{signed};
+    ghost use Rattle.polygons.specs.Rows.{direction};
     ghost use Rattle.grid.specs.Position.{Position};
 
     /// Whether the edge runs downwards past `p`, with its line at or left of `p`. The sign of the edge function says on
@@ -42,6 +44,19 @@ impl Edge {
         Edge {
             a: self.b,
             b: self.a,
+        }
+    }
+
+    /// The edge, turned downwards if it runs upwards, and whether it was left as it was.
+    #[inline(always)]
+    pub(crate) fn turned_down(self) -> (Edge, bool)
+        ensures runs_down { result.0.a.y ≤ℤ result.0.b.y }
+        ensures same { (p : Position) → signed result.1 (direction result.0 p) ≡ direction self p }
+    {
+        if self.a.y() <= self.b.y() {
+            (self, true)
+        } else {
+            (self.reversed(), false)
         }
     }
 }

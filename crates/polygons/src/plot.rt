@@ -4,8 +4,10 @@ ghost use Rattle.std.specs.Prelude.{◌≡◌, ℕ, ◌+◌, ◌*◌, ◌^◌, �
 ghost use Rattle.grid.specs.Position.{Position, IsInBand};
 ghost use Rattle.grid.specs.Samples.{part_size};
 ghost use Rattle.polygons.specs.Blocks.{down};
-ghost use Rattle.polygons.specs.Columns.{HasHeight};
+ghost use Rattle.polygons.specs.Columns.{HasHeight, IsSlope};
 ghost use Rattle.polygons.specs.Crossing.{winding};
+ghost use Rattle.polygons.specs.Pixels.{IsFirstPixel};
+ghost use Rattle.polygons.specs.Short.{IsShortEdge};
 ghost use Rattle.polygons.specs.Polygon.{path_edges, path_end, ring_edges, polygon_edges};
 ghost use Rattle.polygons.specs.Rings.{position_of, rings_from, end_of, AreCornersInBand};
 ghost use Rattle.polygons.specs.Runs.{corner_at, corners_between, AreRunsOf, IsCrossedAsChord};
@@ -17,48 +19,47 @@ ghost use Rattle.polygons.specs.Plotting.{ArePlotted};
 use crate::apart::is_apart;
 use crate::cells::{Cells, Counters, Flags, cross};
 use crate::corner::Corner;
-use crate::divide::divide;
 use crate::edge::Edge;
 use crate::rings::Rings;
 use crate::rule::Rule;
 use crate::runs::Runs;
+use crate::short::{is_any_crossed, is_short, plot_short_sample};
+use crate::slope::Slope;
 use crate::starts::Starts;
 use crate::strip::{Strip, point_at};
-use crate::walk::{EdgeWalk, first_column};
+use crate::walk::EdgeWalk;
 use grid::Point;
 
-/// The first of 64 rows that is not above the height `y`, or 64. The first row lies at the height `start`.
-fn first_row(start: i32, y: i32) -> usize
-    requires start { IsInBand start }
-    requires y { IsInBand y }
-    ensures most { result ≤ 64 }
-    ensures above { (r : ℕ) → r < result → (start +ℤ pos (256 * r)) <ℤ y }
-    ensures below { (r : ℕ) → result ≤ r → r < 64 → y ≤ℤ (start +ℤ pos (256 * r)) }
-{
-    let (rows, _) = divide(i64::from(y - start) + 255, 256);
-    rows.clamp(0, 64) as usize
-}
-
 /// Counts an edge that runs downwards in the rows of sample `s`, whose first pixel has this sample at `start`. The edge
-/// counts as one in its own direction if `forward`, else in the opposite one.
+/// runs through the rows from `first` to before `end`, and counts as one in its own direction if `forward`, else in the
+/// opposite one.
 fn plot_sample(
     flags: &mut [Flags],
     counters: &mut [Counters],
     rule: Rule,
     edge: &Edge,
+    slope: Slope,
     forward: bool,
     s: usize,
     start: Point,
+    first: i32,
+    end: i32,
 )
     requires runs_down { edge.now.a.y ≤ℤ edge.now.b.y }
+    requires in_band { IsInBand edge.now.a.y × IsInBand edge.now.b.y }
+    requires slope { IsSlope edge.now slope }
     requires sample { s < 4 }
     requires counters { HasCounters rule flags.old counters.old }
+    requires first { IsFirstPixel start.y edge.now.a.y first }
+    requires end { IsFirstPixel start.y edge.now.b.y end }
     ensures { IsAdded rule s 0 64 (added_by edge.now forward start) flags.old counters.old flags.new counters.new }
 {
-    let first = first_row(start.y(), edge.a.y());
-    let end = first_row(start.y(), edge.b.y());
+    let first = first.clamp(0, 64) as usize;
+    let end = end.clamp(0, 64) as usize;
     if first < end {
-        plot_rows(flags, counters, rule, edge, forward, s, start, first, end);
+        plot_rows(
+            flags, counters, rule, edge, slope, forward, s, start, first, end,
+        );
     }
 }
 
@@ -69,12 +70,14 @@ fn plot_rows(
     counters: &mut [Counters],
     rule: Rule,
     edge: &Edge,
+    slope: Slope,
     forward: bool,
     s: usize,
     start: Point,
     first: usize,
     end: usize,
 )
+    requires slope { IsSlope edge.now slope }
     requires rows { first < end }
     requires most { end ≤ 64 }
     requires in_band { IsInBand (start.y +ℤ pos (256 * first)) }
@@ -84,12 +87,7 @@ fn plot_rows(
     ensures { IsAdded rule s first end (added_by edge.now forward start) flags.old counters.old flags.new counters.new }
 {
     let place = point_at(start.x(), start.y() + 256 * first as i32);
-    if first + 1 == end {
-        let column = first_column(edge, place);
-        cross(flags, counters, rule, s, first, column, forward);
-        return;
-    }
-    let mut walk = EdgeWalk::new(*edge, place);
+    let mut walk = EdgeWalk::new(*edge, slope, place);
     for row in first..end {
         cross(flags, counters, rule, s, row, walk.column(), forward);
         if row + 1 < end {
@@ -98,37 +96,77 @@ fn plot_rows(
     }
 }
 
-/// Marks where the edge is crossed by samples of each index of the part.
-fn plot_samples(cells: &mut Cells<'_>, edge: &Edge, forward: bool, starts: &Starts)
-    requires { edge.now.a.y ≤ℤ edge.now.b.y }
+/// Marks where a short edge is crossed by samples of each index of the part.
+#[inline(always)]
+fn plot_short(cells: &mut Cells<'_>, edge: &Edge, forward: bool, starts: &Starts)
+    requires short { IsShortEdge edge.now }
+    requires runs_down { edge.now.a.y ≤ℤ edge.now.b.y }
     ensures { ArePlotted starts.now.strip (λ p. signed forward (direction edge.now p)) cells.old cells.new }
 {
+    let first = starts.rows(edge.a.y());
+    let end = starts.rows(edge.b.y());
+    if !is_any_crossed(&first, &end) {
+        return;
+    }
     for s in 0..starts.strip.count.part_size() {
-        let start = starts.of(s as usize);
-        plot_sample(
+        let s = s as usize;
+        let start = starts.of(s);
+        plot_short_sample(
             cells.flags,
             cells.counters,
             cells.rule,
             edge,
             forward,
-            s as usize,
+            s,
             start,
+            first[s],
+            end[s],
+        );
+    }
+}
+
+/// Marks where an edge is crossed by samples of each index of the part, walking it down from row to row.
+#[inline(never)]
+fn plot_long(cells: &mut Cells<'_>, edge: &Edge, forward: bool, starts: &Starts)
+    requires { edge.now.a.y <ℤ edge.now.b.y }
+    ensures { ArePlotted starts.now.strip (λ p. signed forward (direction edge.now p)) cells.old cells.new }
+{
+    let first = starts.rows(edge.a.y());
+    let end = starts.rows(edge.b.y());
+    let slope = Slope::of(edge);
+    for s in 0..starts.strip.count.part_size() {
+        let s = s as usize;
+        let start = starts.of(s);
+        plot_sample(
+            cells.flags,
+            cells.counters,
+            cells.rule,
+            edge,
+            slope,
+            forward,
+            s,
+            start,
+            first[s],
+            end[s],
         );
     }
 }
 
 /// Counts an edge in the rows of a strip.
+#[inline(always)]
 fn plot_edge(cells: &mut Cells<'_>, edge: Edge, starts: &Starts)
     ensures { ArePlotted starts.now.strip (λ p. direction edge p) cells.old cells.new }
 {
+    let (downwards, forward) = edge.turned_down();
+    if is_short(&downwards) {
+        plot_short(cells, &downwards, forward, starts);
+        return;
+    }
     if is_apart(&edge, &starts.strip, cells.flags.len()) {
         return;
     }
-    if edge.a.y() <= edge.b.y() {
-        plot_samples(cells, &edge, true, starts);
-    } else {
-        let downwards = edge.reversed();
-        plot_samples(cells, &downwards, false, starts);
+    if downwards.a.y() < downwards.b.y() {
+        plot_long(cells, &downwards, forward, starts);
     }
 }
 

@@ -2,36 +2,13 @@
 ghost use Rattle.std.specs.Prelude.{◌≡◌, ◌^◌, pos, ◌+ℤ◌, ◌<ℤ◌, ◌≤ℤ◌};
 ghost use Rattle.grid.specs.Bounds.{IsWithin};
 ghost use Rattle.grid.specs.Position.{IsInBand};
-ghost use Rattle.polygons.specs.Columns.{HasHeight, IsFirstColumn};
+ghost use Rattle.polygons.specs.Columns.{HasHeight, IsFirstColumn, IsSlope};
 
-use crate::divide::{divide, divide_near, divide_short};
+use crate::divide::{divide, divide_near};
 use crate::edge::Edge;
+use crate::slope::Slope;
 use grid::{Point, side};
 use std::marker::Model;
-
-/// The first column whose sample is at `x` or right of it. The sample of column 0 is at `start`.
-#[inline(always)]
-fn column_at(x: i32, start: i32) -> i64
-    requires x { IsInBand x }
-    requires start { IsInBand start }
-    ensures { IsWithin (2 ^ 25) result }
-{
-    let (column, _) = divide(i64::from(x - start) + 255, 256);
-    column
-}
-
-/// The first column whose sample is crossed in the row of `start`, which lies in column 0. The edge runs downwards
-/// through this row. A short edge is crossed from the column of its left end on, or from the next one, which is tried
-/// first.
-pub(crate) fn first_column(edge: &Edge, start: Point) -> i64
-    requires { HasHeight edge.now start.y }
-    ensures { IsFirstColumn edge.now start result }
-{
-    let height = i64::from(edge.b.y() - edge.a.y());
-    let near = column_at(edge.a.x().min(edge.b.x()), start.x());
-    let (left, _) = divide_near(-side(edge.a, edge.b, start), 256 * height, -near);
-    -left
-}
 
 /// How many columns left of `start` an edge is first crossed there, by how many it goes right in a row, rounded down. It
 /// is right or one too large less than a pixel below the upper end.
@@ -83,14 +60,14 @@ impl EdgeWalk {
     ghost use Rattle.polygons.specs.Columns.{below};
 
     /// The edge at the row of `start`, which lies in column 0. The edge runs downwards through this row.
-    pub(crate) fn new(edge: Edge, start: Point) -> EdgeWalk
-        requires { HasHeight edge start.y }
+    #[inline(always)]
+    pub(crate) fn new(edge: Edge, slope: Slope, start: Point) -> EdgeWalk
+        requires height { HasHeight edge start.y }
+        requires slope { IsSlope edge slope }
         ensures { result ≡ record { edge = edge; row = start } }
     {
-        let height = edge.b.y() - edge.a.y();
-        let (columns, part) = divide_short(edge.b.x() - edge.a.x(), height);
-        let height = i64::from(height);
-        let near = guess_left(&edge, start, columns);
+        let height = i64::from(edge.b.y() - edge.a.y());
+        let near = guess_left(&edge, start, slope.columns);
         let (left, above) = divide_near(-side(edge.a, edge.b, start), 256 * height, near);
         let (rest, _) = divide(above, 256);
         EdgeWalk {
@@ -98,8 +75,8 @@ impl EdgeWalk {
             x: start.x(),
             y: start.y(),
             height,
-            columns,
-            part,
+            columns: slope.columns,
+            part: slope.part,
             column: -left,
             rest,
         }

@@ -23,29 +23,13 @@ placed p start x y n m e f h k l o r is =
     let height = row_height y start.y n f (omega arith) (rw f at o) r in
     is ∙ (λ i. record { x = across i; y = height i })
 
-pub first_column-column-requires : goal.first_column-column-requires
-first_column-column-requires c =
+pub new-walk-requires-clause-height : goal.new-walk-requires-clause-height
+new-walk-requires-clause-height c =
     let place = placed _ c.args.start _ _ _ _ c.x.ensures.value c.y.ensures.value c.requires.rows c.requires.most c.x.ensures.in_band c.y.ensures.in_band c.requires.in_band c.point_at-place.ensures in
     subst (λ (q : Position). HasHeight c.args.edge.now q.y) (sym place) (c.requires.through c.args.first (omega arith) c.requires.rows)
 
-pub new-walk-requires : goal.new-walk-requires
-new-walk-requires c =
-    let place = placed _ c.args.start _ _ _ _ c.x.ensures.value c.y.ensures.value c.requires.rows c.requires.most c.x.ensures.in_band c.y.ensures.in_band c.requires.in_band c.point_at-place.ensures in
-    subst (λ (q : Position). HasHeight c.args.edge.now q.y) (sym place) (c.requires.through c.args.first (omega arith) c.requires.rows)
-
-pub returns-then-first-end : goal.returns-then-first-end
-returns-then-first-end c =
-    let place = placed _ c.args.start _ _ _ _ c.x.ensures.value c.y.ensures.value c.requires.rows c.requires.most c.x.ensures.in_band c.y.ensures.in_band c.requires.in_band c.point_at-place.ensures in
-    let e = c.args.edge.now in
-    let p : Position = down c.args.start c.args.first in
-    let column = c.first_column-column.result in
-    let first : IsFirstColumn e p column = subst (λ (q : Position). IsFirstColumn e q column) place c.first_column-column.ensures in
-    let one : c.args.first + 1 ≡ c.args.end = c.if-first-end.true in
-    rw one at (added_as c.args.rule c.args.s c.args.first (c.args.first + 1) _ (added_by e c.args.forward c.args.start) _ _ _ _
-    (walk_added e c.args.start c.args.forward c.args.first (record { edge = e; row = p }) column (record { sfits = c.first_column-column.type_inv }) refl first (c.requires.through c.args.first (omega arith) c.requires.rows)) c.cross.ensures)
-
-pub cross-requires-in-loop-row-clause-counters : goal.cross-requires-in-loop-row-clause-counters
-cross-requires-in-loop-row-clause-counters c =
+pub cross-requires-clause-counters : goal.cross-requires-clause-counters
+cross-requires-clause-counters c =
     has_counters c.args.rule c.args.flags.now c.args.counters.now c.loop-row.flags c.loop-row.counters c.loop-row.invariant.added.flags_len c.loop-row.invariant.added.counters_len c.requires.counters
 
 under : (e : Edge) (s : Position) (w : Walk) (n : ℕ) → w ≡ record { edge = e; row = down s n } → HasHeight e (down s (n + 1)).y → (w.row.y +ℤ pos 256) <ℤ w.edge.b.y
@@ -79,7 +63,7 @@ loop-row-preserved c =
         | else-row-end w ↦ absurd (let f = w.if-row-end.false in omega arith)
       ];
       added = added_both c.args.rule c.args.s c.args.first n (n + 1) _ _ _ _ _ _ _ c.requires.sample low (omega arith) (omega arith) v.added
-          (added_as c.args.rule c.args.s n (n + 1) _ _ _ _ _ _ (walk_added e c.args.start c.args.forward n c.loop-row.walk c.column.result (record { sfits = c.column.type_inv }) is c.column.ensures (c.requires.through n low end)) c.cross-in-loop-row.ensures);
+          (added_as c.args.rule c.args.s n (n + 1) _ _ _ _ _ _ (walk_added e c.args.start c.args.forward n c.loop-row.walk c.column.result (record { sfits = c.column.type_inv }) is c.column.ensures (c.requires.through n low end)) c.cross.ensures);
     }
 
 pub returns : goal.returns

@@ -1,4 +1,4 @@
-use Rattle.std.proofs.Common.{◌≡◌, ◌∙◌, ap, arith, ◌^◌, ℤ, pos, ◌+ℤ◌, ◌-ℤ◌, ◌*ℤ◌, neg_ℤ, ◌<ℤ◌, ◌≤ℤ◌, w64, to_z, of_z}
+use Rattle.std.proofs.Common.{◌≡◌, ◌∙◌, ap, arith, ◌^◌, ℤ, pos, ◌+ℤ◌, ◌-ℤ◌, ◌*ℤ◌, neg_ℤ, ◌<ℤ◌, ◌≤ℤ◌, w32, w64, to_z, of_z, FitsSigned}
 use Rattle.std.proofs.lemmas.Int.{ints}
 use Rattle.grid.specs.Bounds.{IsWithin}
 use Rattle.grid.specs.Position.{Position, IsInBand}
@@ -10,41 +10,36 @@ use Rattle.polygons.specs.Columns.{HasHeight, IsEdgeStep, IsWalkInBand, IsWalkin
 use Rattle.polygons.proofs.Columns.{first_row}
 use Rattle.polygons.proofs.walk.EdgeWalk.new.Goals as goal
 
+height_range : (h x y : ℤ) → IsInBand x → IsInBand y → h ≡ to_z w32 (of_z w32 (to_z w32 (of_z w32 x) -ℤ to_z w32 (of_z w32 y))) → IsWithin (2 ^ 25) h
+height_range h x y k l e = record { low = omega (arith, ints); high = omega (arith, ints) }
+
+large : (h : ℤ) → IsWithin (2 ^ 25) h → FitsSigned w64 (pos 256 *ℤ to_z w64 (of_z w64 h))
+large h k = omega (arith, ints)
+
+times_size : (h : ℤ) → IsWithin (2 ^ 25) h → to_z w64 (of_z w64 (pos 256 *ℤ to_z w64 (of_z w64 h))) ≤ℤ pos (2 ^ 33)
+times_size h k = omega (arith, ints)
+
+rest_size : (h m : ℤ) → IsWithin (2 ^ 25) h → pos 0 ≤ℤ m → m <ℤ to_z w64 (of_z w64 (pos 256 *ℤ to_z w64 (of_z w64 h))) → IsWithin (2 ^ 50) (to_z w64 (of_z w64 m))
+rest_size h m k l u = record { low = omega (arith, ints); high = omega (arith, ints) }
+
 pub overflow_mul-height : goal.overflow_mul-height
-overflow_mul-height c =
-    let h : IsWithin (2 ^ 25) c.from-height.result = let a = c.y.ensures.in_band in let b = c.y-2.ensures.in_band in record { low = omega (arith, ints); high = omega (arith, ints) } in
-    omega (arith, ints)
+overflow_mul-height c = large _ (height_range _ _ _ c.y.ensures.in_band c.y-2.ensures.in_band c.from-height.ensures)
 
-pub divide_short-columns-requires-clause-by : goal.divide_short-columns-requires-clause-by
-divide_short-columns-requires-clause-by c =
-    let a = c.y.ensures in let b = c.y-2.ensures in let top = c.requires.top in let bottom = c.requires.bottom in
-    let a' = a.in_band in let b' = b.in_band in
-    omega (arith, ints, a.value, b.value)
-
-pub divide_short-columns-requires-clause-small : goal.divide_short-columns-requires-clause-small
-divide_short-columns-requires-clause-small c =
-    let a' = c.y.ensures.in_band in let b' = c.y-2.ensures.in_band in
-    omega (arith, ints)
-
-pub divide_short-columns-requires-clause-number : goal.divide_short-columns-requires-clause-number
-divide_short-columns-requires-clause-number c =
-    let a' = c.x.ensures.in_band in let b' = c.x-2.ensures.in_band in
-    record { low = omega (arith, ints); high = omega (arith, ints) }
+pub guess_left-near-requires : goal.guess_left-near-requires
+guess_left-near-requires c = let s = c.requires.slope.size in record { low = omega (arith, ints); high = omega (arith, ints) }
 
 pub overflow_sub-side : goal.overflow_sub-side
 overflow_sub-side c = let s = c.side.ensures.size in omega (arith, ints)
 
 pub divide_near-left-requires-clause-by : goal.divide_near-left-requires-clause-by
 divide_near-left-requires-clause-by c =
-    let a = c.y.ensures in let b = c.y-2.ensures in let top = c.requires.top in let bottom = c.requires.bottom in
+    let a = c.y.ensures in let b = c.y-2.ensures in let top = c.requires.height.top in let bottom = c.requires.height.bottom in
     let h : pos 0 <ℤ c.from-height.result = let a' = a.in_band in let b' = b.in_band in omega (arith, ints, a.value, b.value) in
     let h' : c.from-height.result <ℤ pos (2 ^ 26) = let a' = a.in_band in let b' = b.in_band in omega (arith, ints) in
     omega (arith, ints)
 
 pub divide_near-left-requires-clause-small : goal.divide_near-left-requires-clause-small
-divide_near-left-requires-clause-small c =
-    let h : IsWithin (2 ^ 25) c.from-height.result = let a = c.y.ensures.in_band in let b = c.y-2.ensures.in_band in record { low = omega (arith, ints); high = omega (arith, ints) } in
-    omega (arith, ints)
+divide_near-left-requires-clause-small c = times_size _ (height_range _ _ _ c.y.ensures.in_band c.y-2.ensures.in_band c.from-height.ensures)
 
 pub divide_near-left-requires-clause-number : goal.divide_near-left-requires-clause-number
 divide_near-left-requires-clause-number c =
@@ -52,10 +47,7 @@ divide_near-left-requires-clause-number c =
     record { low = omega (arith, ints); high = omega (arith, ints) }
 
 pub divide-rest-requires-clause-number : goal.divide-rest-requires-clause-number
-divide-rest-requires-clause-number c =
-    let h : IsWithin (2 ^ 25) c.from-height.result = let a = c.y.ensures.in_band in let b = c.y-2.ensures.in_band in record { low = omega (arith, ints); high = omega (arith, ints) } in
-    let l = c.divide_near-left.ensures.low in let u = c.divide_near-left.ensures.high in
-    record { low = omega (arith, ints); high = omega (arith, ints) }
+divide-rest-requires-clause-number c = rest_size _ _ (height_range _ _ _ c.y.ensures.in_band c.y-2.ensures.in_band c.from-height.ensures) c.divide_near-left.ensures.low c.divide_near-left.ensures.high
 
 -- the numbers of a row, from two divisions
 walking : (e : Edge) (p : Position) (h q r n d k m f o : ℤ) → IsWalkInBand e p.x → HasHeight e p.y → h ≡ e.b.y -ℤ e.a.y
@@ -94,25 +86,24 @@ pub invariant_of-result : goal.invariant_of-result
 invariant_of-result c =
     let e = c.args.edge in
     let p = c.args.start in
-    let by = c.y.ensures in let ay = c.y-2.ensures in let bx = c.x.ensures in let ax = c.x-2.ensures in
-    let px = c.x-3.ensures in let py = c.y-3.ensures in
+    let by = c.y.ensures in let ay = c.y-2.ensures in
+    let px = c.x.ensures in let py = c.y-3.ensures in
     let h = difference64 _ _ e.b.y e.a.y c.from-height.result by.in_band ay.in_band by.value ay.value c.from-height.ensures in
     let H : ℤ = to_z w64 (of_z w64 c.from-height.result) in
     let small = small_height H e.b.y e.a.y h (rw by.value at by.in_band) (rw ay.value at ay.in_band) in
     let d = times_256 H small in
-    let wide = difference32 _ _ e.b.x e.a.x bx.in_band ax.in_band bx.value ax.value in
-    let tall = difference32 _ _ e.b.y e.a.y by.in_band ay.in_band by.value ay.value in
-    let cols = c.divide_short-columns.ensures in
+    let slope = c.args.slope in
     let left = c.divide_near-left.ensures in
     let rest = c.divide-rest.ensures in
-    let step : IsEdgeStep e c.divide_short-columns.result.0 c.divide_short-columns.result.1 = record { sum = rw (wide, tall) at cols.sum; part_low = cols.low; part_high = rw tall at cols.high } in
+    let step = c.requires.slope.step in
+    let size = c.requires.slope.size in
     let n = negated64 c.side.result (small_side _ _ c.side.ensures.value c.side.ensures.size) ∙ ap neg_ℤ c.side.ensures.value in
     let m = within64 c.divide_near-left.result.1 (small_rest _ _ H d small left.low left.high) in
-    let x = passed c.x-3.result p.x px.in_band px.value in
+    let x = passed c.x.result p.x px.in_band px.value in
     let y = passed c.y-3.result p.y py.in_band py.value in
-    let q = within64 c.divide_short-columns.result.0 (small_wider _ cols.size) in
-    let r = within64 c.divide_short-columns.result.1 (small_part _ (e.b.y -ℤ e.a.y) (rw h at small) step.part_low step.part_high) in
+    let q = within64 slope.columns (small_wider _ size) in
+    let r = within64 slope.part (small_part _ (e.b.y -ℤ e.a.y) (rw h at small) step.part_low step.part_high) in
     let k = negated64 c.divide_near-left.result.0 left.size in
     let f = within64 c.divide-rest.result.0 (wider _ rest.size) in
-    let band : IsWalkInBand e p.x = record { ax = rw ax.value at ax.in_band; ay = rw ay.value at ay.in_band; bx = rw bx.value at bx.in_band; by = rw by.value at by.in_band; start = rw px.value at px.in_band } in
-    rw (x, y, q, r, k, f) (walking e p H c.divide_short-columns.result.0 c.divide_short-columns.result.1 _ _ c.divide_near-left.result.0 c.divide_near-left.result.1 c.divide-rest.result.0 c.divide-rest.result.1 band c.requires h step cols.size n d left.sum left.low left.high (rw m at rest.sum) rest.low rest.high)
+    let wf = c.well_formed in let band : IsWalkInBand e p.x = record { ax = record { low = omega (arith, ints); high = omega (arith, ints) }; ay = rw ay.value at ay.in_band; bx = record { low = omega (arith, ints); high = omega (arith, ints) }; by = rw by.value at by.in_band; start = rw px.value at px.in_band } in
+    rw (x, y, q, r, k, f) (walking e p H slope.columns slope.part _ _ c.divide_near-left.result.0 c.divide_near-left.result.1 c.divide-rest.result.0 c.divide-rest.result.1 band c.requires.height h step size n d left.sum left.low left.high (rw m at rest.sum) rest.low rest.high)

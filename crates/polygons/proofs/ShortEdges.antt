@@ -1,0 +1,130 @@
+-- The first column at which a short edge is crossed.
+use Rattle.std.proofs.Common.{◌≡◌, inl, inr, refl, sym, ◌∙◌, arith, ℕ, ◌+◌, ◌*◌, ◌<◌, ◌≤◌, nat_abs, ◌^◌, [], ◌∷◌, ℤ, pos, negsuc, ◌+ℤ◌, ◌-ℤ◌, ◌*ℤ◌, neg_ℤ, ◌<ℤ◌, ◌≤ℤ◌, w32, to_z, of_z}
+use Rattle.std.proofs.lemmas.Int.{ints, clamps}
+use Rattle.std.specs.Int.{int_div_euclid, int_min}
+use Rattle.grid.specs.Bounds.{IsWithin}
+use Rattle.grid.specs.Position.{Position, IsInBand}
+use Rattle.grid.specs.Edge.{side}
+use Rattle.grid.proofs.Ring.{var, lit, plus, neg, times, ring}
+use Rattle.polygons.specs.declared.edge.Edge.{Edge}
+use Rattle.polygons.specs.Blocks.{down}
+use Rattle.polygons.specs.Columns.{along, HasHeight, IsFirstColumn}
+use Rattle.polygons.specs.Rows.{direction}
+use Rattle.polygons.specs.Pixels.{IsFirstPixel}
+use Rattle.polygons.specs.Short.{IsShortEdge, IsRowCrossed}
+use Rattle.polygons.proofs.Columns.{side-along, is_first_column, between, at_right, at_left}
+use Rattle.polygons.proofs.Division.{division}
+use Rattle.polygons.proofs.Plotted.{direction_above, direction_below}
+use Rattle.polygons.proofs.Triangle.{under_or_at_least}
+
+pub side-is : (a b p : Position) → side a b p ≡ (b.x -ℤ a.x) *ℤ (p.y -ℤ a.y) -ℤ (b.y -ℤ a.y) *ℤ (p.x -ℤ a.x)
+unfolding side
+side-is a b p = refl
+
+one_before : (h c : ℤ) → h *ℤ ((c -ℤ pos 1) -ℤ c) ≡ neg_ℤ h
+one_before h c = ring (h ∷ c ∷ []) (times (var 0) (plus (plus (var 1) (neg (lit (pos 1)))) (neg (var 1)))) (neg (var 0)) refl
+
+-- the column is crossed, and the one before it is not
+pub from_sides : (e : Edge) (p : Position) (c : ℤ) → HasHeight e p.y → side e.a e.b (along p c) ≤ℤ pos 0 → pos 0 <ℤ side e.a e.b (along p (c -ℤ pos 1)) → IsFirstColumn e p c
+from_sides e p c height here before =
+    let n = neg_ℤ (side e.a e.b (along p c)) in
+    let r = division n (pos 256) (omega (arith, ints)) in
+    let s = r.sum in let a = r.low in let b = r.high in
+    let m = side-along e.a e.b p c (c -ℤ pos 1) in
+    let o = one_before (e.b.y -ℤ e.a.y) c in
+    is_first_column e p c (int_div_euclid n (pos 256)) height
+    (record { low = omega (arith, ints); high = omega (arith, ints); rest_low = omega (arith, ints); rest_high = omega (arith, ints) })
+
+-- left of both ends, and a pixel right of one
+pub left_of_both : (e : Edge) (p : Position) (c : ℤ) → HasHeight e p.y → (p.x +ℤ pos 256 *ℤ c) <ℤ e.a.x → (p.x +ℤ pos 256 *ℤ c) <ℤ e.b.x → pos 0 <ℤ side e.a e.b (along p c)
+left_of_both e p c height a b =
+    let f = between e.a e.b (along p c) in
+    let t = height.top in let o = height.bottom in
+    let m = at_left (e.b.y -ℤ p.y) (p.y -ℤ e.a.y) (e.a.x -ℤ (p.x +ℤ pos 256 *ℤ c)) (e.b.x -ℤ (p.x +ℤ pos 256 *ℤ c)) (omega (arith, ints)) (omega (arith, ints)) (omega (arith, ints)) (omega (arith, ints)) in
+    omega (arith, ints)
+
+pub right_of_both : (e : Edge) (p : Position) (c : ℤ) → HasHeight e p.y → e.a.x ≤ℤ (p.x +ℤ pos 256 *ℤ c) → e.b.x ≤ℤ (p.x +ℤ pos 256 *ℤ c) → side e.a e.b (along p c) ≤ℤ pos 0
+right_of_both e p c height a b =
+    let f = between e.a e.b (along p c) in
+    let t = height.top in let o = height.bottom in
+    let m = at_right (e.b.y -ℤ p.y) (p.y -ℤ e.a.y) (e.a.x -ℤ (p.x +ℤ pos 256 *ℤ c)) (e.b.x -ℤ (p.x +ℤ pos 256 *ℤ c)) (omega (arith, ints)) (omega (arith, ints)) (omega (arith, ints)) (omega (arith, ints)) in
+    omega (arith, ints)
+
+-- the first column that is not left of both ends, or the next one
+pub this_column : (e : Edge) (p : Position) (c : ℤ) → HasHeight e p.y → IsFirstPixel p.x (int_min e.a.x e.b.x) c → side e.a e.b (along p c) ≤ℤ pos 0 → IsFirstColumn e p c
+this_column e p c height first here =
+    let r = first.reached in let f = first.first in
+    from_sides e p c height here (left_of_both e p (c -ℤ pos 1) height (omega (arith, ints, clamps)) (omega (arith, ints, clamps)))
+
+next_is : (c : ℤ) → (c +ℤ pos 1) -ℤ pos 1 ≡ c
+next_is c = omega (arith, ints)
+
+pub next_column : (e : Edge) (p : Position) (c : ℤ) → IsShortEdge e → HasHeight e p.y → IsFirstPixel p.x (int_min e.a.x e.b.x) c → pos 0 <ℤ side e.a e.b (along p c) → IsFirstColumn e p (c +ℤ pos 1)
+next_column e p c short height first here =
+    let r = first.reached in let f = first.first in
+    let a = short.right in let b = short.left in
+    from_sides e p (c +ℤ pos 1) height (right_of_both e p (c +ℤ pos 1) height (omega (arith, ints, clamps)) (omega (arith, ints, clamps))) (rw (next_is c) here)
+
+-- ---- the numbers that the code forms
+pub column_range : (start to n : ℤ) → IsInBand start → IsInBand to → IsFirstPixel start to n → IsWithin (2 ^ 17) n
+column_range start to n h k first = let r = first.reached in let f = first.first in record { low = omega (arith, ints); high = omega (arith, ints) }
+
+pub moved32 : (s n a : ℤ) → IsInBand s → IsWithin (2 ^ 17) n → IsInBand a
+    → to_z w32 (of_z w32 (to_z w32 (of_z w32 (to_z w32 (of_z w32 s) +ℤ to_z w32 (of_z w32 (pos 256 *ℤ to_z w32 (of_z w32 n))))) -ℤ to_z w32 (of_z w32 a))) ≡ (s +ℤ pos 256 *ℤ n) -ℤ a
+moved32 s n a h k l = omega (arith, ints)
+
+pub least_is : (m a b : ℤ) → m ≡ int_min (to_z w32 (of_z w32 a)) (to_z w32 (of_z w32 b)) → IsInBand a → IsInBand b → to_z w32 (of_z w32 m) ≡ int_min a b
+least_is m a b e h k =
+    let u : to_z w32 (of_z w32 a) ≡ a = omega (arith, ints) in
+    let v : to_z w32 (of_z w32 b) ≡ b = omega (arith, ints) in
+    of_least m a b (rw (u, v) at e) h k
+  where
+    of_least : (m a b : ℤ) → m ≡ int_min a b → IsInBand a → IsInBand b → to_z w32 (of_z w32 m) ≡ int_min a b
+    of_least m a b e h k = omega (arith, ints, clamps)
+
+pub least_in_band : (a b : ℤ) → IsInBand a → IsInBand b → IsInBand (int_min a b)
+least_in_band a b h k = record { low = omega (arith, ints, clamps); high = omega (arith, ints, clamps) }
+
+-- ---- the rows of one sample
+pub not_negative : (z : ℤ) → pos 0 ≤ℤ z → pos (nat_abs z) ≡ z
+not_negative (pos n) h = refl
+not_negative (negsuc n) h = absurd (omega (arith, ints))
+
+pub row_number : (first end : ℤ) → IsRowCrossed first end → pos (nat_abs (to_z w32 (of_z w32 first))) ≡ first
+row_number first end crossed =
+    let t = crossed.top in let b = crossed.bottom in
+    let same : to_z w32 (of_z w32 first) ≡ first = omega (arith, ints) in
+    rw same (not_negative first t)
+
+pub row_through : (e : Edge) (start first end : ℤ) → IsFirstPixel start e.a.y first → IsFirstPixel start e.b.y end → IsRowCrossed first end → HasHeight e (start +ℤ pos 256 *ℤ first)
+row_through e start first end a b crossed =
+    let s = crossed.some in let f = b.first in
+    record { top = a.reached; bottom = omega (arith, ints) }
+
+pub row_above : (e : Edge) (start : Position) (first : ℤ) → e.a.y ≤ℤ e.b.y → IsFirstPixel start.y e.a.y first → (row k : ℕ) → pos row <ℤ first → direction e (along (down start row) (pos k)) ≡ pos 0
+row_above e start first runs_down a row k h = let f = a.first in direction_above e (down start row) (pos k) runs_down (omega (arith, ints))
+
+pub row_below : (e : Edge) (start : Position) (first : ℤ) → IsShortEdge e → e.a.y ≤ℤ e.b.y → IsFirstPixel start.y e.a.y first → (row k : ℕ) → first <ℤ pos row → direction e (along (down start row) (pos k)) ≡ pos 0
+row_below e start first short runs_down a row k h = let r = a.reached in let d = short.down in direction_below e (down start row) (pos k) runs_down (omega (arith, ints))
+
+pub none_crossed : (e : Edge) (start : Position) (first end : ℤ) → IsShortEdge e → e.a.y ≤ℤ e.b.y → IsFirstPixel start.y e.a.y first → IsFirstPixel start.y e.b.y end → (IsRowCrossed first end → ⊥)
+    → (row k : ℕ) → row < 64 → direction e (along (down start row) (pos k)) ≡ pos 0
+none_crossed e start first end short runs_down a b none row k h = elim (under_or_at_least (pos row -ℤ first)) [
+  | inl l ↦ row_above e start first runs_down a row k (omega (arith, ints))
+  | inr l ↦ elim (under_or_at_least (first -ℤ pos row)) [
+    | inl m ↦ row_below e start first short runs_down a row k (omega (arith, ints))
+    | inr m ↦ elim (under_or_at_least (pos row -ℤ end)) [
+      | inl o ↦ absurd (none (record { some = omega (arith, ints); top = omega (arith, ints); bottom = omega (arith, ints) }))
+      | inr o ↦ let r = b.reached in direction_below e (down start row) (pos k) runs_down (omega (arith, ints))
+    ]
+  ]
+]
+
+-- ---- the rows as they are read
+pub first_read : (start start' y y' n : ℤ) → start ≡ start' → IsInBand y → y ≡ y' → IsFirstPixel start' (to_z w32 (of_z w32 y)) n → IsFirstPixel start y' n
+first_read start start' y y' n e h f first = let r = first.reached in let s = first.first in record { reached = omega (arith, ints); first = omega (arith, ints) }
+
+pub first_passed : (start start' y y' n : ℤ) → start ≡ start' → IsInBand y → y ≡ y' → IsWithin (2 ^ 17) n → IsFirstPixel start' (to_z w32 (of_z w32 y)) n → IsFirstPixel start y' (to_z w32 (of_z w32 n))
+first_passed start start' y y' n e h f near first =
+    let same : to_z w32 (of_z w32 n) ≡ n = omega (arith, ints) in
+    rw same (first_read start start' y y' n e h f first)

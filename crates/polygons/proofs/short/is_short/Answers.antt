@@ -1,0 +1,17 @@
+use Rattle.std.proofs.Common.{arith, pos, ◌+ℤ◌}
+use Rattle.std.proofs.lemmas.Int.{ints}
+use Rattle.polygons.proofs.short.is_short.Goals as goal
+
+pub returns-then-is_near : goal.returns-then-is_near
+returns-then-is_near c t =
+    let x = c.is_near.ensures.0 c.if-is_near.true in
+    let y = c.is_near-then-is_near.ensures.0 t in
+    let ax = c.x.ensures in let bx = c.x-2.ensures in let ay = c.y.ensures in let by = c.y-then-is_near.ensures in
+    let ax' = ax.in_band in let bx' = bx.in_band in let ay' = ay.in_band in let by' = by.in_band in
+    let x0 = x.0 in let x1 = x.1 in let y0 = y.0 in let y1 = y.1 in
+    record {
+      down = omega (arith, ints, ay.value, by.value);
+      up = omega (arith, ints, ay.value, by.value);
+      right = omega (arith, ints, ax.value, bx.value);
+      left = omega (arith, ints, ax.value, bx.value);
+    }
