@@ -53,7 +53,7 @@ pub record AreGood (ids : Option ℕ) (a : PolygonArrays) : Type 0 where
 abbrev pub columns_of_blocks : ℕ → ℕ
 columns_of_blocks width = 8 * ((width + 63) / 64)
 
--- How many columns of flags polygons on the canvas need: for each part of at most four samples of a pixel as many as it has columns of
+-- How many columns of flags polygons on the canvas need. For each part of at most four samples of a pixel there are as many as columns of
 -- blocks. 0 samples are one.
 abbrev pub flag_columns_listed : CanvasHead → ℕ
 flag_columns_listed head = parts_of (pattern_of head.samples) * columns_of_blocks head.width

@@ -20,21 +20,21 @@
 --   CoversScreen: The triangle covers each sample of the screen, which is 4096 by 4096 pixels.
 --   IsAlikeOverScreen: The triangle makes the same of a sample wherever on the screen it lies, and however many a pixel has.
 --   TilePaints: The triangle is drawn at those samples of the tile that are in this part, and the others are unchanged.
---   DrawsAlike: What the triangle makes of a sample as it is stored in the new planes of a tile, it makes of it as it was stored in the old ones too.
+--   DrawsAlike: What the triangle makes of a sample of the tile's new planes, it makes of that of its old planes too.
 --   KeepsOtherBlocks: The samples of all blocks of the tile but block k are unchanged.
 --   RowsPaint: The triangle is drawn at those samples of the tile rows that are in this part, and the others are unchanged.
---   flag_columns_of: How many columns of flags the canvas needs: for each part of at most four samples of a pixel as many as it has columns of blocks.
+--   flag_columns_of: How many columns of flags the canvas needs.
 --   mask_at: The mask of samples s of the block in a column and a row of blocks.
 --   mask_of: That mask among the masks of a tile row.
 --   IsAllowed: The state lets the sample of the tile be drawn.
---   AllowsTile: The state lets each sample of the tile be drawn: its pixels are in the scissor, and the bits of all samples of a pixel are set in the sample mask.
+--   AllowsTile: The state lets each sample of the tile be drawn.
 --   number_of: The number of block (bx, by) among the 64 of its tile, row by row.
 --   IsKeptAt: The sample is kept in the plane of this index among those of the tile.
---   IsInBlock: The sample is in block (bx, by) and is drawn there: its bit is set in column k of the masks, and the state lets it be drawn.
---   IsInColumn: The sample is in the first n rows of blocks of column `bx` of blocks and is drawn there: its bit is set in column k of the masks, and the state lets it be drawn.
---   IsFlagged: The sample is in the first n columns of blocks, from column `first` on, and is drawn there: its bit is set in the masks, and the state lets it be drawn.
+--   IsInBlock: The sample is in block (bx, by) and is drawn there.
+--   IsInColumn: The sample is in the first n rows of blocks of column `bx` of blocks and is drawn there.
+--   IsFlagged: The sample is in the first n columns of blocks, from column `first` on, and is drawn there.
 --   MeetsHere: The polygon meets sample s of pixel (i, j) of the canvas.
---   AreMasksOf: The flags are the masks of the samples of a tile row that the polygon covers, in `many` columns of blocks from column `first` on.
+--   AreMasksOf: The flags are the masks of the samples of a tile row that the polygon covers.
 --   HoldsSamples: Each sample of the canvas that lies in the box is in a column of blocks and a tile row of the window.
 --
 -- Batches.antt

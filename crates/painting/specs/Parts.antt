@@ -86,7 +86,7 @@ pub record TilePaints (t : Placed) (tile : Tile) (part : ℕ → ℕ → ℕ →
       → IsCanvasDrawnAt t (sample_position (8 * tile.bx + column) (8 * tile.by + row) s tile.count) (stored_in_tile tile.count old column row s) (stored_in_tile tile.count new column row s)
   pub missed : (row column s : ℕ) → IsSampleOf tile row column s → ¬ part row column s → stored_in_tile tile.count new column row s ≡ stored_in_tile tile.count old column row s
 
--- What the triangle makes of a sample as it is stored in the new planes of a tile, it makes of it as it was stored in the old ones too.
+-- What the triangle makes of a sample of the tile's new planes, it makes of that of its old planes too.
 abbrev pub DrawsAlike : Placed → SampleCount → List BlockSamples → List BlockSamples → Type 0
 DrawsAlike t count old new =
     (i j s : ℕ) (p : Position) (made : CanvasSample) → s < count_of count
@@ -101,12 +101,12 @@ pub record RowsPaint (t : Placed) (c : Canvas) (first end : ℕ) (part : ℕ →
   pub met : (i j s : ℕ) → IsStoredIn c first end i j s → part i j s → IsCanvasDrawnAt t (sample_position i j s c.count) (stored c first old i j s) (stored c first new i j s)
   pub missed : (i j s : ℕ) → IsStoredIn c first end i j s → ¬ part i j s → stored c first new i j s ≡ stored c first old i j s
 
--- How many columns of flags the canvas needs: for each part of at most four samples of a pixel as many as it has columns of blocks.
+-- How many columns of flags the canvas needs. For each part of at most four samples of a pixel there are as many as columns of blocks.
 abbrev pub flag_columns_of : Canvas → ℕ
 flag_columns_of c = parts_of c.count * (8 * columns_of c)
 
 -- The mask of samples s of the block in a column and a row of blocks. For each part of at most four samples of a pixel there are `many`
--- columns of words, part by part: for each row of blocks four words, one for each sample.
+-- columns of words, part by part. A column has four words for each row of blocks, one for each sample.
 abbrev pub mask_at : List (List ℕ) → ℕ → ℕ → ℕ → ℕ → ℕ
 mask_at flags many column row s = slice_index (row_of flags (s / 4 * many + column)) (4 * row + s % 4)
 
@@ -118,7 +118,7 @@ mask_of masks column row s = mask_at masks.flags.now masks.columns column row s
 abbrev pub IsAllowed : State → Tile → ℕ → ℕ → ℕ → Type 0
 IsAllowed state tile row column s = Allows state (8 * tile.bx + column) (8 * tile.by + row) s
 
--- The state lets each sample of the tile be drawn: its pixels are in the scissor, and the bits of all samples of a pixel are set in the
+-- The state lets each sample of the tile be drawn. Its pixels are in the scissor, and the bits of all samples of a pixel are set in the
 -- sample mask.
 pub record AllowsTile (state : State) (tile : Tile) : Type 0 where
   pub in_scissor : HoldsTile state.scissor tile
@@ -133,13 +133,13 @@ abbrev pub IsKeptAt : SampleCount → List BlockSamples → ℕ → ℕ → ℕ 
 IsKeptAt count samples place row column s =
     place_in_tile count (slice_index_or samples 0 (record { z = []; r = []; g = []; b = []; alpha = [] })) column row s ≡ place
 
--- The sample is in block (bx, by) and is drawn there: its bit is set in column k of the masks, and the state lets it be drawn.
+-- The sample is in block (bx, by) and is drawn there. Its bit is set in column k of the masks, and the state lets it be drawn.
 pub record IsInBlock (state : State) (tile : Tile) (bx by : ℕ) (masks : Masks) (k : ℕ) (row column s : ℕ) : Type 0 where
   pub square : IsInSquare tile bx by 8 row column s
   pub in_masks : IsBitSet (mask_of masks k (row / 8) s) (8 * (row % 8) + column % 8)
   pub allowed : IsAllowed state tile row column s
 
--- The sample is in the first n rows of blocks of column `bx` of blocks and is drawn there: its bit is set in column k of the masks, and
+-- The sample is in the first n rows of blocks of column `bx` of blocks and is drawn there. Its bit is set in column k of the masks, and
 -- the state lets it be drawn.
 pub record IsInColumn (state : State) (tile : Tile) (bx n : ℕ) (masks : Masks) (k : ℕ) (row column s : ℕ) : Type 0 where
   pub left : 8 * bx ≤ 8 * tile.bx + column
@@ -148,7 +148,7 @@ pub record IsInColumn (state : State) (tile : Tile) (bx n : ℕ) (masks : Masks)
   pub in_masks : IsBitSet (mask_of masks k (row / 8) s) (8 * (row % 8) + column % 8)
   pub allowed : IsAllowed state tile row column s
 
--- The sample is in the first n columns of blocks, from column `first` on, and is drawn there: its bit is set in the masks, and the state
+-- The sample is in the first n columns of blocks, from column `first` on, and is drawn there. Its bit is set in the masks, and the state
 -- lets it be drawn.
 pub record IsFlagged (state : State) (first n : ℕ) (masks : Masks) (i j s : ℕ) : Type 0 where
   pub left : 8 * first ≤ i
@@ -160,7 +160,8 @@ pub record IsFlagged (state : State) (first n : ℕ) (masks : Masks) (i j s : �
 abbrev pub MeetsHere : Polygon → Origin → SampleCount → ℕ → ℕ → ℕ → Type 0
 MeetsHere polygon origin count i j s = MeetsSample (shape_of polygon) count (pos i +ℤ origin.x) (pos j +ℤ origin.y) s
 
--- The flags are the masks of the samples of a tile row that the polygon covers, in `many` columns of blocks from column `first` on.
+-- The flags are the masks of the samples of a tile row that the polygon covers. There are `many` columns of blocks, from column `first`
+-- on.
 abbrev pub AreMasksOf : Polygon → Origin → Canvas → ℕ → ℕ → ℕ → List (List ℕ) → Type 0
 AreMasksOf polygon origin c row first many flags =
     (i j s : ℕ) → IsStoredIn c row (row + 1) i j s → first ≤ i / 8 → i / 8 < first + many

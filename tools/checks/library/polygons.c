@@ -228,6 +228,20 @@ static void compare_scratch(void) {
     report("scratch memory that is too small, misaligned or not there is refused");
 }
 
+// The size of scratch memory: flags for each part of at most four samples of a pixel, and counters once.
+static void compare_scratch_sizes(void) {
+    static const uint32_t counts[] = {0, 1, 2, 4, 8, 16};
+    static const size_t parts[] = {1, 1, 1, 1, 2, 4};
+    for (size_t k = 0; k < sizeof counts / sizeof counts[0]; k++) {
+        const trirast_canvas canvas = {.width = WIDTH, .height = HEIGHT, .samples = counts[k]};
+        expect(trirast_polygons_scratch(&canvas, TRIRAST_FILL_EVEN_ODD) == 16 * 256 * parts[k],
+               "flags for %u samples", counts[k]);
+        expect(trirast_polygons_scratch(&canvas, TRIRAST_FILL_NONZERO) == 16 * (256 * parts[k] + 8192),
+               "flags and counters for %u samples", counts[k]);
+    }
+    report("scratch memory has flags for each part of at most four samples, and counters once");
+}
+
 static void compare_messages(void) {
     const struct {
         uint32_t cause;
@@ -252,5 +266,6 @@ void compare_polygons(void) {
     compare_with_triangle();
     compare_refused_sets();
     compare_scratch();
+    compare_scratch_sizes();
     compare_messages();
 }

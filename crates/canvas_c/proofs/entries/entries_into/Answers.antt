@@ -1,4 +1,4 @@
-use Rattle.std.proofs.Common.{rules, inl, inr, refl, ◌≡◌, ◌∙◌, ◌↔◌, ap, subst, ℕ, ◌%◌, ◌<◌, max, IsOk, length}
+use Rattle.std.proofs.Common.{rules, inl, inr, refl, ◌≡◌, ◌∙◌, ◌↔◌, ap, ℕ, ◌%◌, ◌<◌, max, IsOk, length}
 use Rattle.std.proofs.lemmas.Result.{err_from_is_err_and}
 use Rattle.grid.specs.Samples.{count_of}
 use Rattle.canvas.specs.Entries.{FitEntries}

@@ -1,4 +1,4 @@
-use Rattle.std.proofs.Common.{rules, ◌≤◌, length, inl, refl}
+use Rattle.std.proofs.Common.{rules, length, inl, refl}
 use Rattle.std.proofs.lemmas.Result.{err_from_is_err_and}
 use Rattle.model.specs.Checking.{done, check}
 use Rattle.model.proofs.Checking.{fails_before, fails_later}

@@ -1,4 +1,4 @@
-use Rattle.std.proofs.Common.{rules, ◌↔◌, IsOk, subst, ℕ, ◌*◌, ◌≤◌, length}
+use Rattle.std.proofs.Common.{rules, ◌↔◌, IsOk, subst, ℕ, ◌*◌, length}
 use Rattle.std.proofs.lemmas.Result.{err_from_is_err_and}
 use Rattle.canvas.specs.Pixels.{pixel_bytes, IsLargeEnough}
 use Rattle.canvas.specs.Loaded.{AreLoaded}

@@ -1,4 +1,4 @@
-use Rattle.std.proofs.Common.{◌↔◌, IsOk, ℕ, ◌*◌, ◌≤◌, length, inr}
+use Rattle.std.proofs.Common.{◌↔◌, IsOk, ℕ, ◌*◌, length, inr}
 use Rattle.canvas.specs.Pixels.{pixel_bytes, IsLargeEnough}
 use Rattle.model.specs.Checking.{done, check, followed_by}
 use Rattle.model.proofs.Checking.{fails_before}

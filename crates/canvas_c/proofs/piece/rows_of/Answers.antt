@@ -1,4 +1,4 @@
-use Rattle.std.proofs.Common.{rules, ◌≡◌, ◌∙◌, ap, ℕ, ◌+◌, ◌-◌, ◌*◌, ◌/◌, max, length, inl, inr, refl}
+use Rattle.std.proofs.Common.{rules, ◌≡◌, ◌∙◌, ap, ◌+◌, ◌-◌, ◌*◌, ◌/◌, length, inl, inr, refl}
 use Rattle.grid.specs.Samples.{count_of, pattern_of}
 use Rattle.c_abi.specs.Sizes.{IsOwnSize}
 use Rattle.canvas_c.specs.Pieces.{IsCanvas, HasRows, planes_listed, AreRowsOf}

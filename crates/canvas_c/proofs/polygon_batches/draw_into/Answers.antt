@@ -1,10 +1,9 @@
-use Rattle.std.proofs.Common.{◌≡◌, ◌⊎◌, ◌↔◌, ◌∙◌, inl, inr, refl, sym, ap, subst, rules, arith, ℕ, ◌+◌, ◌*◌, ◌/◌, ◌≤◌, List, Option, length, take, FitsSigned, w32, IsTrue}
+use Rattle.std.proofs.Common.{◌≡◌, ◌⊎◌, ◌↔◌, ◌∙◌, inl, inr, refl, sym, ap, subst, rules, arith, ℕ, ◌+◌, ◌*◌, ◌/◌, ◌≤◌, Option, length, FitsSigned, w32, IsTrue}
 use Rattle.std.proofs.lemmas.Int.{to_z-of_z}
 use Rattle.std.proofs.lemmas.List.{length-take}
 use Rattle.std.proofs.lemmas.Result.{err_from_is_err_and}
 use Rattle.model.specs.Checking.{Checks, done, check}
 use Rattle.model.proofs.Checking.{pass_both, fails_before, fails_later}
-use Rattle.polygons.specs.declared.rule.Rule.{Rule}
 use Rattle.polygons.specs.declared.rule.Rule.TheVariants.{EvenOdd, NonZero}
 use Rattle.canvas.specs.declared.canvas.Canvas.{Canvas}
 use Rattle.grid.specs.Samples.{parts_of, pattern_of}

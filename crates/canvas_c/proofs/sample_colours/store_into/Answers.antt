@@ -1,4 +1,4 @@
-use Rattle.std.proofs.Common.{◌≡◌, ◌↔◌, rules, subst, ℕ, ◌*◌, ◌<◌, ◌≤◌, length, IsOk}
+use Rattle.std.proofs.Common.{◌↔◌, rules, subst, ℕ, ◌*◌, ◌<◌, length, IsOk}
 use Rattle.std.proofs.lemmas.Result.{err_from_is_err_and}
 use Rattle.grid.specs.Samples.{count_of, pattern_of}
 use Rattle.canvas.specs.Pixels.{pixel_bytes}

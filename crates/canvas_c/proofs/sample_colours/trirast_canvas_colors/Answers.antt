@@ -1,4 +1,4 @@
-use Rattle.std.proofs.Common.{◌≡◌, ◌↔◌, inr, ℕ, ◌*◌, ◌<◌, ◌≤◌, length, IsOk}
+use Rattle.std.proofs.Common.{◌↔◌, inr, ℕ, ◌*◌, ◌<◌, length, IsOk}
 use Rattle.grid.specs.Samples.{count_of, pattern_of}
 use Rattle.canvas.specs.Pixels.{pixel_bytes}
 use Rattle.canvas.specs.Entries.{FitEntries}

@@ -1,6 +1,6 @@
-use Rattle.std.proofs.Common.{◌≡◌, ◌⊎◌, refl, sym, subst, rules, ℕ, ◌+◌, ◌*◌, ◌≤◌, length, arith}
+use Rattle.std.proofs.Common.{refl, ℕ, ◌≤◌, length}
 use Rattle.std.proofs.lemmas.Result.{err_from_is_err_and}
-use Rattle.canvas.specs.Tiles.{tile_entries, FitTile, FitTileOrOne, IsTileMisfit, AreTileColours, AreTileIds}
+use Rattle.canvas.specs.Tiles.{tile_entries, FitTile, IsTileMisfit}
 use Rattle.model.specs.Checking.{done, check}
 use Rattle.model.proofs.Checking.{fails_before}
 use Rattle.c_abi.specs.declared.status.Status.TheVariants.{BufferTooSmall, BadTile}

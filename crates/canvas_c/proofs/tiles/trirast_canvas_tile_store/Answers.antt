@@ -1,4 +1,4 @@
-use Rattle.std.proofs.Common.{ℕ, length}
+use Rattle.std.proofs.Common.{length}
 use Rattle.canvas_c.specs.Samples.{tile_store_checks}
 use Rattle.canvas_c.proofs.Ended.{done_if, status_is}
 use Rattle.canvas_c.proofs.tiles.trirast_canvas_tile_store.Goals as goal
