@@ -10,6 +10,7 @@ pub mod ByteRows
 pub mod Filling
 pub mod Masks
 pub mod RunningSums
+pub mod Changes
 pub mod Outside
 pub mod Columns
 pub mod ShortEdges
