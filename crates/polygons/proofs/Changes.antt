@@ -1,8 +1,8 @@
 -- Where the sums of a word's rows change between 0 and other numbers, counter after counter.
-use Rattle.std.proofs.Common.{◌≡◌, ◌≢◌, inl, inr, refl, sym, ap, ◌∙◌, arith, ℕ, zero, suc, ◌+◌, ◌-◌, ◌*◌, ◌/◌, ◌%◌, ◌^◌, ◌<◌, ◌≤◌, Bool, true, false, cond, eqb, min, List, slice_index, add-one}
+use Rattle.std.proofs.Common.{◌≡◌, ◌≢◌, inl, inr, refl, sym, ap, ◌∙◌, arith, ℕ, zero, suc, ◌+◌, ◌-◌, ◌*◌, ◌/◌, ◌%◌, ◌^◌, ◌<◌, ◌≤◌, min, List, slice_index, add-one}
 use Rattle.std.proofs.lemmas.Bool.{cases_eq, cases_lt}
 use Rattle.std.specs.Int.{bit_at}
-use Rattle.polygons.specs.Summing.{run, nonzero_bit, change_bit, change_at}
+use Rattle.polygons.specs.Summing.{run, change_bit, change_at}
 use Rattle.polygons.proofs.Plotted.{before_of}
 
 -- how many of a row's counters are among the first n of a word

@@ -19,7 +19,6 @@ pub mod Exact
 pub mod Parity
 pub mod Counters
 pub mod Quads
-pub mod Bytes
 pub mod Samples
 pub mod RowLists
 pub mod Lines

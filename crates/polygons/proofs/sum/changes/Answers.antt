@@ -1,9 +1,9 @@
-use Rattle.std.proofs.Common.{◌≡◌, inl, inr, refl, sym, ap, ◌∙◌, arith, ℕ, ◌+◌, ◌-◌, ◌*◌, ◌/◌, ◌%◌, ◌^◌, ◌<◌, ◌≤◌, true, false, cond, ltb, w64, bit_or, List, slice_index}
-use Rattle.std.proofs.lemmas.Bool.{cases_lt, cases_eq, lt-ltb, le-ltb}
+use Rattle.std.proofs.Common.{◌≡◌, inl, inr, sym, ap, ◌∙◌, arith, ℕ, ◌+◌, ◌-◌, ◌*◌, ◌/◌, ◌%◌, ◌^◌, ◌<◌, ◌≤◌, true, false, ltb, w64, bit_or, List, slice_index}
+use Rattle.std.proofs.lemmas.Bool.{cases_lt, lt-ltb, le-ltb}
 use Rattle.std.proofs.lemmas.Nat.{shr-shr}
-use Rattle.std.proofs.lemmas.Nat.Bits.{bit_at-zero, bit_at-trailing_zeros, bit_at_or, bit_at_above, bit_at-lt}
+use Rattle.std.proofs.lemmas.Nat.Bits.{bit_at-zero, bit_at-trailing_zeros, bit_at_or, bit_at_above}
 use Rattle.std.specs.Int.{bit_at, trailing_zeros}
-use Rattle.polygons.specs.Summing.{run, change_at}
+use Rattle.polygons.specs.Summing.{run}
 use Rattle.polygons.proofs.Parity.{bit_of_shifted}
 use Rattle.polygons.proofs.Changes.{AreChanged, columns, none_changed, skipped, one_changed}
 use Rattle.polygons.proofs.sum.changes.Goals as goal
@@ -74,7 +74,7 @@ loop-left-preserved c =
     let a = c.add_counter.ensures in
     let bit : c.add_counter.result < 2 = let e = a.change in omega arith in
     let at = skipped c.args.counters.now c.args.word c.args.sums.now c.fits-sums c.loop-left.done n c.loop-left.changes c.loop-left.counters c.loop-left.sums (omega arith) (let i = f.inside in omega arith)
-        (λ i h l. c.requires.marked i (let m = f.inside in omega arith) (f.none i h l)) v.changed in
+    (λ i h l. c.requires.marked i (let m = f.inside in omega arith) (f.none i h l)) v.changed in
     record {
       left = ap (λ x. x / 2 ^ t / 2) v.left ∙ ap (λ x. x / 2) (shr-shr c.args.marks c.loop-left.done t) ∙ shr-shr c.args.marks n 1;
       changed = one_changed c.args.counters.now c.args.word c.args.sums.now c.fits-sums n c.loop-left.changes _ c.loop-left.counters c.loop-left.sums _ _ f.inside
