@@ -10,6 +10,7 @@ pub mod ByteRows
 pub mod Filling
 pub mod Masks
 pub mod RunningSums
+pub mod Changes
 pub mod Outside
 pub mod Columns
 pub mod ShortEdges
@@ -18,7 +19,6 @@ pub mod Exact
 pub mod Parity
 pub mod Counters
 pub mod Quads
-pub mod Bytes
 pub mod Samples
 pub mod RowLists
 pub mod Lines

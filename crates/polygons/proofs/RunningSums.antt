@@ -1,16 +1,13 @@
 -- Counters that are summed from the left, modulo 2 ^ 32.
-use Rattle.std.proofs.Common.{◌≡◌, ◌≢◌, inl, inr, refl, sym, ap, ◌∙◌, arith, ℕ, zero, suc, ◌+◌, ◌*◌, ◌/◌, ◌%◌, ◌^◌, ◌<◌, ◌≤◌, ◌⊎◌, ◌↔◌, subst, Bool, true, false, not, cond, eqb, List, [], ◌∷◌, length, add-one, set, slice_index, get_or-set_same, get_or-set_other, bit_and, ℤ, pos, neg_ℤ, ◌+ℤ◌, ◌-ℤ◌, ◌*ℤ◌}
+use Rattle.std.proofs.Common.{◌≡◌, ◌≢◌, inl, inr, refl, sym, ap, ◌∙◌, arith, ℕ, zero, suc, ◌+◌, ◌*◌, ◌/◌, ◌%◌, ◌^◌, ◌<◌, ◌≤◌, ◌⊎◌, ◌↔◌, subst, Bool, true, false, cond, eqb, List, [], ◌∷◌, length, add-one, set, slice_index, get_or-set_same, get_or-set_other, ℤ, pos, neg_ℤ, ◌+ℤ◌, ◌-ℤ◌, ◌*ℤ◌}
 use Rattle.std.proofs.lemmas.Int.{ints}
 use Rattle.std.proofs.lemmas.Bool.Decides.{eqb_tells}
-use Rattle.std.proofs.lemmas.Nat.{shr-shr}
-use Rattle.std.proofs.lemmas.Nat.Bits.{bit_at-zero}
 use Rattle.std.specs.Int.{bit_at}
 use Rattle.polygons.specs.declared.rule.Rule.TheVariants.{NonZero}
 use Rattle.polygons.specs.Rows.{sum_to}
 use Rattle.polygons.specs.ManyRows.{row_of}
 use Rattle.polygons.specs.Cells.{word_of, bit_in_block, flag_of, counter_at, cell, IsAlike, AreMarked}
 use Rattle.polygons.specs.Summing.{run, nonzero_bit}
-use Rattle.polygons.proofs.Bytes.{low_byte}
 use Rattle.polygons.proofs.Plotted.{times_sum}
 
 pub run-same : (xs ys : List ℕ) (from a b n : ℕ) → b ≡ a → ((k : ℕ) → k < n → slice_index ys (from + k) ≡ slice_index xs (from + k)) → run ys from b n ≡ run xs from a n
@@ -33,21 +30,6 @@ run_alike xs from start (suc n) =
     let i = run_alike xs from start n in
     let e = i.is in
     record { times = i.times -ℤ pos ((run xs from start n + slice_index xs (from + n)) / 2 ^ 32); is = omega (arith, ints) }
-
--- the bit of a test
-pub bit_of_test : (x old : ℕ) → old ≡ 0 → cond (not (eqb x 0)) 1 old ≡ nonzero_bit x
-bit_of_test x old e = either (eqb x 0)
-  where
-    either : (b : Bool) → cond (not b) 1 old ≡ cond b 0 1
-    either true = e
-    either false = refl
-
--- a byte without flags
-pub byte_zero : (w n k : ℕ) → bit_and (w / 2 ^ n) 255 ≡ 0 → k < 8 → bit_at w (n + k) ≡ 0
-byte_zero w n k e h = sym (low_byte (w / 2 ^ n) k h ∙ ap (λ x. x % 2) (shr-shr w n k)) ∙ ap (λ x. bit_at x k) e ∙ bit_at-zero k
-
-pub in_row : (i q : ℕ) → i / 8 ≡ q → i ≡ 8 * q + i % 8
-in_row i q e = omega arith
 
 -- ---- one element that is set
 pub set_same : (xs : List ℕ) (n x i : ℕ) → n < length xs → i ≡ n → slice_index (set xs n x) i ≡ x

@@ -70,8 +70,17 @@
 --   Walk: An edge that runs downwards, and the sample of column 0 in one of the rows that it runs through.
 --   IsAtColumn: The edge function at the first column, by its absolute value in 256 times 1/65536 square pixel, rounded down.
 --   IsEdgeStep: The edge's width as a quotient and a remainder by its height.
+--   IsSlope: The slope is that of an edge that runs downwards.
 --   IsWalkInBand: All coordinates of the edge, and x, are inside of the guard band.
 --   IsWalking: What is kept of an edge at a row: the numbers of the step, and the first column with what is left there.
+--
+-- Pixels.antt
+--   IsFirstPixel: Of the coordinates that lie a whole number of pixels from `start`, the one n pixels behind it is the first that is not before `to`.
+--
+-- Short.antt
+--   IsShortEdge: The edge is at most a pixel wide and a pixel high.
+--   AreNearRows: Each of four rows is at most 2 ^ 17 rows away.
+--   IsRowCrossed: Of rows from `first` to before `end`, the first one is a row of a strip.
 --
 -- Rows.antt
 --   parity: Whether an odd number of the first n flags are set: 1 or 0.
@@ -138,7 +147,8 @@
 -- Summing.antt
 --   run: The sum of a number and of the first n counters from `from` on, modulo 2 ^ 32.
 --   nonzero_bit: 1 if the number is other than 0.
---   IsSummed: Each bit says whether the sum up to it of row q of a column's counters, eight of each row, is other than 0.
+--   change_bit: 1 if one of the numbers is 0 and the other is not.
+--   change_at: Whether counter i of a word changes the sum of its row from 0 to another number, or from another number to 0: 1 or 0.
 --   IsLevelMask: The mask of word i of a column if all of its counters are 0.
 
 pub mod Crossing

@@ -10,7 +10,7 @@ pub record IsShortEdge (e : Edge) : Type 0 where
   pub right : e.b.x ≤ℤ (e.a.x +ℤ pos 256)
   pub left : e.a.x ≤ℤ (e.b.x +ℤ pos 256)
 
--- Each of four rows is so near that it has few bits.
+-- Each of four rows is at most 2 ^ 17 rows away.
 abbrev pub AreNearRows : List ℤ → Type 0
 AreNearRows rows = (s : ℕ) → s < 4 → IsWithin (2 ^ 17) (slice_index_or rows s (pos 0))
 

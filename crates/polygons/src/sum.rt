@@ -2,7 +2,7 @@
 ghost use Rattle.std.specs.Prelude.{◌≡◌, ◌≢◌, ◌↔◌, ℕ, ◌+◌, ◌*◌, ◌/◌, ◌%◌, ◌^◌, ◌<◌, cond, pos, length, slice_index};
 ghost use Rattle.std.specs.Int.{bit_at};
 ghost use Rattle.polygons.specs.Cells.{flag_of, running_sum, IsAlike, AreMarked, AreZeros};
-ghost use Rattle.polygons.specs.Summing.{run, nonzero_bit, IsLevelMask, IsSummed};
+ghost use Rattle.polygons.specs.Summing.{run, nonzero_bit, change_bit, change_at, IsLevelMask};
 ghost use Rattle.polygons.specs.declared.rule.Rule.TheVariants.{NonZero};
 
 use crate::byte_rows::{fill_rows, last_column};
@@ -12,68 +12,69 @@ use crate::fill::no_carry;
 /// The sums of a column's rows: of each of its words eight.
 type Sums = [u32; 256];
 
-/// The bits with one more set, if `is_set`.
+/// 1 if one of the sums is 0 and the other is not, else 0.
 #[inline(always)]
-fn with_bit(bits: u64, j: usize, is_set: bool) -> u64
-    requires { j < 64 }
-    ensures here { bit_at result j ≡ cond is_set 1 (bit_at bits j) }
-    ensures others { (k : ℕ) → k ≢ j → bit_at result k ≡ bit_at bits k }
+fn change(old: u32, new: u32) -> u64
+    ensures { result ≡ change_bit old new }
 {
-    if is_set { bits | (1 << j) } else { bits }
+    u64::from(old != 0) ^ u64::from(new != 0)
 }
 
-/// The bits of row `q` of a column, and the sum at its end. The counters of the row are zeros afterwards.
+/// Adds counter `i` of a word to the sum of its row, and empties it. Returns 1 if the sum was 0 and is no longer, or is
+/// 0 now and was not, else 0.
 #[inline(always)]
-fn sum_row(counters: &mut Counters, q: usize, sum: u32) -> (u64, u32)
-    requires { q < 256 }
-    ensures bits { IsSummed counters.old q sum result.0 }
-    ensures low { result.0 < 256 }
-    ensures next { result.1 ≡ run counters.old (8 * q) sum 8 }
-    ensures zeros { (i : ℕ) → i / 8 ≡ q → slice_index counters.new i ≡ 0 }
-    ensures others { (i : ℕ) → (i / 8 ≡ q → ⊥) → slice_index counters.new i ≡ slice_index counters.old i }
+fn add_counter(counters: &mut Counters, word: usize, i: usize, sums: &mut Sums) -> u64
+    requires word { word < 32 }
+    requires bit { i < 64 }
+    ensures change { result ≡
+        change_bit (slice_index sums.old (8 * word + i / 8)) (slice_index sums.new (8 * word + i / 8)) }
+    ensures sum { slice_index sums.new (8 * word + i / 8) ≡
+        (slice_index sums.old (8 * word + i / 8) + slice_index counters.old (64 * word + i)) % 2 ^ 32 }
+    ensures other_sums { (q : ℕ) → q ≢ 8 * word + i / 8 → slice_index sums.new q ≡ slice_index sums.old q }
+    ensures zero { slice_index counters.new (64 * word + i) ≡ 0 }
+    ensures others { (k : ℕ) → k ≢ 64 * word + i → slice_index counters.new k ≡ slice_index counters.old k }
 {
-    let mut sum = sum;
-    let mut bits = 0;
-    for j in 0..8 {
-        sum = sum.wrapping_add(counters[8 * q + j]);
-        counters[8 * q + j] = 0;
-        bits = with_bit(bits, j, sum != 0);
+    let old = sums[8 * word + i / 8];
+    let new = old.wrapping_add(counters[64 * word + i]);
+    sums[8 * word + i / 8] = new;
+    counters[64 * word + i] = 0;
+    change(old, new)
+}
+
+/// The flags of a word at which the sum of a row becomes 0 or another number again, by the flags of its counters. The
+/// sums are those at the ends of the rows afterwards, and the counters are zeros.
+#[inline(always)]
+fn changes(marks: u64, counters: &mut Counters, word: usize, sums: &mut Sums) -> u64
+    requires word { word < 32 }
+    requires marked { (i : ℕ) → i < 64 → bit_at marks i ≡ 0 → slice_index counters.old (64 * word + i) ≡ 0 }
+    ensures changes { (i : ℕ) → i < 64 → bit_at result i ≡ change_at counters.old word sums.old i }
+    ensures next { (r : ℕ) → r < 8 → slice_index sums.new (8 * word + r) ≡
+        run counters.old (8 * (8 * word + r)) (slice_index sums.old (8 * word + r)) 8 }
+    ensures other_sums { (q : ℕ) → (q / 8 ≡ word → ⊥) → slice_index sums.new q ≡ slice_index sums.old q }
+    ensures zeros { (i : ℕ) → i / 64 ≡ word → slice_index counters.new i ≡ 0 }
+    ensures others { (i : ℕ) → (i / 64 ≡ word → ⊥) → slice_index counters.new i ≡ slice_index counters.old i }
+{
+    let mut changes = 0;
+    let mut done = 0;
+    let mut left = marks;
+    while left != 0 {
+        let skipped = left.trailing_zeros();
+        let i = done + skipped as usize;
+        changes |= add_counter(counters, word, i, sums) << i;
+        done = i + 1;
+        left = (left >> skipped) >> 1;
     }
-    (bits & 255, sum)
+    changes
 }
 
-/// The bits of a row whose counters are all 0: all or none, by the sum before it.
+/// The mask of a word, by the flags of its counters, and the sums at the ends of its rows. `level` is its mask if it has
+/// no flags.
 #[inline(always)]
-fn level_row(sum: u32) -> u64
-    ensures bits { (j : ℕ) → j < 8 → bit_at result j ≡ nonzero_bit sum }
-    ensures low { result < 256 }
-{
-    if sum == 0 { 0 } else { 255 }
-}
-
-/// What `sum_row` makes of row `q`, without reading its counters if no flag of theirs is set in `marks`.
-#[inline(always)]
-fn sum_marked(marks: u64, counters: &mut Counters, q: usize, sum: u32) -> (u64, u32)
-    requires row { q < 256 }
-    requires marked { (j : ℕ) → j < 8 → bit_at marks (8 * (q % 8) + j) ≡ 0 → slice_index counters.old (8 * q + j) ≡ 0 }
-    ensures bits { IsSummed counters.old q sum result.0 }
-    ensures low { result.0 < 256 }
-    ensures next { result.1 ≡ run counters.old (8 * q) sum 8 }
-    ensures zeros { (i : ℕ) → i / 8 ≡ q → slice_index counters.new i ≡ 0 }
-    ensures others { (i : ℕ) → (i / 8 ≡ q → ⊥) → slice_index counters.new i ≡ slice_index counters.old i }
-{
-    if (marks >> (8 * (q % 8))) & 255 == 0 {
-        (level_row(sum), sum)
-    } else {
-        sum_row(counters, q, sum)
-    }
-}
-
-/// The mask of a word, by the flags of its counters, and the sums at the ends of its rows.
-fn sum_word(marks: u64, counters: &mut Counters, word: usize, sums: &mut Sums) -> u64
+fn sum_word(marks: u64, counters: &mut Counters, word: usize, sums: &mut Sums, level: u64) -> u64
     requires word { word < 32 }
     requires marked { (r j : ℕ) → r < 8 → j < 8 → bit_at marks (8 * r + j) ≡ 0 →
         slice_index counters.old (8 * (8 * word + r) + j) ≡ 0 }
+    requires level { IsLevelMask level word sums.old }
     ensures bits { (r j : ℕ) → r < 8 → j < 8 → bit_at result (8 * r + j) ≡
         nonzero_bit (run counters.old (8 * (8 * word + r)) (slice_index sums.old (8 * word + r)) (j + 1)) }
     ensures next { (r : ℕ) → r < 8 → slice_index sums.new (8 * word + r) ≡
@@ -82,13 +83,8 @@ fn sum_word(marks: u64, counters: &mut Counters, word: usize, sums: &mut Sums) -
     ensures zeros { (i : ℕ) → i / 64 ≡ word → slice_index counters.new i ≡ 0 }
     ensures others { (i : ℕ) → (i / 64 ≡ word → ⊥) → slice_index counters.new i ≡ slice_index counters.old i }
 {
-    let mut mask = 0;
-    for r in 0..8 {
-        let (bits, sum) = sum_marked(marks, counters, 8 * word + r, sums[8 * word + r]);
-        sums[8 * word + r] = sum;
-        mask |= bits << (8 * r);
-    }
-    mask
+    let changes = changes(marks, counters, word, sums);
+    fill_rows(changes, last_column(level)).0
 }
 
 /// In each row of a word all bits, if the last one is set.
@@ -125,7 +121,7 @@ fn sum_or_level(
     if marks == 0 {
         return (level, level);
     }
-    let mask = sum_word(marks, counters, word, sums);
+    let mask = sum_word(marks, counters, word, sums, level);
     (mask, level_of(mask))
 }
 

@@ -1,4 +1,4 @@
-use Rattle.std.proofs.Common.{◌≡◌, refl, sym, ◌∙◌, arith, Bool, ℤ, pos, ◌≤ℤ◌, length}
+use Rattle.std.proofs.Common.{◌≡◌, refl, sym, ◌∙◌, arith, ℤ, pos, length}
 use Rattle.std.proofs.lemmas.Int.{ints}
 use Rattle.grid.specs.Position.{Position}
 use Rattle.polygons.specs.declared.edge.Edge.{Edge}
@@ -6,7 +6,6 @@ use Rattle.polygons.specs.Blocks.{down}
 use Rattle.polygons.specs.Columns.{along}
 use Rattle.polygons.specs.Rows.{direction}
 use Rattle.polygons.specs.Strip.{start_of, strip_sample}
-use Rattle.polygons.specs.Cells.{signed}
 use Rattle.polygons.proofs.Counters.{direction-none}
 use Rattle.polygons.proofs.Plotted.{signed_none, plotted_as, plotted_apart}
 use Rattle.polygons.proofs.Outside.{crossed_nowhere}

@@ -1,11 +1,10 @@
-use Rattle.std.proofs.Common.{◌≡◌, refl, sym, subst, ap, ◌∙◌, arith, ℕ, ◌+◌, ◌*◌, ◌<◌, ◌≤◌, ℤ, pos, w32, to_z, of_z, ◌+ℤ◌, ◌*ℤ◌, ◌<ℤ◌}
+use Rattle.std.proofs.Common.{◌≡◌, sym, subst, ap, ◌∙◌, arith, ℕ, ◌+◌, ◌*◌, ◌<◌, ◌≤◌, ℤ, pos, w32, to_z, of_z, ◌+ℤ◌, ◌*ℤ◌, ◌<ℤ◌}
 use Rattle.std.proofs.lemmas.Int.{ints}
 use Rattle.grid.specs.Position.{Position, IsInBand}
 use Rattle.grid.proofs.Bounds.{passed}
 use Rattle.polygons.specs.declared.edge.Edge.{Edge}
 use Rattle.polygons.specs.Blocks.{down}
-use Rattle.polygons.specs.Columns.{Walk, below, HasHeight, IsFirstColumn}
-use Rattle.polygons.specs.Cells.{added_by}
+use Rattle.polygons.specs.Columns.{Walk, below, HasHeight}
 use Rattle.polygons.proofs.Plotted.{has_counters, row_height, row_after, walk_added, added_none, added_as, added_both}
 use Rattle.polygons.proofs.plot.plot_rows.Goals as goal
 use Rattle.polygons.proofs.plot.plot_rows.Goals.{then-row-end, else-row-end}

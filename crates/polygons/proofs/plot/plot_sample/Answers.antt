@@ -1,4 +1,4 @@
-use Rattle.std.proofs.Common.{◌≡◌, arith, Bool, ℕ, ◌*◌, ◌<◌, ◌≤◌, ℤ, pos, nat_abs, w32, to_z, of_z, FitsSigned, ◌+ℤ◌, ◌*ℤ◌, ◌<ℤ◌, ◌≤ℤ◌}
+use Rattle.std.proofs.Common.{◌≡◌, arith, Bool, ℕ, ◌*◌, ◌<◌, ◌≤◌, ℤ, pos, nat_abs, w32, to_z, of_z, FitsSigned, ◌+ℤ◌, ◌<ℤ◌, ◌≤ℤ◌}
 use Rattle.std.proofs.lemmas.Int.{ints, clamps}
 use Rattle.std.specs.Int.{int_max, int_min}
 use Rattle.grid.specs.Position.{Position, IsInBand}

@@ -1,4 +1,3 @@
-use Rattle.std.proofs.Common.{◌≡◌}
 use Rattle.polygons.specs.Rows.{direction}
 use Rattle.polygons.specs.Cells.{signed}
 use Rattle.polygons.specs.Plotting.{AreSame}

@@ -1,4 +1,4 @@
-use Rattle.std.proofs.Common.{◌≡◌, ap, arith, ℕ, zero, suc, ◌^◌, ◌<◌, Bool, true, false, ◌||◌, refl, ℤ, w32, to_z, of_z}
+use Rattle.std.proofs.Common.{◌≡◌, ap, arith, zero, suc, ◌^◌, Bool, true, false, ◌||◌, refl, ℤ, w32, to_z, of_z}
 use Rattle.std.proofs.lemmas.Int.{ints}
 use Rattle.grid.specs.Bounds.{IsWithin}
 use Rattle.polygons.specs.Short.{IsRowCrossed}

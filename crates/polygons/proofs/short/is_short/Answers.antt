@@ -1,4 +1,4 @@
-use Rattle.std.proofs.Common.{arith, pos, ◌+ℤ◌}
+use Rattle.std.proofs.Common.{arith}
 use Rattle.std.proofs.lemmas.Int.{ints}
 use Rattle.polygons.proofs.short.is_short.Goals as goal
 

@@ -1,4 +1,4 @@
-use Rattle.std.proofs.Common.{◌≡◌, refl, sym, subst, ap, ◌∙◌, arith, ◌^◌, ℤ, pos, ◌+ℤ◌, ◌-ℤ◌, ◌*ℤ◌, ◌<ℤ◌, ◌≤ℤ◌, w32, to_z, of_z, FitsSigned}
+use Rattle.std.proofs.Common.{◌≡◌, refl, ◌∙◌, arith, ◌^◌, ℤ, pos, ◌+ℤ◌, ◌-ℤ◌, ◌*ℤ◌, ◌<ℤ◌, ◌≤ℤ◌, w32, to_z, of_z, FitsSigned}
 use Rattle.std.proofs.lemmas.Int.{ints, clamps}
 use Rattle.std.specs.Int.{int_min}
 use Rattle.grid.specs.Bounds.{IsWithin}
@@ -6,7 +6,7 @@ use Rattle.grid.specs.Position.{Position, IsInBand}
 use Rattle.grid.specs.Edge.{side}
 use Rattle.grid.proofs.Bounds.{passed}
 use Rattle.polygons.specs.declared.edge.Edge.{Edge}
-use Rattle.polygons.specs.Columns.{along, HasHeight, IsFirstColumn}
+use Rattle.polygons.specs.Columns.{along}
 use Rattle.polygons.specs.Pixels.{IsFirstPixel}
 use Rattle.polygons.specs.Short.{IsShortEdge}
 use Rattle.polygons.proofs.Exact.{difference32}

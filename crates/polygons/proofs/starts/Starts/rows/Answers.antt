@@ -1,4 +1,4 @@
-use Rattle.std.proofs.Common.{◌≡◌, ◌∙◌, arith, ℕ, zero, suc, ◌^◌, ◌<◌, lit<, ℤ, w32, to_z, of_z}
+use Rattle.std.proofs.Common.{◌≡◌, arith, zero, suc, ◌^◌, lit<, ℤ, w32, to_z, of_z}
 use Rattle.std.proofs.lemmas.Int.{ints}
 use Rattle.grid.specs.Bounds.{IsWithin}
 use Rattle.grid.specs.Position.{IsInBand}

@@ -3,7 +3,7 @@ use Rattle.std.proofs.lemmas.Int.{ints}
 use Rattle.grid.specs.Bounds.{IsWithin}
 use Rattle.grid.specs.Position.{Position, IsInBand}
 use Rattle.grid.proofs.Bounds.{passed}
-use Rattle.polygons.proofs.Exact.{within64, wider, negated64, difference32, difference64, times_256}
+use Rattle.polygons.proofs.Exact.{within64, wider, negated64, difference64, times_256}
 use Rattle.grid.specs.Edge.{side}
 use Rattle.polygons.specs.declared.edge.Edge.{Edge}
 use Rattle.polygons.specs.Columns.{HasHeight, IsEdgeStep, IsWalkInBand, IsWalking}

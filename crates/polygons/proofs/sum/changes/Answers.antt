@@ -1,0 +1,116 @@
+use Rattle.std.proofs.Common.{◌≡◌, inl, inr, sym, ap, ◌∙◌, arith, ℕ, ◌+◌, ◌-◌, ◌*◌, ◌/◌, ◌%◌, ◌^◌, ◌<◌, ◌≤◌, true, false, ltb, w64, bit_or, List, slice_index}
+use Rattle.std.proofs.lemmas.Bool.{cases_lt, lt-ltb, le-ltb}
+use Rattle.std.proofs.lemmas.Nat.{shr-shr}
+use Rattle.std.proofs.lemmas.Nat.Bits.{bit_at-zero, bit_at-trailing_zeros, bit_at_or, bit_at_above}
+use Rattle.std.specs.Int.{bit_at, trailing_zeros}
+use Rattle.polygons.specs.Summing.{run}
+use Rattle.polygons.proofs.Parity.{bit_of_shifted}
+use Rattle.polygons.proofs.Changes.{AreChanged, columns, none_changed, skipped, one_changed}
+use Rattle.polygons.proofs.sum.changes.Goals as goal
+
+-- ---- the next flag of a word whose first n are done
+record IsNextFlag (marks n t : ℕ) : Type 0 where
+  inside : n + t < 64
+  none : (i : ℕ) → n ≤ i → i < n + t → bit_at marks i ≡ 0
+
+next_flag : (marks left n : ℕ) → left ≡ marks / 2 ^ n → marks < 2 ^ 64 → left < 2 ^ 64 → (left ≡ 0 → ⊥) → IsNextFlag marks n (trailing_zeros w64 left)
+next_flag marks left n is small left_small some =
+    let z = bit_at-trailing_zeros w64 left (omega arith) left_small in
+    let further = λ (j : ℕ). ap (λ x. bit_at x j) is ∙ ap (λ x. x % 2) (shr-shr marks n j) in
+    record {
+      inside = within (n + trailing_zeros w64 left) (sym (further (trailing_zeros w64 left)) ∙ z.1);
+      none = λ i h l. (let place : n + (i - n) ≡ i = omega arith in sym (ap (bit_at marks) place) ∙ sym (further (i - n)) ∙ z.2 (i - n) (omega arith));
+    }
+  where
+    within : (i : ℕ) → bit_at marks i ≡ 1 → i < 64
+    within i one = elim (cases_lt i 64) [ inl l ↦ l | inr l ↦ absurd (let zero = bit_at_above marks 64 i small l in omega arith) ]
+
+-- ---- a word with one flag more
+flag_here : (bits b n : ℕ) → b < 2 → n < 64 → bit_at bits n ≡ 0 → bit_at (bit_or bits (b * 2 ^ n % 2 ^ 64)) n ≡ b
+flag_here bits b n small h none =
+    let o = bit_at_or bits (b * 2 ^ n % 2 ^ 64) n in
+    let c : ltb n n ≡ false = le-ltb n n (omega arith) in
+    let s = bit_of_shifted b n n h in
+    let d : n - n ≡ 0 = omega arith in
+    let v : bit_at (b * 2 ^ n % 2 ^ 64) n ≡ bit_at b 0 = (rw c at s) ∙ ap (bit_at b) d in
+    omega arith
+
+flag_apart : (bits b n i : ℕ) → b < 2 → i < 64 → (i ≡ n → ⊥) → bit_at (bit_or bits (b * 2 ^ n % 2 ^ 64)) i ≡ bit_at bits i
+flag_apart bits b n i small h apart =
+    let o = bit_at_or bits (b * 2 ^ n % 2 ^ 64) i in
+    let v : bit_at (b * 2 ^ n % 2 ^ 64) i ≡ 0 = none in
+    omega arith
+  where
+    none : bit_at (b * 2 ^ n % 2 ^ 64) i ≡ 0
+    none = elim (cases_lt i n) [
+      | inl l ↦ let c : ltb i n ≡ true = lt-ltb i n l in let s = bit_of_shifted b n i h in rw c at s
+      | inr l ↦
+          let c : ltb i n ≡ false = le-ltb i n l in
+          let s = bit_of_shifted b n i h in
+          (rw c at s) ∙ bit_at_above b 1 (i - n) small (beyond l)
+    ]
+      where
+        beyond : n ≤ i → 1 ≤ i - n
+        beyond l = elim (cases_lt n i) [ inl m ↦ omega arith | inr m ↦ absurd (apart (omega arith)) ]
+
+pub add_counter-requires-clause-bit : goal.add_counter-requires-clause-bit
+add_counter-requires-clause-bit c = (next_flag c.args.marks c.loop-left.left c.loop-left.done c.loop-left.invariant.left c.ranges.marks.fits c.loop-left.auto.left-fits.fits c.loop-left-test.true).inside
+
+pub overflow_shl-changes : goal.overflow_shl-changes
+overflow_shl-changes c = (next_flag c.args.marks c.loop-left.left c.loop-left.done c.loop-left.invariant.left c.ranges.marks.fits c.loop-left.auto.left-fits.fits c.loop-left-test.true).inside
+
+pub loop-left-init : goal.loop-left-init
+loop-left-init c = record {
+  left = omega arith;
+  changed = none_changed c.args.counters.now c.args.word c.args.sums.now 0 bit_at-zero;
+}
+
+pub loop-left-preserved : goal.loop-left-preserved
+loop-left-preserved c =
+    let v = c.loop-left.invariant in
+    let t = trailing_zeros w64 c.loop-left.left in
+    let n = c.loop-left.done + t in
+    let f = next_flag c.args.marks c.loop-left.left c.loop-left.done v.left c.ranges.marks.fits c.loop-left.auto.left-fits.fits c.loop-left-test.true in
+    let a = c.add_counter.ensures in
+    let bit : c.add_counter.result < 2 = let e = a.change in omega arith in
+    let at = skipped c.args.counters.now c.args.word c.args.sums.now c.fits-sums c.loop-left.done n c.loop-left.changes c.loop-left.counters c.loop-left.sums (omega arith) (let i = f.inside in omega arith)
+    (λ i h l. c.requires.marked i (let m = f.inside in omega arith) (f.none i h l)) v.changed in
+    record {
+      left = ap (λ x. x / 2 ^ t / 2) v.left ∙ ap (λ x. x / 2) (shr-shr c.args.marks c.loop-left.done t) ∙ shr-shr c.args.marks n 1;
+      changed = one_changed c.args.counters.now c.args.word c.args.sums.now c.fits-sums n c.loop-left.changes _ c.loop-left.counters c.loop-left.sums _ _ f.inside
+          (flag_here c.loop-left.changes c.add_counter.result n bit f.inside (at.bits_rest n (omega arith) f.inside) ∙ a.change)
+          (λ i h e. flag_apart c.loop-left.changes c.add_counter.result n i bit h e) a.sum a.other_sums a.zero a.others at;
+    }
+
+no_flags : (marks left n : ℕ) → left ≡ marks / 2 ^ n → left ≡ 0 → (i : ℕ) → n ≤ i → bit_at marks i ≡ 0
+no_flags marks left n is none i h =
+    let place : n + (i - n) ≡ i = omega arith in
+    sym (ap (bit_at marks) place) ∙ sym (ap (λ x. x % 2) (shr-shr marks n (i - n))) ∙ sym (ap (λ x. bit_at x (i - n)) is) ∙ ap (λ x. bit_at x (i - n)) none ∙ bit_at-zero (i - n)
+
+-- what holds at the end, for all flags
+all_of : (counters : List ℕ) (word : ℕ) (sums : List ℕ) (marks left n bits : ℕ) (counters' sums' : List ℕ) → ((q : ℕ) → slice_index sums q < 2 ^ 32) → ((i : ℕ) → i < 64 → bit_at marks i ≡ 0 → slice_index counters (64 * word + i) ≡ 0)
+    → left ≡ marks / 2 ^ n → left ≡ 0 → AreChanged counters word sums n bits counters' sums' → AreChanged counters word sums 64 bits counters' sums'
+all_of counters word sums marks left n bits counters' sums' small marked is none v =
+    skipped counters word sums small n 64 bits counters' sums' v.few (omega arith) (λ i h l. marked i l (no_flags marks left n is none i h)) v
+
+pub returns-clause-changes : goal.returns-clause-changes
+returns-clause-changes c i h =
+    (all_of c.args.counters.now c.args.word c.args.sums.now c.args.marks c.loop-left.left c.loop-left.done c.loop-left.changes c.loop-left.counters c.loop-left.sums c.fits-sums c.requires.marked c.loop-left.invariant.left c.loop-left-test.false c.loop-left.invariant.changed).bits_done i h
+
+pub returns-clause-next : goal.returns-clause-next
+returns-clause-next c r h =
+    let v = all_of c.args.counters.now c.args.word c.args.sums.now c.args.marks c.loop-left.left c.loop-left.done c.loop-left.changes c.loop-left.counters c.loop-left.sums c.fits-sums c.requires.marked c.loop-left.invariant.left c.loop-left-test.false c.loop-left.invariant.changed in
+    let all : columns 64 r ≡ 8 = omega arith in
+    v.next r h ∙ ap (run c.args.counters.now (8 * (8 * c.args.word + r)) (slice_index c.args.sums.now (8 * c.args.word + r))) all
+
+pub returns-clause-other_sums : goal.returns-clause-other_sums
+returns-clause-other_sums c q n = c.loop-left.invariant.changed.other_sums q n
+
+pub returns-clause-zeros : goal.returns-clause-zeros
+returns-clause-zeros c i h =
+    let v = all_of c.args.counters.now c.args.word c.args.sums.now c.args.marks c.loop-left.left c.loop-left.done c.loop-left.changes c.loop-left.counters c.loop-left.sums c.fits-sums c.requires.marked c.loop-left.invariant.left c.loop-left-test.false c.loop-left.invariant.changed in
+    let place : i ≡ 64 * c.args.word + i % 64 = omega arith in
+    ap (slice_index c.loop-left.counters) place ∙ v.zeros (i % 64) (omega arith)
+
+pub returns-clause-others : goal.returns-clause-others
+returns-clause-others c i n = c.loop-left.invariant.changed.others i (λ a b. n (let f = c.loop-left.invariant.changed.few in omega arith))
