@@ -50,7 +50,8 @@ fn masks<const N: u32>(block: &Square, from: u32, patch: Option<(u32, u32)>) -> 
 }
 
 /// Which samples of a block of this class the triangle covers, of the part that begins with sample `from`, or `None` if
-/// it covers none of them. If a patch is given, all that it covers of the block are in it. Each `N` has code of its own.
+/// it covers none of them. If a patch is given, all that it covers of the block are in it. Each `N` has code of its
+/// own.
 #[inline(always)]
 fn planes<const N: u32>(
     block: &Square,
@@ -164,8 +165,8 @@ fn draw_part<const N: u32>(
 }
 
 /// Draws the triangle at the samples of block (bx, by) of the tile, one part of at most four samples of a pixel after
-/// another. A pixel has `N` samples, which is `count`. `bounds` is the box of the triangle's pixels, and `all` says that
-/// all samples of the tile are covered.
+/// another. A pixel has `N` samples, which is `count`. `bounds` is the box of the triangle's pixels, and `all` says
+/// that all samples of the tile are covered.
 #[inline(always)]
 fn draw_parts<const N: u32>(
     triangle: &Placed,
