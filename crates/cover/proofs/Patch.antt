@@ -1,6 +1,6 @@
 -- The masks of a block of which four rows of four pixels alone are covered, by the masks of these.
 use Rattle.std.proofs.Common.{◌≡◌, ◌↔◌, refl, ◌∙◌, arith, zero, suc, [], ◌∷◌, ℕ, ◌+◌, ◌-◌, ◌*◌, ◌<◌, ◌≤◌, ℤ, List, IsBitSet, slice_index, ap}
-use Rattle.grid.specs.Samples.{count_of, part_size, IsPart, offsets_x, offsets_y, box_start}
+use Rattle.grid.specs.Samples.{count_of, IsPart, offsets_x, offsets_y, box_start}
 use Rattle.grid.specs.declared.pixels.TileSide.{TileSide}
 use Rattle.grid.specs.declared.sample_count.SampleCount.{SampleCount}
 use Rattle.grid.specs.declared.triangle.Tri.{Tri}

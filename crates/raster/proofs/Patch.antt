@@ -1,5 +1,5 @@
 -- The 4 by 4 pixels that hold those of a rectangle in a block.
-use Rattle.std.proofs.Common.{◌≡◌, arith, Option, None, Some, IfSome, ℕ, ◌+◌, ◌-◌, ◌*◌, ◌<◌, ◌≤◌, ℤ, pos, ◌+ℤ◌, ◌-ℤ◌, ◌≤ℤ◌, ◌<ℤ◌}
+use Rattle.std.proofs.Common.{◌≡◌, arith, Option, None, Some, IfSome, ℕ, ◌+◌, ◌*◌, ℤ, pos, ◌+ℤ◌, ◌-ℤ◌, ◌≤ℤ◌}
 use Rattle.std.proofs.lemmas.Int.{ints, int_min_is, int_max_is}
 use Rattle.std.specs.Int.{int_min, int_max}
 use Rattle.grid.specs.declared.pixels.PixelBox.{PixelBox}
