@@ -11,9 +11,10 @@ use Rattle.raster.specs.Drawing.{LiesIn, block_of}
 use Rattle.raster.specs.Region.{AreInFour}
 use Rattle.raster.proofs.Rows.{corner_on_screen}
 
-pub four_from : (low high : ℤ) (block k : ℕ) (first : ℤ) → first ≡ int_max (pos (8 * block)) (int_min low (pos (8 * block + 4))) → high ≤ℤ (first +ℤ pos 4) → pos k ≡ first -ℤ pos (8 * block) → AreInFour low high block k
+pub four_from : (low high : ℤ) (block k : ℕ) (first : ℤ) → first ≡ int_max (pos (8 * block)) (int_min low (pos (8 * block + 4))) → int_min high (pos (8 * block + 8)) ≤ℤ (first +ℤ pos 4) → pos k ≡ first -ℤ pos (8 * block) → AreInFour low high block k
 four_from low high block k first is end begins =
     let least = int_min_is low (pos (8 * block + 4)) in
+    let end_is = int_min_is high (pos (8 * block + 8)) in
     let greatest = int_max_is (pos (8 * block)) (int_min low (pos (8 * block + 4))) in
     record {
       in_block = omega (arith, ints);
