@@ -96,7 +96,7 @@ inside_at e x y m n ab bc cd da p q r s = (
 
 -- ---- the masks
 pub quad_covered : (q : Corners) (e : Sides) (bx by x y : ℕ) (count : SampleCount) (m : Masks) → AreSidesOf q e → x ≡ 2048 * bx + box_start count → y ≡ 2048 * by + box_start count
-    → AreMasksWhere (λ s row column. IsInsideAt e x y (to_column count s column) (to_row count s row)) count 0 m → AreMasksOfQuad q bx by count m
+    → AreMasksWhere 8 (λ s row column. IsInsideAt e x y (to_column count s column) (to_row count s row)) count 0 m → AreMasksOfQuad q bx by count m
 quad_covered q e bx by x y count m test ex ey h = record {
   covered = λ s row column lt below within.
       let bit = of_first_part (λ n. IsBitSet (slice_index m.plane s) (8 * row + column) ↔ IsInsideAt e x y (to_column count n column) (to_row count n row)) s (h.exact s row column lt below within) in

@@ -1,5 +1,5 @@
 -- The samples of a block in the box round them, and masks of them.
-use Rattle.std.proofs.Common.{◌≡◌, ◌↔◌, refl, sym, ap, ap₂, ◌∙◌, subst, [], ◌∷◌, arith, ℕ, zero, suc, ◌+◌, ◌-◌, ◌*◌, ◌^◌, ◌<◌, ◌≤◌, bit_and, IsBitSet, ℤ, pos, ◌+ℤ◌, ◌*ℤ◌, ◌<ℤ◌, ◌≤ℤ◌, w64, to_z, of_z, slice_index}
+use Rattle.std.proofs.Common.{◌≡◌, ◌↔◌, inl, inr, refl, sym, ap, ap₂, ◌∙◌, subst, [], ◌∷◌, arith, ℕ, zero, suc, ◌+◌, ◌-◌, ◌*◌, ◌^◌, ◌<◌, ◌≤◌, bit_and, IsBitSet, ℤ, pos, ◌+ℤ◌, ◌*ℤ◌, ◌<ℤ◌, ◌≤ℤ◌, w64, to_z, of_z, slice_index}
 use Rattle.std.proofs.lemmas.Int.{ints, to_z-of_z}
 use Rattle.grid.specs.Bounds.{IsWithin}
 use Rattle.grid.specs.Samples.{count_of, part_size, IsPart, offsets_x, offsets_y, box_start}
@@ -15,13 +15,13 @@ use Rattle.cover.specs.declared.edges.Edges.{Edges}
 use Rattle.cover.specs.declared.edges.Values.{Values}
 use Rattle.cover.specs.declared.masks.Masks.{Masks}
 use Rattle.cover.specs.Edge.{grown}
-use Rattle.cover.specs.Block.{IsScreenBounded}
+use Rattle.cover.specs.Block.{IsScreenBounded, IsMaskSide}
 use Rattle.cover.specs.Edges.{AreScreenBounded, IsInsideAfter}
 use Rattle.cover.specs.Inside.{IsSquareOf}
 use Rattle.cover.specs.Masks.{AreMasksWhere, AreWordsWhere, AreMasksOf, AreMasksOfPart, IsPlaneOf, to_column, to_row}
 use Rattle.cover.specs.Square.{box_reach}
 use Rattle.cover.proofs.Corners.{sample_test, room_x, room_y, ends_lt}
-use Rattle.cover.proofs.Words.{set_in_both, empty_word, no_bits}
+use Rattle.cover.proofs.Words.{set_in_both, full, empty_word, no_bits}
 
 -- ---- where a sample lies in the box
 pub column_in_reach : (count : SampleCount) (s column : ℕ) → s < count_of count → column < 8 → to_column count s column ≤ box_reach T8 count
@@ -67,47 +67,47 @@ kept z h = to_z-of_z w64 z (omega (arith, ints, h))
 abbrev pub Passes : Edge → ℤ → SampleCount → ℕ → ℕ → ℕ → Type 0
 Passes e at count s row column = pos 0 ≤ℤ grown e at (to_column count s column) (to_row count s row)
 
--- the same in the first rows of a block alone
-abbrev pub PassesInRows : ℕ → Edge → ℤ → SampleCount → ℕ → ℕ → ℕ → Type 0
-PassesInRows rows e at count s row column = (row < rows) × Passes e at count s row column
+-- a pixel of a square is in a block, and its bit is in a word
+pub record IsPixel (row column k : ℕ) : Type 0 where
+  pub in_rows : row < 8
+  pub in_columns : column < 8
+  pub bit : k < 64
 
--- a word of all pixels of the first rows
-abbrev pub HasRows : ℕ → ℕ → Type 0
-HasRows rows word = (row column : ℕ) → row < 8 → column < 8 → (IsBitSet word (8 * row + column) ↔ (row < rows))
+pub pixel : (side row column : ℕ) → IsMaskSide side → row < side → column < side → IsPixel row column (side * row + column)
+pixel side row column (inl e) lt within = let times : side * row ≡ 4 * row = ap (λ n. n * row) e in record { in_rows = omega (arith, e, lt); in_columns = omega (arith, e, within); bit = omega (arith, e, times, lt, within) }
+pixel side row column (inr e) lt within = let times : side * row ≡ 8 * row = ap (λ n. n * row) e in record { in_rows = omega (arith, e, lt); in_columns = omega (arith, e, within); bit = omega (arith, e, times, lt, within) }
 
-pub all_pass : (e : Edge) (at : ℤ) (count : SampleCount) (from rows word : ℕ) (m : Masks) → HasRows rows word → IsPart count from → ((k l : ℕ) → k ≤ box_reach T8 count → l ≤ box_reach T8 count → pos 0 ≤ℤ grown e at k l)
-    → ((s : ℕ) → s < part_size count → slice_index m.plane s ≡ word) → ((s : ℕ) → part_size count ≤ s → slice_index m.plane s ≡ 0) → AreMasksWhere (PassesInRows rows e at count) count from m
-all_pass e at count from rows word m in_rows part pass each empty = record {
-  exact = λ s row column lt below within. (
-    λ set. ((in_rows row column below within).0 (rw (each s lt) at set), pass (to_column count (from + s) column) (to_row count (from + s) row) (column_in_reach count (from + s) column (omega (arith, lt, part)) within) (row_in_reach count (from + s) row (omega (arith, lt, part)) below)),
-    λ h. rw (each s lt) ((in_rows row column below within).1 h.0),
-  );
+pub all_pass : (e : Edge) (at : ℤ) (count : SampleCount) (from side : ℕ) (m : Masks) → IsMaskSide side → IsPart count from → ((k l : ℕ) → k ≤ box_reach T8 count → l ≤ box_reach T8 count → pos 0 ≤ℤ grown e at k l)
+    → ((s : ℕ) → s < part_size count → slice_index m.plane s ≡ 2 ^ 64 - 1) → ((s : ℕ) → part_size count ≤ s → slice_index m.plane s ≡ 0) → AreMasksWhere side (Passes e at count) count from m
+all_pass e at count from side m square part pass each empty = record {
+  exact = λ s row column lt below within. let p = pixel side row column square below within in
+      (λ set. pass (to_column count (from + s) column) (to_row count (from + s) row) (column_in_reach count (from + s) column (omega (arith, lt, part)) p.in_columns) (row_in_reach count (from + s) row (omega (arith, lt, part)) p.in_rows), λ h. full _ (side * row + column) (each s lt) p.bit);
   empty = empty;
 }
 
 -- with the number as a call was given it
-pub all_pass_kept : (e : Edge) (at least : ℤ) (reach : ℕ) (count : SampleCount) (from rows word : ℕ) (m : Masks) → HasRows rows word → IsPart count from → IsScreenBounded at → reach ≡ box_reach T8 count → pos 0 ≤ℤ least → ((k l : ℕ) → k ≤ reach → l ≤ reach → least ≤ℤ grown e (bits64 at) k l)
-    → ((s : ℕ) → s < part_size count → slice_index m.plane s ≡ word) → ((s : ℕ) → part_size count ≤ s → slice_index m.plane s ≡ 0) → AreMasksWhere (PassesInRows rows e at count) count from m
-all_pass_kept e at least reach count from rows word m in_rows part small is over bound each empty =
-    all_pass e at count from rows word m in_rows part (λ k l hk hl. subst (λ (z : ℤ). pos 0 ≤ℤ grown e z k l) (kept at small) (trans _ (bound k l (omega (arith, is, hk)) (omega (arith, is, hl))))) each empty
+pub all_pass_kept : (e : Edge) (at least : ℤ) (reach : ℕ) (count : SampleCount) (from side : ℕ) (m : Masks) → IsMaskSide side → IsPart count from → IsScreenBounded at → reach ≡ box_reach T8 count → pos 0 ≤ℤ least → ((k l : ℕ) → k ≤ reach → l ≤ reach → least ≤ℤ grown e (bits64 at) k l)
+    → ((s : ℕ) → s < part_size count → slice_index m.plane s ≡ 2 ^ 64 - 1) → ((s : ℕ) → part_size count ≤ s → slice_index m.plane s ≡ 0) → AreMasksWhere side (Passes e at count) count from m
+all_pass_kept e at least reach count from side m square part small is over bound each empty =
+    all_pass e at count from side m square part (λ k l hk hl. subst (λ (z : ℤ). pos 0 ≤ℤ grown e z k l) (kept at small) (trans _ (bound k l (omega (arith, is, hk)) (omega (arith, is, hl))))) each empty
   where
     trans : (z : ℤ) → least ≤ℤ z → pos 0 ≤ℤ z
     trans z h = omega (arith, ints)
 
-pub none_pass : (e : Edge) (at : ℤ) (count : SampleCount) (from rows : ℕ) (m : Masks) → IsPart count from → ((k l : ℕ) → k ≤ box_reach T8 count → l ≤ box_reach T8 count → grown e at k l <ℤ pos 0)
-    → ((s : ℕ) → s < part_size count → slice_index m.plane s ≡ 0) → ((s : ℕ) → part_size count ≤ s → slice_index m.plane s ≡ 0) → AreMasksWhere (PassesInRows rows e at count) count from m
-none_pass e at count from rows m part fail each empty = record {
-  exact = λ s row column lt below within. (
+pub none_pass : (e : Edge) (at : ℤ) (count : SampleCount) (from side : ℕ) (m : Masks) → IsMaskSide side → IsPart count from → ((k l : ℕ) → k ≤ box_reach T8 count → l ≤ box_reach T8 count → grown e at k l <ℤ pos 0)
+    → ((s : ℕ) → s < part_size count → slice_index m.plane s ≡ 0) → ((s : ℕ) → part_size count ≤ s → slice_index m.plane s ≡ 0) → AreMasksWhere side (Passes e at count) count from m
+none_pass e at count from side m square part fail each empty = record {
+  exact = λ s row column lt below within. let p = pixel side row column square below within in (
     λ set. absurd (empty_word _ _ (each s lt) set),
-    λ h. absurd (let over = h.1 in let under = fail (to_column count (from + s) column) (to_row count (from + s) row) (column_in_reach count (from + s) column (omega (arith, lt, part)) within) (row_in_reach count (from + s) row (omega (arith, lt, part)) below) in omega (arith, ints)),
+    λ h. absurd (let under = fail (to_column count (from + s) column) (to_row count (from + s) row) (column_in_reach count (from + s) column (omega (arith, lt, part)) p.in_columns) (row_in_reach count (from + s) row (omega (arith, lt, part)) p.in_rows) in omega (arith, ints)),
   );
   empty = empty;
 }
 
-pub none_pass_kept : (e : Edge) (at greatest : ℤ) (reach : ℕ) (count : SampleCount) (from rows : ℕ) (m : Masks) → IsPart count from → IsScreenBounded at → reach ≡ box_reach T8 count → greatest <ℤ pos 0 → ((k l : ℕ) → k ≤ reach → l ≤ reach → grown e (bits64 at) k l ≤ℤ greatest)
-    → ((s : ℕ) → s < part_size count → slice_index m.plane s ≡ 0) → ((s : ℕ) → part_size count ≤ s → slice_index m.plane s ≡ 0) → AreMasksWhere (PassesInRows rows e at count) count from m
-none_pass_kept e at greatest reach count from rows m part small is under bound each empty =
-    none_pass e at count from rows m part (λ k l hk hl. subst (λ (z : ℤ). grown e z k l <ℤ pos 0) (kept at small) (trans _ (bound k l (omega (arith, is, hk)) (omega (arith, is, hl))))) each empty
+pub none_pass_kept : (e : Edge) (at greatest : ℤ) (reach : ℕ) (count : SampleCount) (from side : ℕ) (m : Masks) → IsMaskSide side → IsPart count from → IsScreenBounded at → reach ≡ box_reach T8 count → greatest <ℤ pos 0 → ((k l : ℕ) → k ≤ reach → l ≤ reach → grown e (bits64 at) k l ≤ℤ greatest)
+    → ((s : ℕ) → s < part_size count → slice_index m.plane s ≡ 0) → ((s : ℕ) → part_size count ≤ s → slice_index m.plane s ≡ 0) → AreMasksWhere side (Passes e at count) count from m
+none_pass_kept e at greatest reach count from side m square part small is under bound each empty =
+    none_pass e at count from side m square part (λ k l hk hl. subst (λ (z : ℤ). grown e z k l <ℤ pos 0) (kept at small) (trans _ (bound k l (omega (arith, is, hk)) (omega (arith, is, hl))))) each empty
   where
     trans : (z : ℤ) → z ≤ℤ greatest → z <ℤ pos 0
     trans z h = omega (arith, ints)
@@ -147,43 +147,43 @@ sample_value e at w m n h hm hn is =
     value : (a b : ℤ) → IsWithin (2 ^ 33) a → IsWithin (2 ^ 33) b → w ≡ at +ℤ a +ℤ b → (IsWithin (2 ^ 38) (bits64 w)) × (bits64 w ≡ at +ℤ a +ℤ b)
     value a b ha hb e = (record { low = omega (arith, ints); high = omega (arith, ints) }, to_z-of_z w64 w (omega (arith, ints)) ∙ e)
 
-pub plane_bit : {B R : Type 0} (e : Edge) (at w : ℤ) (count : SampleCount) (s row column m n : ℕ) → bits64 w ≡ grown e at m n
+pub plane_bit : {B : Type 0} (e : Edge) (at w : ℤ) (count : SampleCount) (s row column m n : ℕ) → bits64 w ≡ grown e at m n
     → m ≡ slice_index (offsets_x count) s - box_start count → n ≡ slice_index (offsets_y count) s - box_start count
-    → B ↔ (R × (pos 0 ≤ℤ grown e (bits64 w) (256 * column) (256 * row))) → B ↔ (R × Passes e at count s row column)
-plane_bit {B} {R} e at w count s row column m n is x y bit =
+    → B ↔ (pos 0 ≤ℤ grown e (bits64 w) (256 * column) (256 * row)) → B ↔ Passes e at count s row column
+plane_bit {B} e at w count s row column m n is x y bit =
     let value : grown e (bits64 w) (256 * column) (256 * row) ≡ grown e at (to_column count s column) (to_row count s row) =
     ap (λ z. grown e z (256 * column) (256 * row)) is ∙ further_on e at m n (256 * column) (256 * row) ∙ (λ i. grown e at (256 * column + x i) (256 * row + y i)) in
-    subst (λ (z : ℤ). B ↔ (R × (pos 0 ≤ℤ z))) value bit
+    subst (λ (z : ℤ). B ↔ (pos 0 ≤ℤ z)) value bit
 
 -- ---- the words of a part
-pub record IsWord (P : ℕ → ℕ → ℕ → Type 0) (count : SampleCount) (from s word : ℕ) : Type 0 where
-  pub some : s < part_size count → (row column : ℕ) → row < 8 → column < 8 → (IsBitSet word (8 * row + column) ↔ P (from + s) row column)
+pub record IsWord (side : ℕ) (P : ℕ → ℕ → ℕ → Type 0) (count : SampleCount) (from s word : ℕ) : Type 0 where
+  pub some : s < part_size count → (row column : ℕ) → row < side → column < side → (IsBitSet word (side * row + column) ↔ P (from + s) row column)
   pub none : part_size count ≤ s → word ≡ 0
 
-part_at_most : (count : SampleCount) → part_size count ≤ 4
+pub part_at_most : (count : SampleCount) → part_size count ≤ 4
 part_at_most One = omega arith
 part_at_most Two = omega arith
 part_at_most Four = omega arith
 part_at_most Eight = omega arith
 part_at_most Sixteen = omega arith
 
-module _ (P : ℕ → ℕ → ℕ → Type 0) (count : SampleCount) (from a b c d : ℕ) (first : IsWord P count from 0 a) (second : IsWord P count from 1 b) (third : IsWord P count from 2 c) (fourth : IsWord P count from 3 d) where
-  word_at : (s : ℕ) → IsWord P count from s (slice_index (a ∷ b ∷ c ∷ d ∷ []) s)
+module _ (side : ℕ) (P : ℕ → ℕ → ℕ → Type 0) (count : SampleCount) (from a b c d : ℕ) (first : IsWord side P count from 0 a) (second : IsWord side P count from 1 b) (third : IsWord side P count from 2 c) (fourth : IsWord side P count from 3 d) where
+  word_at : (s : ℕ) → IsWord side P count from s (slice_index (a ∷ b ∷ c ∷ d ∷ []) s)
   word_at zero = first
   word_at (suc zero) = second
   word_at (suc (suc zero)) = third
   word_at (suc (suc (suc zero))) = fourth
   word_at (suc (suc (suc (suc s)))) = record { some = λ lt. absurd (omega (arith, lt, part_at_most count)); none = λ le. refl }
 
-  pub four_words : AreWordsWhere P count from (a ∷ b ∷ c ∷ d ∷ [])
+  pub four_words : AreWordsWhere side P count from (a ∷ b ∷ c ∷ d ∷ [])
   four_words = record { exact = λ s row column lt. (word_at s).some lt row column; empty = λ s. (word_at s).none }
 
 -- ---- edges joined
-pub both_exact : {P Q : ℕ → ℕ → ℕ → Type 0} (count : SampleCount) (from : ℕ) (m n r : Masks) → AreMasksWhere P count from m → AreMasksWhere Q count from n
-    → ((s : ℕ) → slice_index r.plane s ≡ bit_and (slice_index m.plane s) (slice_index n.plane s)) → AreMasksWhere (λ s row column. P s row column × Q s row column) count from r
-both_exact {P} {Q} count from m n r h k is = record {
+pub both_exact : {P Q : ℕ → ℕ → ℕ → Type 0} (count : SampleCount) (from side : ℕ) (m n r : Masks) → AreMasksWhere side P count from m → AreMasksWhere side Q count from n
+    → ((s : ℕ) → slice_index r.plane s ≡ bit_and (slice_index m.plane s) (slice_index n.plane s)) → AreMasksWhere side (λ s row column. P s row column × Q s row column) count from r
+both_exact {P} {Q} count from side m n r h k is = record {
   exact = λ s row column lt below within.
-      let both = set_in_both (slice_index m.plane s) (slice_index n.plane s) (8 * row + column) in
+      let both = set_in_both (slice_index m.plane s) (slice_index n.plane s) (side * row + column) in
       let first = h.exact s row column lt below within in
       let second = k.exact s row column lt below within in (
         λ set. (let parts = both.0 (rw is at set) in (first.0 parts.0, second.0 parts.1)),
@@ -192,17 +192,10 @@ both_exact {P} {Q} count from m n r h k is = record {
   empty = λ s le. is s ∙ ap₂ bit_and (h.empty s le) (k.empty s le) ∙ no_bits;
 }
 
-pub means : {P Q : ℕ → ℕ → ℕ → Type 0} (count : SampleCount) (from : ℕ) (m : Masks) → ((s row column : ℕ) → P s row column ↔ Q s row column) → AreMasksWhere P count from m → AreMasksWhere Q count from m
-means {P} {Q} count from m same h = record {
+pub means : {P Q : ℕ → ℕ → ℕ → Type 0} (count : SampleCount) (from side : ℕ) (m : Masks) → ((s row column : ℕ) → P s row column ↔ Q s row column) → AreMasksWhere side P count from m → AreMasksWhere side Q count from m
+means {P} {Q} count from side m same h = record {
   exact = λ s row column lt below within.
       let bit = h.exact s row column lt below within in let to = same (from + s) row column in (λ set. to.0 (bit.0 set), λ q. bit.1 (to.1 q));
-  empty = h.empty;
-}
-
--- the first eight rows are all rows of a block
-pub all_rows : (P : ℕ → ℕ → ℕ → Type 0) (count : SampleCount) (from : ℕ) (m : Masks) → AreMasksWhere (λ s row column. (row < 8) × P s row column) count from m → AreMasksWhere P count from m
-all_rows P count from m h = record {
-  exact = λ s row column lt below within. let bit = h.exact s row column lt below within in (λ set. (bit.0 set).1, λ p. bit.1 (below, p));
   empty = h.empty;
 }
 
@@ -221,7 +214,7 @@ pub plane_of_first : {t : Tri} {bx by : ℕ} {count : SampleCount} {m : Masks} �
 plane_of_first {t} {bx} {by} {count} {m} h s lt = of_first_part (λ n. IsPlaneOf t bx by count n (slice_index m.plane s)) s (h.covered s lt)
 
 -- ---- a triangle's block
-inside_is : (e : Edges) (at : Values) (m n : ℕ) → AreScreenBounded at
+pub inside_is : (e : Edges) (at : Values) (m n : ℕ) → AreScreenBounded at
     → (((pos 0 ≤ℤ grown e.ab (bits64 at.ab) m n) × (pos 0 ≤ℤ grown e.bc (bits64 at.bc) m n)) × (pos 0 ≤ℤ grown e.ca (bits64 at.ca) m n)) ↔ IsInsideAfter e at m n
 inside_is e at m n h =
     let ab = kept at.ab h.ab in
@@ -231,16 +224,8 @@ inside_is e at m n h =
       λ k. ((subst (λ (z : ℤ). pos 0 ≤ℤ grown e.ab z m n) (sym ab) k.ab, subst (λ (z : ℤ). pos 0 ≤ℤ grown e.bc z m n) (sym bc) k.bc), subst (λ (z : ℤ). pos 0 ≤ℤ grown e.ca z m n) (sym ca) k.ca),
     )
 
-pub inside_in_rows : (R : Type 0) (e : Edges) (at : Values) (m n : ℕ) → AreScreenBounded at
-    → (((R × (pos 0 ≤ℤ grown e.ab (bits64 at.ab) m n)) × (R × (pos 0 ≤ℤ grown e.bc (bits64 at.bc) m n))) × (R × (pos 0 ≤ℤ grown e.ca (bits64 at.ca) m n))) ↔ (R × IsInsideAfter e at m n)
-inside_in_rows R e at m n h =
-    let inside = inside_is e at m n h in (
-      λ k. (k.1.0, inside.0 ((k.0.0.1, k.0.1.1), k.1.1)),
-      λ k. let parts = inside.1 k.1 in (((k.0, parts.0.0), (k.0, parts.0.1)), (k.0, parts.1)),
-    )
-
 pub masks_of_square : (t : Tri) (e : Edges) (at : Values) (bx by : ℕ) (side : TileSide) (count : SampleCount) (from : ℕ) (m : Masks) → IsPart count from → IsSquareOf t e at bx by side count
-    → AreMasksWhere (λ s row column. IsInsideAfter e at (to_column count s column) (to_row count s row)) count from m → AreMasksOfPart t bx by count from m
+    → AreMasksWhere 8 (λ s row column. IsInsideAfter e at (to_column count s column) (to_row count s row)) count from m → AreMasksOfPart t bx by count from m
 masks_of_square t e at bx by side count from m part h k = record {
   covered = λ s lt row column below within.
       let bit = k.exact s row column lt below within in

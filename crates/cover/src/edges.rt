@@ -24,6 +24,7 @@ pub(crate) struct Values {
 }
 
 impl Edges {
+    ghost use Rattle.cover.specs.Block.{IsMaskSide};
     ghost use Rattle.cover.specs.Edges.{AreValuesAt, AreScreenBounded, AreGrown, IsInsideAfter};
     ghost use Rattle.cover.specs.Masks.{AreMasksWhere, to_column, to_row};
     ghost use Rattle.cover.specs.Setup.{AreCoverageEdges};
@@ -100,24 +101,25 @@ impl Edges {
             || self.ca.passes_none(at.ca, reach)
     }
 
-    /// The samples of the first `ROWS` rows of a block, from sample `from` of a pixel on, at which none of the functions
-    /// is negative. They are `at` at the first position of the box round the block's samples. Each `N` has code of its
-    /// own, which is large, and so is in line only where it is called from one place.
+    /// The samples of a square of `SIDE` by `SIDE` pixels, from sample `from` of a pixel on, at which none of the
+    /// functions is negative. They are `at` at the first position of the box round the square's samples. Each `N` has
+    /// code of its own, which is large, and so is in line only where it is called from one place.
     #[inline(always)]
-    pub(crate) fn masks<const N: u32, const ROWS: u32>(
+    pub(crate) fn masks<const N: u32, const SIDE: u32>(
         &self,
         at: &Values,
         from: u32,
         count: SampleCount,
     ) -> Masks
+        requires side { IsMaskSide SIDE }
         requires at { AreScreenBounded at.now }
         requires part { IsPart count from }
-        ensures { AreMasksWhere (λ s row column. (row < ROWS) × IsInsideAfter self.now at.now
-            (to_column count s column) (to_row count s row)) count from result }
+        ensures { AreMasksWhere SIDE (λ s row column. IsInsideAfter self.now at.now (to_column count s column)
+            (to_row count s row)) count from result }
     {
         self.ab
-            .masks::<ROWS>(at.ab, from, count)
-            .both(self.bc.masks::<ROWS>(at.bc, from, count))
-            .both(self.ca.masks::<ROWS>(at.ca, from, count))
+            .masks::<SIDE>(at.ab, from, count)
+            .both(self.bc.masks::<SIDE>(at.bc, from, count))
+            .both(self.ca.masks::<SIDE>(at.ca, from, count))
     }
 }

@@ -46,7 +46,7 @@ impl Sides {
     fn masks(&self, x: u32, y: u32, count: SampleCount) -> Masks
         requires x { x < 2 ^ 20 }
         requires y { y < 2 ^ 20 }
-        ensures { AreMasksWhere (λ s row column. IsInsideAt self.now x y (to_column count s column)
+        ensures { AreMasksWhere 8 (λ s row column. IsInsideAt self.now x y (to_column count s column)
             (to_row count s row)) count 0 result }
     {
         self.ab

@@ -5,4 +5,4 @@ pub mod Bits
 pub mod BlockDrawn
 pub mod Rows
 pub mod PixelRow
-pub mod FourRows
+pub mod Patch

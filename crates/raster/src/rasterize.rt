@@ -5,13 +5,13 @@ ghost use Rattle.grid.specs.Samples.{count_of, IsPart};
 ghost use Rattle.cover.specs.Bounds.{HoldsCovered};
 ghost use Rattle.cover.specs.Masks.{AreMasksOfPart};
 ghost use Rattle.cover.specs.Rasterized.{IsRasterized};
-ghost use Rattle.cover.specs.Square.{CoversAll, CoversInFourRows, IsClassOf};
+ghost use Rattle.cover.specs.Square.{CoversAll, CoversInPatch, IsClassOf};
 ghost use Rattle.raster.specs.Samples.{planes_of};
 ghost use Rattle.raster.specs.Region.{HoldsTile};
 ghost use Rattle.raster.specs.Drawing.{DrawsTile, DrawsPart, IsInSquare, IsInSquarePart, ArePlanesOf, CoversNoneOf, LiesIn, square_of};
 
 use crate::block::draw_masks;
-use crate::region::{Region, four_rows};
+use crate::region::{Region, patch};
 use crate::scissor::holds_tile;
 use crate::tile::Tile;
 use cover::{Class, Masks, Setup, Square};
@@ -35,34 +35,34 @@ fn class_of(block: &Square, all: bool) -> Class
     if all { Class::All } else { block.class() }
 }
 
-/// Which samples of a block the triangle covers, of the part that begins with sample `from`. If `top` is given, the
-/// samples of the four rows from there on hold all that are covered, and only these are tested.
+/// Which samples of a block the triangle covers, of the part that begins with sample `from`. If a patch is given, the 4
+/// by 4 pixels from that column and row on hold all samples that are covered, and only these are tested.
 #[inline(always)]
-fn masks<const N: u32>(block: &Square, from: u32, top: Option<u32>) -> Masks
+fn masks<const N: u32>(block: &Square, from: u32, patch: Option<(u32, u32)>) -> Masks
     requires part { IsPart block.now.count from }
-    requires rows { IfSome top (CoversInFourRows block.now) }
+    requires patch { IfSome patch (λ p. CoversInPatch block.now p.0 p.1) }
     ensures { AreMasksOfPart block.now.triangle block.now.bx block.now.by block.now.count from result }
 {
-    match top {
-        Some(top) => block.masks_of_rows::<N>(from, top),
+    match patch {
+        Some((left, top)) => block.masks_of_patch::<N>(from, left, top),
         None => block.masks_of_part::<N>(from),
     }
 }
 
 /// Which samples of a block of this class the triangle covers, of the part that begins with sample `from`, or `None` if
-/// it covers none of them. If `top` is given, all that it covers of the block are in the four rows from there on. Each
-/// `N` has code of its own.
+/// it covers none of them. If a patch is given, all that it covers of the block are in it. Each `N` has code of its
+/// own.
 #[inline(always)]
 fn planes<const N: u32>(
     block: &Square,
     class: Class,
     from: u32,
-    top: Option<u32>,
+    patch: Option<(u32, u32)>,
 ) -> Option<[u64; 4]>
     requires side { block.now.side ≡ T8 }
     requires part { IsPart block.now.count from }
     requires class { IsClassOf block.now class }
-    requires rows { IfSome top (CoversInFourRows block.now) }
+    requires patch { IfSome patch (λ p. CoversInPatch block.now p.0 p.1) }
     ensures some { IfSome result (ArePlanesOf block.now.triangle block.now.bx block.now.by block.now.count from) }
     ensures none { result ≡ None → CoversNoneOf block.now from }
 {
@@ -70,7 +70,7 @@ fn planes<const N: u32>(
         Class::Out => None,
         Class::All => Some(ALL),
         Class::Mixed => {
-            let planes = masks::<N>(block, from, top).plane;
+            let planes = masks::<N>(block, from, patch).plane;
             if planes == NONE { None } else { Some(planes) }
         }
     }
@@ -112,7 +112,7 @@ fn raise_if_asked(interpolants: &mut Interpolants, corrections: &mut Corrections
 }
 
 /// Draws the triangle at the samples of block (bx, by) of the tile, of the part that begins with sample `from`. The
-/// block is of this class. If `top` is given, all samples that are covered are in the four rows from there on. The
+/// block is of this class. If a patch is given, all samples of it that are covered are in these 4 by 4 pixels. The
 /// triangle is made ready at the first block that is not left out.
 #[inline(always)]
 fn draw_part<const N: u32>(
@@ -124,7 +124,7 @@ fn draw_part<const N: u32>(
     bx: u32,
     by: u32,
     from: u32,
-    top: Option<u32>,
+    patch: Option<(u32, u32)>,
     whole: bool,
     interpolants: &mut Interpolants,
     is_made: &mut bool,
@@ -139,14 +139,14 @@ fn draw_part<const N: u32>(
     requires class { IsClassOf (record { triangle = triangle.now.tri; bx = bx; by = by; side = T8; count = count })
         class }
     requires part { IsPart count from }
-    requires rows { IfSome top (CoversInFourRows
-        (record { triangle = triangle.now.tri; bx = bx; by = by; side = T8; count = count })) }
+    requires patch { IfSome patch (λ p. CoversInPatch
+        (record { triangle = triangle.now.tri; bx = bx; by = by; side = T8; count = count }) p.0 p.1) }
     requires whole { IsTrue whole → HoldsTile triangle.now.state.scissor tile.now }
     requires made { IsTrue is_made.old → interpolants.old ≡ triangle.now }
     ensures drawn { DrawsPart triangle.now tile.now (IsInSquarePart tile.now bx by 8 from) samples.old samples.new }
     ensures made { IsTrue is_made.new → interpolants.new ≡ triangle.now }
 {
-    if let Some(covered) = planes::<N>(block, class, from, top) {
+    if let Some(covered) = planes::<N>(block, class, from, patch) {
         make_once(triangle, interpolants, is_made);
         draw_masks(
             interpolants,
@@ -165,8 +165,8 @@ fn draw_part<const N: u32>(
 }
 
 /// Draws the triangle at the samples of block (bx, by) of the tile, one part of at most four samples of a pixel after
-/// another. A pixel has `N` samples, which is `count`. `bounds` is the box of the triangle's pixels, and `all` says that
-/// all samples of the tile are covered.
+/// another. A pixel has `N` samples, which is `count`. `bounds` is the box of the triangle's pixels, and `all` says
+/// that all samples of the tile are covered.
 #[inline(always)]
 fn draw_parts<const N: u32>(
     triangle: &Placed,
@@ -217,7 +217,7 @@ fn draw_parts<const N: u32>(
             corrections,
         );
     } else {
-        let top = four_rows(bounds, by);
+        let patch = patch(bounds, bx, by);
         for part in 0..count.parts() {
             draw_part::<N>(
                 triangle,
@@ -228,7 +228,7 @@ fn draw_parts<const N: u32>(
                 bx,
                 by,
                 4 * part,
-                top,
+                patch,
                 whole,
                 interpolants,
                 is_made,

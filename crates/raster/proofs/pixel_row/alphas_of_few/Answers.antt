@@ -1,4 +1,4 @@
-use Rattle.std.proofs.Common.{◌≡◌, ℕ, [], ◌∙◌, inl, inr, sym, rules, refl, ◌+◌, ◌-◌, ◌*◌, ◌/◌, ◌%◌, slice_index, slice_index_or, arith}
+use Rattle.std.proofs.Common.{◌≡◌, ℕ, ◌∙◌, inl, inr, sym, rules, refl, ◌+◌, ◌*◌, ◌/◌, ◌%◌, slice_index, arith}
 use denote.Enum.Bare.{same_true, same_false}
 use Rattle.grid.specs.contracts.sample_count.SampleCount.{the_type}
 use Rattle.grid.specs.declared.sample_count.SampleCount.TheVariants.{One, Four}

@@ -2,10 +2,10 @@ use Rattle.std.proofs.Common.{◌≡◌, ◌∙◌, ap, sym, subst, arith, IfSom
 use Rattle.grid.specs.Samples.{count_of, parts_of}
 use Rattle.grid.specs.declared.pixels.TileSide.TheVariants.{T8}
 use Rattle.grid.specs.declared.sample_count.SampleCount.{SampleCount}
-use Rattle.cover.specs.Square.{TestedSquare, CoversAll, CoversInFourRows}
+use Rattle.cover.specs.Square.{TestedSquare, CoversAll, CoversInPatch}
 use Rattle.raster.specs.Drawing.{block_of}
 use Rattle.raster.proofs.Rows.{part_more, all_drawn, one_part, one_drawn, block_of_covered}
-use Rattle.raster.proofs.FourRows.{tops_of_block}
+use Rattle.raster.proofs.Patch.{patches_of_block}
 use Rattle.raster.proofs.rasterize.draw_parts.Goals as goal
 
 pub class_of-class-requires : goal.class_of-class-requires
@@ -30,8 +30,8 @@ pub returns-after-loop-part-clause-drawn : goal.returns-after-loop-part-clause-d
 returns-after-loop-part-clause-drawn g c =
     all_drawn c.args.triangle.now c.args.tile.now c.args.bx c.args.by c.loop-part.part _ _ (omega (arith, c.parts-part-end.ensures, c.loop-part-test.false, ap parts_of c.requires.count)) c.loop-part.invariant.0
 
-pub draw_part-requires-in-loop-part-clause-rows : goal.draw_part-requires-in-loop-part-clause-rows
-draw_part-requires-in-loop-part-clause-rows g c =
+pub draw_part-requires-in-loop-part-clause-patch : goal.draw_part-requires-in-loop-part-clause-patch
+draw_part-requires-in-loop-part-clause-patch g c =
     let t = c.args.triangle.now.tri in
-    let of_tile = tops_of_block t c.args.tile.now c.args.bounds.now c.args.bx c.args.by c.requires.lies c.requires.bounds c.four_rows-top.result c.four_rows-top.ensures in
-    subst (λ (count : SampleCount). IfSome c.four_rows-top.result (CoversInFourRows (record { triangle = t; bx = c.args.bx; by = c.args.by; side = T8; count = count }))) (sym c.requires.count) of_tile
+    let of_tile = patches_of_block t c.args.tile.now c.args.bounds.now c.args.bx c.args.by c.requires.lies c.requires.bounds c.patch-patch.result c.patch-patch.ensures in
+    subst (λ (count : SampleCount). IfSome c.patch-patch.result (λ p. CoversInPatch (record { triangle = t; bx = c.args.bx; by = c.args.by; side = T8; count = count }) p.0 p.1)) (sym c.requires.count) of_tile

@@ -1,5 +1,5 @@
 use Rattle.cover.specs.Masks.{to_column, to_row}
-use Rattle.cover.proofs.Joined.{Passes, bits64, all_rows, both_exact, means}
+use Rattle.cover.proofs.Joined.{both_exact, means}
 use Rattle.cover.proofs.FourSides.{small_at, value_kept, inside_at}
 use Rattle.cover.proofs.quad.Sides.masks.Goals as goal
 
@@ -21,10 +21,10 @@ returns c =
     let e = c.args.self.now in
     let x = c.args.x in
     let y = c.args.y in
-    means n 0 c.both-3.result
+    means n 0 8 c.both-3.result
     (λ s row column. inside_at e x y (to_column n s column) (to_row n s row) _ _ _ _
     (value_kept e.ab c.on_screen.result x y c.requires.x c.requires.y c.on_screen.ensures) (value_kept e.bc c.on_screen-2.result x y c.requires.x c.requires.y c.on_screen-2.ensures)
     (value_kept e.cd c.on_screen-3.result x y c.requires.x c.requires.y c.on_screen-3.ensures) (value_kept e.da c.on_screen-4.result x y c.requires.x c.requires.y c.on_screen-4.ensures))
-    (both_exact n 0 c.both-2.result c.masks-4.result c.both-3.result
-    (both_exact n 0 c.both.result c.masks-3.result c.both-2.result (both_exact n 0 c.masks.result c.masks-2.result c.both.result (all_rows (Passes e.ab (bits64 c.on_screen.result) n) n 0 c.masks.result c.masks.ensures) (all_rows (Passes e.bc (bits64 c.on_screen-2.result) n) n 0 c.masks-2.result c.masks-2.ensures) c.both.ensures) (all_rows (Passes e.cd (bits64 c.on_screen-3.result) n) n 0 c.masks-3.result c.masks-3.ensures) c.both-2.ensures)
-    (all_rows (Passes e.da (bits64 c.on_screen-4.result) n) n 0 c.masks-4.result c.masks-4.ensures) c.both-3.ensures)
+    (both_exact n 0 8 c.both-2.result c.masks-4.result c.both-3.result
+    (both_exact n 0 8 c.both.result c.masks-3.result c.both-2.result (both_exact n 0 8 c.masks.result c.masks-2.result c.both.result c.masks.ensures c.masks-2.ensures c.both.ensures) c.masks-3.ensures c.both-2.ensures)
+    c.masks-4.ensures c.both-3.ensures)
