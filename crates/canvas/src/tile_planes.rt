@@ -6,7 +6,7 @@ ghost use Rattle.grid.specs.Samples.{count_of};
 ghost use Rattle.shade.specs.Canvas.{with_alpha};
 ghost use Rattle.lanes.specs.Block.{stored_at};
 ghost use Rattle.canvas.specs.declared.way.Way.TheVariants.{Cleared as AsCleared, Single as AsSingle, Pair as AsPair, Own as AsOwn};
-ghost use Rattle.canvas.specs.Layout.{planes_of_tile, block_in_tile, pixel_in_block, stored_in_tile, way_in_tile, IsSameTile, KeepsOtherSamples, KeepsOtherWays, AreOwnBy, KeepsOtherPlanes};
+ghost use Rattle.canvas.specs.Layout.{planes_of_tile, block_in_tile, pixel_in_block, stored_in_tile, way_in_tile, IsSameTile, KeepsOtherSamples, KeepsOtherWays, AreOwnBy, KeepsOtherPlanes, in_list, place_by as place_of_way};
 
 use crate::pair::{mask_of, merged};
 use crate::place::place_by;
@@ -100,6 +100,29 @@ pub fn fill_block(count: SampleCount, k: usize, samples: &mut [BlockSamples])
     set_way(&mut samples[0], k, Way::Own);
 }
 
+/// Copies the plane of the block to which a tile was cleared to each plane of its own blocks.
+fn copy_cleared(count: SampleCount, samples: &mut [BlockSamples])
+    requires { length samples.old ≡ planes_of_tile count }
+    ensures own { (k s : ℕ) → k < 64 → s < count_of count →
+        in_list samples.new (place_of_way count AsOwn k s) ≡ in_list samples.old 1 }
+    ensures first { in_list samples.new 0 ≡ in_list samples.old 0 }
+{
+    for place in place_by(count, Way::Own, 0, 0)..samples.len() {
+        samples[place] = samples[1];
+    }
+}
+
+/// Gives the blocks of a tile that are kept as the one to which it was cleared their own planes.
+fn fill_cleared(count: SampleCount, samples: &mut [BlockSamples])
+    requires cleared { (k : ℕ) → k < 64 → way_in_tile samples.old k ≡ AsCleared }
+    requires samples { length samples.old ≡ planes_of_tile count }
+    ensures own { (k : ℕ) → way_in_tile samples.new k ≡ AsOwn }
+    ensures kept { IsSameTile count samples.old samples.new }
+{
+    copy_cleared(count, samples);
+    set_all_own(&mut samples[0]);
+}
+
 /// Gives all blocks of a tile their own planes.
 pub fn fill_tile(count: SampleCount, samples: &mut [BlockSamples])
     requires { length samples.old ≡ planes_of_tile count }
@@ -107,6 +130,10 @@ pub fn fill_tile(count: SampleCount, samples: &mut [BlockSamples])
     ensures kept { IsSameTile count samples.old samples.new }
 {
     if says_own(&samples[0]) {
+        return;
+    }
+    if is_cleared(samples) {
+        fill_cleared(count, samples);
         return;
     }
     for k in 0..64 {
