@@ -10,6 +10,8 @@ pub mod ClearedTiles
 pub mod Units
 pub mod PixelRows
 pub mod Arranged
+pub mod Pairs
+pub mod MaskBits
 pub mod PixelColours
 pub mod Masks
 pub mod Shown
