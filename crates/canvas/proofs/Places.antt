@@ -125,6 +125,13 @@ module _ (c : Canvas) (i j s : ℕ) where
       part_of xs a n none k (omega (arith, many, small))
       ∙ ap (λ p. slice_index_or xs p none) (omega (arith, at, in_first row k e)))
 
+  -- the way of its block too
+  pub tile_way : (row : ℕ) (xs : List BlockSamples) (n a : ℕ) → j / 64 ≡ row → n ≡ planes_of_tile c.count → a ≡ i / 64 * planes_of_tile c.count
+      → way_of (in_list (take n (drop a xs)) 0) (block_in_tile i j) ≡ way_of (plane_of c row xs i j 0) (block_in_tile i j)
+  tile_way row xs n a e many at =
+      ap (λ state. way_of state (block_in_tile i j))
+      (part_of xs a n none 0 (omega (arith, many)) ∙ ap (λ p. slice_index_or xs p none) (omega (arith, at, in_first row 0 e)))
+
   -- ---- a part that is put back changed
   module _ (xs part : List BlockSamples) (n a : ℕ) (room : a + n ≤ length xs) (long : length part ≡ n) where
     -- that of the tile row, or of another one

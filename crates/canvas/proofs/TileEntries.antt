@@ -47,6 +47,11 @@ index_of_number Four q s l = omega (arith, l)
 index_of_number Eight q s l = omega (arith, l)
 index_of_number Sixteen q s l = omega (arith, l)
 
+-- the ids of the plane of this number
+abbrev pub HasIdsOf : SampleCount → List BlockSamples → ℕ → (ℕ → ℕ) → Type 0
+HasIdsOf count xs number ids =
+    (i j : ℕ) → block_in_tile i j ≡ number / count_of count → ids (pixel_in_block i j) ≡ id_of (stored_in_tile count xs i j (number % count_of count))
+
 -- ---- what entries say
 module _ (count : SampleCount) (xs : List ℕ) (i j s : ℕ) where
   pub one_says : length xs ≡ 1 → said_of count xs i j s ≡ slice_index xs 0

@@ -55,18 +55,15 @@ pub same_mask : (a b : BlockSamples) (s : ℕ) → s < 16 → ((k : ℕ) → k <
 same_mask a b s l same =
     omega (arith, same (4 * s) (omega (arith, l)), same (4 * s + 1) (omega (arith, l)), same (4 * s + 2) (omega (arith, l)), same (4 * s + 3) (omega (arith, l)))
 
--- a sample in a row of a block that is no pair
-pub in_row : (count : SampleCount) (xs : List BlockSamples) (i j s k : ℕ) → i % 8 + k < 8 → way_in_tile xs (block_in_tile i j) ≢ Pair
-    → stored_at (in_list xs (place_in_tile count (in_list xs) i j s)) (8 * (j % 8) + (i % 8 + k)) ≡ stored_in_tile count xs (i + k) j s
-in_row count xs i j s k l other =
-    let block : ℕ = block_in_tile i j in
+-- in a block that is no pair all pixels have their sample of an index in one plane
+pub in_block : (count : SampleCount) (xs : List BlockSamples) (a b i j s : ℕ) → block_in_tile i j ≡ block_in_tile a b → way_in_tile xs (block_in_tile a b) ≢ Pair
+    → stored_at (in_list xs (place_in_tile count (in_list xs) a b s)) (pixel_in_block i j) ≡ stored_in_tile count xs i j s
+in_block count xs a b i j s same other =
+    let block : ℕ = block_in_tile a b in
     let way = way_in_tile xs block in
-    let same : block_in_tile (i + k) j ≡ block = omega (arith, l) in
-    let pixel : pixel_in_block (i + k) j ≡ 8 * (j % 8) + (i % 8 + k) = omega (arith, l) in
-    ap (λ n. stored_at (in_list xs (place_by count way block n)) (8 * (j % 8) + (i % 8 + k))) (plane_is count way (masks_in count (in_list xs) block) (pixel_in_block i j) s other)
-    ∙ ap (λ p. stored_at (in_list xs (place_by count way block s)) p) (sym pixel)
-    ∙ ap (λ m. stored_at (in_list xs (place_by count way m s)) (pixel_in_block (i + k) j)) (sym same)
-    ∙ sym (by_way count xs way (i + k) j s other (ap (way_in_tile xs) same))
+    ap (λ n. stored_at (in_list xs (place_by count way block n)) (pixel_in_block i j)) (plane_is count way (masks_in count (in_list xs) block) (pixel_in_block a b) s other)
+    ∙ ap (λ m. stored_at (in_list xs (place_by count way m s)) (pixel_in_block i j)) (sym same)
+    ∙ sym (by_way count xs way i j s other (ap (way_in_tile xs) same))
 
 -- the masks of a pair are in its last plane
 same_plane : (count : SampleCount) (way : Way) (k p s : ℕ) (old new : List BlockSamples) → ((t : ℕ) → t < count_of count → in_list new (place_by count way k t) ≡ in_list old (place_by count way k t))

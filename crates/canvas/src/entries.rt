@@ -1,5 +1,5 @@
 //! The depths and the ids of the samples of one index, written to the caller's memory.
-ghost use Rattle.std.specs.Prelude.{◌≡◌, ◌↔◌, ℕ, ◌+◌, ◌/◌, ◌<◌, ◌≤◌, length, map, slice_index, IsOk, OnOk, OnErr, IfErr};
+ghost use Rattle.std.specs.Prelude.{◌≡◌, ◌↔◌, ℕ, ◌+◌, ◌*◌, ◌/◌, ◌<◌, ◌≤◌, length, map, slice_index, IsOk, OnOk, OnErr, IfErr};
 ghost use Rattle.lanes.specs.Block.{stored_at};
 ghost use Rattle.shade.specs.declared.sample.CanvasSample.{CanvasSample};
 ghost use Rattle.grid.specs.Samples.{count_of};

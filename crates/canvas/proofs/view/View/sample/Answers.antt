@@ -20,10 +20,6 @@ returns-clause-value c =
     let wide : i / 64 < columns_of self.canvas = omega (arith, has.column) in
     let sample : c.args.s < count_of self.canvas.count = omega (arith, c.count.ensures, c.if-count-s.false) in
     let planes = take n (drop from c.args.self.now.planes.now) in
-    let pixel : 8 * (j % 8) + i % 8 ≡ 8 * (j % 8) + (i % 8 + 0) = omega arith in
-    let column : i + 0 ≡ i = omega arith in
     c.sample.ensures
-    ∙ ap (λ k. stored_at (slice_index_or planes c.place-place.result none) k) pixel
-    ∙ c.place-place.ensures.stored 0 (omega arith)
-    ∙ ap (λ x. stored self.canvas (j / 64) planes x j c.args.s) column
+    ∙ c.place-place.ensures.stored
     ∙ row_of self.canvas i j c.args.s (j / 64) self.first c.args.self.now.planes.now n from refl size at wide sample
