@@ -1,16 +1,14 @@
 -- The two planes and the masks of a pair.
-use Rattle.std.proofs.Common.{◌≡◌, ◌≢◌, ◌∙◌, inl, inr, refl, ap, sym, ℕ, ◌+◌, ◌-◌, ◌*◌, ◌/◌, ◌<◌, ◌≤◌, Bool, true, false, List, length, slice_index, slice_set, arith}
+use Rattle.std.proofs.Common.{◌≡◌, ◌≢◌, ◌∙◌, refl, ap, sym, ℕ, ◌-◌, ◌/◌, ◌<◌, ◌≤◌, Bool, true, false, List, length, slice_index, slice_set, arith}
 use Rattle.std.specs.Prelude.{◌==◌, if◌then◌else◌}
 use Rattle.std.specs.Int.{bit_at}
-use Rattle.std.proofs.lemmas.Bool.Decides.{eqb_tells}
 use Rattle.std.proofs.lemmas.List.{get_or-set_same, get_or-set_other, length-set}
 use Rattle.grid.specs.Samples.{count_of}
 use Rattle.grid.specs.declared.sample_count.SampleCount.{SampleCount}
 use Rattle.lanes.specs.declared.block_samples.BlockSamples.{BlockSamples}
 use Rattle.lanes.specs.Block.{stored_at}
-use Rattle.shade.specs.declared.sample.CanvasSample.{CanvasSample}
 use Rattle.canvas.specs.declared.way.Way.TheVariants.{Pair}
-use Rattle.canvas.specs.Layout.{planes_of_tile, block_in_tile, pixel_in_block, way_of, place_by, mask_of, masks_in, own_plane, sample_place, in_list, stored_in_tile, way_in_tile, chosen, HasMasks, KeepsOtherSamples, KeepsOtherWays}
+use Rattle.canvas.specs.Layout.{planes_of_tile, block_in_tile, pixel_in_block, way_of, place_by, mask_of, masks_in, sample_place, in_list, stored_in_tile, way_in_tile, chosen, HasMasks, KeepsOtherSamples, KeepsOtherWays}
 use Rattle.canvas.proofs.Places.{none, behind_first, within_way, last_sample, middle_sample}
 use Rattle.shade.proofs.Resolved.{some_samples}
 use Rattle.canvas.proofs.TilePlanes.{KeepsOthers, by_any_way, others_same, way_set, behind_set}

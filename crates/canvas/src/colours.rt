@@ -137,23 +137,27 @@ impl Canvas {
     {
         let number = block_in_tile(8 * block, j);
         let way = way_of(&samples[0], number);
-        if let Way::Pair = way {
-            let means = means_of_pair(self.count, samples, number, j % 8);
-            resolve_plane(&[means], j % 8, format, count, bytes);
-        } else if let Way::Own = way {
-            let tile = self.tile(block / 8, j / 64);
-            resolve_run::<MORE>(
-                &tile,
-                &samples[own..],
-                j % 64,
-                block % 8,
-                format,
-                count,
-                bytes,
-            );
-        } else {
-            let place = place_by(self.count, way, number, 0);
-            resolve_plane(&samples[place..place + 1], j % 8, format, count, bytes);
+        match way {
+            Way::Own => {
+                let tile = self.tile(block / 8, j / 64);
+                resolve_run::<MORE>(
+                    &tile,
+                    &samples[own..],
+                    j % 64,
+                    block % 8,
+                    format,
+                    count,
+                    bytes,
+                );
+            }
+            Way::Pair => {
+                let means = means_of_pair(self.count, samples, number, j % 8);
+                resolve_plane(&[means], j % 8, format, count, bytes);
+            }
+            _ => {
+                let place = place_by(self.count, way, number, 0);
+                resolve_plane(&samples[place..place + 1], j % 8, format, count, bytes);
+            }
         }
     }
 

@@ -1,11 +1,11 @@
 //! The colours of pixels whose blocks are kept as pairs.
-ghost use Rattle.std.specs.Prelude.{◌≡◌, ℕ, ◌+◌, ◌*◌, ◌<◌, ◌≤◌, length, slice_index};
+ghost use Rattle.std.specs.Prelude.{◌≡◌, ℕ, ◌+◌, ◌-◌, ◌*◌, ◌/◌, ◌<◌, ◌≤◌, length};
 ghost use Rattle.std.specs.Int.{bit_at};
 ghost use Rattle.grid.specs.Samples.{count_of};
-ghost use Rattle.shade.specs.Resolve.{IsResolved, total};
+ghost use Rattle.shade.specs.Resolve.{total};
 ghost use Rattle.lanes.specs.Block.{stored_at};
 ghost use Rattle.canvas.specs.declared.way.Way.TheVariants.{Pair as AsPair};
-ghost use Rattle.canvas.specs.Layout.{planes_of_tile, mask_of as the_mask, masks_in, sample_place, in_list};
+ghost use Rattle.canvas.specs.Layout.{planes_of_tile, mask_of as the_mask, sample_place, in_list};
 ghost use Rattle.canvas.specs.Colours.{IsMeanOf};
 
 use crate::pair::mask_of;
@@ -13,6 +13,7 @@ use crate::place::place_by;
 use crate::way::Way;
 use grid::SampleCount;
 use lanes::BlockSamples;
+use shade::CanvasSample;
 
 /// How many of the masks have bit `p`.
 #[inline(always)]
@@ -28,19 +29,42 @@ fn count_bits(count: SampleCount, masks: &BlockSamples, p: usize) -> u32
     bits
 }
 
-/// The mean of `many` samples, of which `bits` have this channel of `second` and the others that of `first`.
+/// The mean of a channel, of which `bits` samples have `second` and the others `first`.
 #[inline(always)]
-fn mean(many: u32, bits: u32, first: u8, second: u8) -> u8
-    requires some { (1 ≤ many) × (many ≤ 16) }
-    requires bits { bits ≤ many }
-    ensures { result ≡ (first * (many - bits) + second * bits + many / 2) / many }
+fn mean(count: SampleCount, bits: u32, first: u8, second: u8) -> u8
+    requires { bits ≤ count_of count }
+    ensures { result ≡ (first * (count_of count - bits) + second * bits + count_of count / 2) / count_of count }
 {
+    let many = count.count();
     let sum = u32::from(first) * (many - bits) + u32::from(second) * bits;
     ((sum + many / 2) / many) as u8
 }
 
-/// A plane that has, in a row of the pixels of block `k` of a tile, the means of each pixel's samples, if the block is a
-/// pair.
+/// The means of the channels of a pixel, of which `bits` samples are `second` and the others `first`.
+#[inline(always)]
+fn mean_sample(
+    count: SampleCount,
+    bits: u32,
+    first: CanvasSample,
+    second: CanvasSample,
+) -> CanvasSample
+    requires { bits ≤ count_of count }
+    ensures red { result.r ≡ (first.r * (count_of count - bits) + second.r * bits + count_of count / 2) / count_of count }
+    ensures green { result.g ≡ (first.g * (count_of count - bits) + second.g * bits + count_of count / 2) / count_of count }
+    ensures blue { result.b ≡ (first.b * (count_of count - bits) + second.b * bits + count_of count / 2) / count_of count }
+    ensures alpha { result.alpha ≡
+        (first.alpha * (count_of count - bits) + second.alpha * bits + count_of count / 2) / count_of count }
+{
+    CanvasSample {
+        r: mean(count, bits, first.r, second.r),
+        g: mean(count, bits, first.g, second.g),
+        b: mean(count, bits, first.b, second.b),
+        alpha: mean(count, bits, first.alpha, second.alpha),
+        z: first.z,
+    }
+}
+
+/// A plane that has in a row, of block `k` of a tile, the means of each pixel's samples, if the block is a pair.
 #[inline(always)]
 pub(crate) fn means_of_pair(
     count: SampleCount,
@@ -59,13 +83,15 @@ pub(crate) fn means_of_pair(
     let first = &planes[place_by(count, Way::Pair, k, 0)];
     let second = &planes[place_by(count, Way::Pair, k, many / 2)];
     let masks = &planes[place_by(count, Way::Pair, k, many - 1)];
+    let at = 8 * row as usize;
     let mut means = *first;
-    for p in 8 * row as usize..8 * row as usize + 8 {
+    for i in 0..8 {
+        let p = at + i;
         let bits = count_bits(count, masks, p);
-        means.r[p] = mean(many, bits, first.r[p], second.r[p]);
-        means.g[p] = mean(many, bits, first.g[p], second.g[p]);
-        means.b[p] = mean(many, bits, first.b[p], second.b[p]);
-        means.alpha[p] = mean(many, bits, first.alpha[p], second.alpha[p]);
+        means.set(
+            p,
+            mean_sample(count, bits, first.sample(p), second.sample(p)),
+        );
     }
     means
 }

@@ -1,4 +1,4 @@
-use Rattle.std.proofs.Common.{◌≡◌, ℕ, ◌<◌, slice_index}
+use Rattle.std.proofs.Common.{◌≡◌, slice_index}
 use Rattle.std.specs.Int.{bit_at}
 use Rattle.canvas.proofs.MaskBits.{one_more, bit_of_full}
 use Rattle.canvas.proofs.pair.are_full.Goals as goal

@@ -1,4 +1,4 @@
-use Rattle.std.proofs.Common.{rules, ◌≡◌, ◌∙◌, ap, sym, ℕ, ◌-◌, ◌<◌, slice_index, bit_and}
+use Rattle.std.proofs.Common.{rules, ◌≡◌, ◌∙◌, ap, sym, ◌-◌, slice_index, bit_and}
 use Rattle.std.specs.Int.{bit_at}
 use Rattle.canvas.specs.Layout.{mask_of}
 use Rattle.canvas.proofs.MaskBits.{one_more, bit_in, full}

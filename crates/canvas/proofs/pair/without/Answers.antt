@@ -1,4 +1,4 @@
-use Rattle.std.proofs.Common.{rules, ◌≡◌, ◌≢◌, ◌∙◌, ap, sym, ℕ, ◌-◌, ◌<◌, length, slice_index, bit_and, arith}
+use Rattle.std.proofs.Common.{rules, ◌≡◌, ◌≢◌, ◌∙◌, ap, ℕ, ◌-◌, ◌<◌, length, slice_index, bit_and, arith}
 use Rattle.std.specs.Int.{bit_at}
 use Rattle.canvas.specs.Layout.{mask_of}
 use Rattle.std.proofs.lemmas.List.{length-set}

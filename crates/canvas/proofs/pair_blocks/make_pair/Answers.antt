@@ -1,4 +1,4 @@
-use Rattle.std.proofs.Common.{◌≡◌, ◌∙◌, ap, ◌-◌, ◌/◌}
+use Rattle.std.proofs.Common.{◌∙◌, ap, ◌-◌, ◌/◌}
 use Rattle.canvas.specs.Layout.{place_by}
 use Rattle.canvas.specs.declared.way.Way.TheVariants.{Pair}
 use Rattle.canvas.proofs.Pairs.{is_pair, pair_ways, has_masks, pair_made, pair_others}

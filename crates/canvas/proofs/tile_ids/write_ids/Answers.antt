@@ -1,4 +1,4 @@
-use Rattle.std.proofs.Common.{◌≡◌, ◌∙◌, ap, sym, subst, ◌+◌, ◌-◌, ◌*◌, ◌/◌, ◌%◌, ◌<◌, ◌≤◌, ℕ, refl, length, slice_index, arith}
+use Rattle.std.proofs.Common.{◌≡◌, ◌∙◌, ap, sym, ◌+◌, ◌-◌, ◌*◌, ◌/◌, ◌%◌, ◌<◌, ◌≤◌, ℕ, refl, length, slice_index, arith}
 use Rattle.grid.specs.Samples.{count_of}
 use Rattle.canvas.specs.Layout.{block_in_tile, pixel_in_block, stored_in_tile}
 use Rattle.canvas.specs.Colours.{id_of}

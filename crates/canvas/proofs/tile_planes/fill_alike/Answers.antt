@@ -1,8 +1,6 @@
-use Rattle.std.proofs.Common.{◌≡◌, ◌∙◌, refl, ap, sym, ◌<◌, ℕ, length, arith}
-use Rattle.std.specs.Prelude.{slice_index_or}
-use Rattle.grid.specs.Samples.{count_of}
+use Rattle.std.proofs.Common.{◌∙◌, refl, ap, sym, arith}
 use Rattle.lanes.specs.Block.{stored_at}
-use Rattle.canvas.specs.Layout.{place_by, in_list}
+use Rattle.canvas.specs.Layout.{in_list}
 use Rattle.canvas.proofs.TilePlanes.{none_filled, one_filled, alike_place}
 use Rattle.canvas.proofs.tile_planes.fill_alike.Goals as goal
 

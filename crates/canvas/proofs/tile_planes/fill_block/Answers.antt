@@ -1,4 +1,4 @@
-use Rattle.std.proofs.Common.{◌≡◌, ◌<◌, sym, length, arith}
+use Rattle.std.proofs.Common.{◌<◌, sym, length, arith}
 use Rattle.canvas.proofs.TilePlanes.{block_own, block_ways, block_same}
 use Rattle.canvas.proofs.tile_planes.fill_block.Goals as goal
 

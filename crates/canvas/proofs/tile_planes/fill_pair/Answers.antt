@@ -1,4 +1,4 @@
-use Rattle.std.proofs.Common.{◌≡◌, ◌∙◌, ap, ◌<◌, ◌-◌, ◌/◌, ℕ, arith}
+use Rattle.std.proofs.Common.{◌∙◌, ap, ◌-◌, ◌/◌, ℕ, arith}
 use Rattle.grid.specs.Samples.{count_of}
 use Rattle.lanes.specs.Block.{stored_at}
 use Rattle.canvas.specs.Layout.{place_by, in_list, mask_of, chosen}

@@ -2,7 +2,7 @@ use Rattle.std.proofs.Common.{◌≡◌, ◌∙◌, sym, ap, subst, ◌+◌, ◌
 use Rattle.std.specs.Prelude.{slice_index_or}
 use Rattle.grid.specs.Samples.{count_of}
 use Rattle.lanes.specs.Block.{stored_at}
-use Rattle.canvas.specs.Layout.{block_in_tile, place_by, place_in_tile, pixel_in_block, in_list, sample_place}
+use Rattle.canvas.specs.Layout.{block_in_tile, place_in_tile, pixel_in_block, in_list, sample_place}
 use Rattle.canvas.specs.Tiles.{entry_in_tile, with_colour}
 use Rattle.canvas.proofs.Cut.{part_of}
 use Rattle.canvas.proofs.Places.{none}

@@ -1,9 +1,9 @@
-use Rattle.std.proofs.Common.{◌≡◌, ◌≢◌, ◌∙◌, ap, subst, ◌+◌, ◌-◌, ◌*◌, ◌/◌, ◌%◌, ◌<◌, ℕ, take, drop, slice_index, arith}
+use Rattle.std.proofs.Common.{◌≡◌, ◌≢◌, ◌∙◌, ap, subst, ◌+◌, ◌-◌, ◌*◌, ◌%◌, ◌<◌, ℕ, take, drop, slice_index, arith}
 use Rattle.std.proofs.lemmas.Bool.{false≢true}
 use Rattle.std.specs.Prelude.{slice_index_or}
 use Rattle.lanes.specs.Block.{stored_at}
 use Rattle.canvas.specs.declared.way.Way.TheVariants.{Pair}
-use Rattle.canvas.specs.Layout.{stored, way_in_row}
+use Rattle.canvas.specs.Layout.{way_in_row}
 use Rattle.canvas.specs.Pixels.{pixel_bytes}
 use Rattle.canvas.specs.Colours.{IsSampleColour}
 use Rattle.canvas.proofs.Cut.{part_of}

@@ -1,12 +1,8 @@
-use Rattle.std.proofs.Common.{◌≡◌, ◌∙◌, ap, ◌+◌, ◌-◌, ◌*◌, ◌/◌, ◌%◌, ◌<◌, ◌≤◌, ℕ, min, subst, take, drop, length, slice_index, arith}
-use Rattle.std.specs.Prelude.{slice_index_or}
+use Rattle.std.proofs.Common.{◌≡◌, ◌∙◌, ap, ◌+◌, ◌-◌, ◌*◌, ◌/◌, ◌<◌, ◌≤◌, ℕ, min, subst, length, arith}
 use Rattle.std.proofs.Math.Nat.{add-mul, mul-le-mul_right}
-use Rattle.lanes.specs.Block.{stored_at}
 use Rattle.canvas.specs.Layout.{stored}
 use Rattle.canvas.specs.Pixels.{pixel_bytes}
 use Rattle.canvas.specs.Colours.{IsSampleColour}
-use Rattle.canvas.proofs.Cut.{part_of}
-use Rattle.canvas.proofs.Places.{none}
 use Rattle.canvas.proofs.PixelColours.{sample_colour_same}
 use Rattle.canvas.proofs.Units.{AreUnits, no_units, more_units, all_units}
 use Rattle.canvas.proofs.canvas.Canvas.colour_row.Goals as goal

@@ -1,9 +1,6 @@
-use Rattle.std.proofs.Common.{◌≡◌, ◌∙◌, ap, ◌+◌, ◌-◌, ◌*◌, ◌/◌, ◌%◌, ◌<◌, ◌≤◌, ℕ, min, sym, subst, map, length, slice_index, arith}
+use Rattle.std.proofs.Common.{◌≡◌, ◌∙◌, ◌+◌, ◌-◌, ◌*◌, ◌/◌, ◌<◌, ◌≤◌, ℕ, min, sym, subst, map, length, slice_index, arith}
 use Rattle.std.proofs.lemmas.List.{length-map}
-use Rattle.std.specs.Prelude.{slice_index_or}
-use Rattle.lanes.specs.Block.{stored_at}
 use Rattle.canvas.specs.Layout.{stored}
-use Rattle.canvas.proofs.Places.{none}
 use Rattle.canvas.proofs.Cut.{map-put}
 use Rattle.canvas.proofs.Units.{AreUnits, no_units, more_units, all_units, as_units}
 use Rattle.canvas.proofs.canvas.Canvas.entry_row.Goals as goal

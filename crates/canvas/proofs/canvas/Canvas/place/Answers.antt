@@ -1,4 +1,4 @@
-use Rattle.std.proofs.Common.{◌≡◌, ◌≢◌, ◌∙◌, ap, sym, refl, ◌+◌, ◌-◌, ◌*◌, ◌/◌, ◌%◌, ◌<◌, ℕ, take, drop, arith}
+use Rattle.std.proofs.Common.{◌≡◌, ◌≢◌, ◌∙◌, ap, sym, refl, ◌+◌, ◌-◌, ◌*◌, ◌/◌, ◌%◌, ℕ, take, drop, arith}
 use Rattle.lanes.specs.Block.{stored_at}
 use Rattle.canvas.specs.declared.way.Way.TheVariants.{Pair}
 use Rattle.canvas.specs.Layout.{planes_of_tile, block_in_tile, pixel_in_block, place_in_tile, in_list, way_in_tile}

@@ -1,9 +1,7 @@
-use Rattle.std.proofs.Common.{◌≡◌, ◌∙◌, ap, ◌+◌, ◌-◌, ◌*◌, ◌/◌, ◌%◌, ◌<◌, ℕ, take, drop, refl, arith}
-use Rattle.std.specs.Prelude.{slice_index_or}
-use Rattle.lanes.specs.Block.{stored_at}
+use Rattle.std.proofs.Common.{◌≡◌, ◌∙◌, ◌+◌, ◌-◌, ◌*◌, ◌/◌, ◌<◌, ℕ, take, drop, refl, arith}
 use Rattle.grid.specs.Samples.{count_of}
-use Rattle.canvas.specs.Layout.{HasPixel, columns_of, planes_of_row, stored}
-use Rattle.canvas.proofs.Places.{none, row_of}
+use Rattle.canvas.specs.Layout.{HasPixel, columns_of, planes_of_row}
+use Rattle.canvas.proofs.Places.{row_of}
 use Rattle.canvas.proofs.view.View.sample.Goals as goal
 
 pub returns-clause-value : goal.returns-clause-value
