@@ -1,4 +1,5 @@
 -- Where a pixel's block lies among the planes of its tile.
+use Rattle.canvas.proofs.Ways.{own_not_pair}
 use Rattle.std.proofs.Common.{◌≡◌, ◌∙◌, ap, sym, ℕ, ◌+◌, ◌*◌, ◌/◌, ◌%◌, List, arith}
 use Rattle.std.specs.Prelude.{slice_index_or}
 use Rattle.grid.specs.Samples.{count_of}
@@ -28,4 +29,4 @@ module _ (count : SampleCount) (xs : List BlockSamples) (tile : Tile) (same : ti
       ∙ ap (stored_at (slice_index_or part (block * count_of count + s) none)) same_pixel
       ∙ ap (λ plane. stored_at plane pixel) (behind (block * count_of count + s))
       ∙ ap (λ k. stored_at (slice_index_or xs k none) pixel) (own_place count block s)
-      ∙ sym (by_way count xs Own i j s is_own)
+      ∙ sym (by_way count xs Own i j s own_not_pair is_own)

@@ -10,6 +10,9 @@ pub mod ClearedTiles
 pub mod Units
 pub mod PixelRows
 pub mod Arranged
+pub mod Pairs
+pub mod MaskBits
+pub mod PairMeans
 pub mod PixelColours
 pub mod Masks
 pub mod Shown

@@ -20,7 +20,7 @@ use Rattle.canvas.specs.declared.format.Format.{Format}
 use Rattle.canvas.specs.Layout.{stored, stored_in_tile}
 use Rattle.canvas.specs.declared.format.Format.TheVariants.{Rgb8, Rgba8, Bgra8, Rgba8Straight, Bgra8Straight}
 use Rattle.canvas.specs.Pixels.{pixel_bytes, pixel_of, HasAlpha}
-use Rattle.canvas.specs.Colours.{IsColourOfPixel, IsColourIn, IsAlphaOfPixel, IsAlphaIn, IsPixelOf, IsPixelIn, IsTilePixel, IsSampleColour, AreBytesOfColour, AreArranged}
+use Rattle.canvas.specs.Colours.{IsColourOfPixel, IsColourIn, IsAlphaOfPixel, IsAlphaIn, IsPixelOf, IsPixelIn, IsTilePixel, IsSampleColour, IsMeanOf, AreBytesOfColour, AreArranged}
 use Rattle.canvas.proofs.Places.{none}
 
 -- ---- colours of the same samples
@@ -162,6 +162,24 @@ pixel_alike count xs format i j sample bytes same order =
         blue = resolved_of_one count (λ s. (stored_in_tile count xs i j s).b) sample.b (λ s h. ap (λ (x : CanvasSample). x.b) (same s h));
       };
       alpha = λ has. resolved_of_one count (λ s. (stored_in_tile count xs i j s).alpha) sample.alpha (λ s h. ap (λ (x : CanvasSample). x.alpha) (same s h));
+      order = order;
+    }
+
+-- and one whose samples have these means has their colour
+pub pixel_of_means : (count : SampleCount) (xs : List BlockSamples) (format : Format) (i j : ℕ) (f : ℕ → CanvasSample) (mean : CanvasSample) (bytes : ℕ → ℕ) → ((s : ℕ) → s < count_of count → f s ≡ stored_in_tile count xs i j s)
+    → IsMeanOf count f mean → IsSampleColour format mean bytes → IsPixelIn count xs format i j bytes
+pixel_of_means count xs format i j f mean bytes same h order =
+    record {
+      r = mean.r;
+      g = mean.g;
+      b = mean.b;
+      a = mean.alpha;
+      colour = record {
+        red = resolved_same count _ (λ s. (stored_in_tile count xs i j s).r) mean.r (λ s l. ap (λ (x : CanvasSample). x.r) (same s l)) h.red;
+        green = resolved_same count _ (λ s. (stored_in_tile count xs i j s).g) mean.g (λ s l. ap (λ (x : CanvasSample). x.g) (same s l)) h.green;
+        blue = resolved_same count _ (λ s. (stored_in_tile count xs i j s).b) mean.b (λ s l. ap (λ (x : CanvasSample). x.b) (same s l)) h.blue;
+      };
+      alpha = λ has. resolved_same count _ (λ s. (stored_in_tile count xs i j s).alpha) mean.alpha (λ s l. ap (λ (x : CanvasSample). x.alpha) (same s l)) h.alpha;
       order = order;
     }
 

@@ -1,19 +1,21 @@
 -- Each tile has planes of its own.
-use Rattle.std.proofs.Common.{◌≡◌, ◌≢◌, ◌∙◌, ap, sym, ℕ, ◌+◌, ◌-◌, ◌*◌, ◌/◌, ◌%◌, ◌<◌, ◌≤◌, List, [], ◌++◌, length, take, drop, get_or-append-add, arith}
-use Rattle.std.specs.Prelude.{slice_index_or}
+use Rattle.std.proofs.Common.{◌≡◌, ◌≢◌, ◌∙◌, ap, sym, ℕ, Bool, true, false, ◌+◌, ◌-◌, ◌*◌, ◌/◌, ◌<◌, ◌≤◌, List, [], ◌++◌, length, take, drop, get_or-append-add, arith}
+use Rattle.std.specs.Prelude.{◌==◌, if◌then◌else◌, slice_index_or}
+use Rattle.std.specs.Int.{bit_at}
 use Rattle.std.proofs.Math.Nat.{mul_comm, add-mul}
 use Rattle.std.proofs.lemmas.List.{get_or_append_left}
 use Rattle.std.proofs.lemmas.Nat.{mul-add-lt, same_from_place}
 use Rattle.grid.specs.Samples.{count_of}
 use Rattle.grid.specs.declared.sample_count.SampleCount.{SampleCount}
 use Rattle.grid.specs.declared.sample_count.SampleCount.TheVariants.{One, Two, Four, Eight, Sixteen}
+use Rattle.shade.proofs.Resolved.{some_samples}
 use Rattle.lanes.specs.declared.block_samples.BlockSamples.{BlockSamples}
 use Rattle.lanes.specs.Block.{stored_at}
 use Rattle.canvas.proofs.Cut.{put, put_here, put_elsewhere, part_of}
 use Rattle.canvas.specs.declared.canvas.Canvas.{Canvas}
 use Rattle.canvas.specs.declared.way.Way.{Way}
-use Rattle.canvas.specs.declared.way.Way.TheVariants.{Cleared, Single, Own}
-use Rattle.canvas.specs.Layout.{columns_of, planes_of_tile, planes_of_row, block_in_tile, way_of, place_by, place_in_tile, sample_in, plane_of, stored, stored_in_tile}
+use Rattle.canvas.specs.declared.way.Way.TheVariants.{Cleared, Single, Pair, Own}
+use Rattle.canvas.specs.Layout.{columns_of, planes_of_tile, planes_of_row, block_in_tile, pixel_in_block, way_of, mask_of, own_plane, place_by, masks_in, sample_place, place_in_tile, sample_in, plane_of, in_list, stored, stored_in_tile}
 
 abbrev pub none : BlockSamples
 none = record { z = []; r = []; g = []; b = []; alpha = [] }
@@ -30,15 +32,41 @@ within_planes Sixteen q s h k = omega arith
 pub within_way : (count : SampleCount) (way : Way) (k s : ℕ) → k < 64 → s < count_of count → place_by count way k s < planes_of_tile count
 within_way count Cleared k s l h = omega (arith, h)
 within_way count Single k s l h = let below = within_planes count (k + 1) 0 (omega (arith, l)) (omega (arith, h)) in omega (arith, below)
+within_way count Pair k s l h = within_planes count (k + 1) s (omega (arith, l)) h
 within_way count Own k s l h = within_planes count (k + 1) s (omega (arith, l)) h
+
+-- the masks of a pair too
+pub last_sample : (count : SampleCount) → count_of count - 1 < count_of count
+last_sample count = omega (arith, some_samples count)
+
+pub middle_sample : (count : SampleCount) → count_of count / 2 < count_of count
+middle_sample count = omega (arith, some_samples count)
+
+pub within_masks : (count : SampleCount) (k : ℕ) → k < 64 → 1 + (k + 1) * count_of count + (count_of count - 1) < planes_of_tile count
+within_masks count k l = within_way count Own k (count_of count - 1) l (last_sample count)
+
+either_plane : (count : SampleCount) (b : Bool) → (if b then count_of count / 2 else 0) < count_of count
+either_plane count true = middle_sample count
+either_plane count false = some_samples count
+
+-- one of its own planes has a sample
+pub within_block : (count : SampleCount) (way : Way) (masks : BlockSamples) (p s : ℕ) → s < count_of count → own_plane count way masks p s < count_of count
+within_block count Cleared masks p s h = h
+within_block count Single masks p s h = h
+within_block count Pair masks p s h = either_plane count (bit_at (mask_of masks s) p == 1)
+within_block count Own masks p s h = h
 
 pub behind_first : (count : SampleCount) (way : Way) (k s : ℕ) → place_by count way k s ≢ 0
 behind_first count Cleared k s e = omega (arith, e)
 behind_first count Single k s e = omega (arith, e)
+behind_first count Pair k s e = omega (arith, e)
 behind_first count Own k s e = omega (arith, e)
 
-pub within_tile : (count : SampleCount) (state : BlockSamples) (i j s : ℕ) → s < count_of count → place_in_tile count state i j s < planes_of_tile count
-within_tile count state i j s h = within_way count (way_of state (block_in_tile i j)) (block_in_tile i j) s (omega arith) h
+pub within_tile : (count : SampleCount) (f : ℕ → BlockSamples) (i j s : ℕ) → s < count_of count → place_in_tile count f i j s < planes_of_tile count
+within_tile count f i j s h =
+    let k : ℕ = block_in_tile i j in
+    let way = way_of (f 0) k in
+    within_way count way k (own_plane count way (masks_in count f k) (pixel_in_block i j) s) (omega arith) (within_block count way (masks_in count f k) (pixel_in_block i j) s h)
 
 some_planes : (count : SampleCount) → 0 < planes_of_tile count
 some_planes count = omega arith
@@ -61,8 +89,11 @@ part_within k many n h = grind arith
 -- ---- the same planes have the same samples
 pub same_in : (count : SampleCount) (f g : ℕ → BlockSamples) (i j s : ℕ) → s < count_of count → ((k : ℕ) → k < planes_of_tile count → f k ≡ g k) → sample_in count f i j s ≡ sample_in count g i j s
 same_in count f g i j s h same =
-    ap (λ state. stored_at (f (place_in_tile count state i j s)) (8 * (j % 8) + i % 8)) (same 0 (some_planes count))
-    ∙ ap (λ plane. stored_at plane (8 * (j % 8) + i % 8)) (same (place_in_tile count (g 0) i j s) (within_tile count (g 0) i j s h))
+    let k : ℕ = block_in_tile i j in
+    let p : ℕ = pixel_in_block i j in
+    ap (λ state. stored_at (f (sample_place count (way_of state k) f k p s)) p) (same 0 (some_planes count))
+    ∙ ap (λ masks. stored_at (f (place_by count (way_of (g 0) k) k (own_plane count (way_of (g 0) k) masks p s))) p) (same (1 + (k + 1) * count_of count + (count_of count - 1)) (within_masks count k (omega arith)))
+    ∙ ap (λ plane. stored_at plane p) (same (place_in_tile count g i j s) (within_tile count g i j s h))
 
 -- ---- a tile row among tile rows
 module _ (c : Canvas) (i j s : ℕ) where
@@ -93,6 +124,13 @@ module _ (c : Canvas) (i j s : ℕ) where
       (λ k small.
       part_of xs a n none k (omega (arith, many, small))
       ∙ ap (λ p. slice_index_or xs p none) (omega (arith, at, in_first row k e)))
+
+  -- the way of its block too
+  pub tile_way : (row : ℕ) (xs : List BlockSamples) (n a : ℕ) → j / 64 ≡ row → n ≡ planes_of_tile c.count → a ≡ i / 64 * planes_of_tile c.count
+      → way_of (in_list (take n (drop a xs)) 0) (block_in_tile i j) ≡ way_of (plane_of c row xs i j 0) (block_in_tile i j)
+  tile_way row xs n a e many at =
+      ap (λ state. way_of state (block_in_tile i j))
+      (part_of xs a n none 0 (omega (arith, many)) ∙ ap (λ p. slice_index_or xs p none) (omega (arith, at, in_first row 0 e)))
 
   -- ---- a part that is put back changed
   module _ (xs part : List BlockSamples) (n a : ℕ) (room : a + n ≤ length xs) (long : length part ≡ n) where

@@ -1,6 +1,7 @@
 -- The planes of one tile.
-use Rattle.std.proofs.Common.{◌≡◌, ◌≢◌, ◌⊎◌, ◌∙◌, inl, inr, refl, ap, sym, ℕ, ◌+◌, ◌*◌, ◌%◌, ◌<◌, List, length, slice_set, arith}
-use Rattle.std.specs.Prelude.{slice_index_or}
+use Rattle.std.specs.Int.{bit_at}
+use Rattle.std.proofs.Common.{◌≡◌, ◌≢◌, ◌⊎◌, ◌∙◌, inl, inr, refl, ap, sym, ℕ, ◌+◌, ◌-◌, ◌*◌, ◌<◌, List, length, slice_set, arith, ◌/◌, slice_index}
+use Rattle.std.specs.Prelude.{slice_index_or, ◌==◌, if◌then◌else◌}
 use Rattle.std.proofs.lemmas.Bool.{cases_lt}
 use Rattle.std.proofs.lemmas.List.{get_or-set_same, get_or-set_other}
 use Rattle.std.proofs.Math.Nat.{add-mul}
@@ -9,13 +10,14 @@ use Rattle.grid.specs.Samples.{count_of}
 use Rattle.grid.specs.declared.sample_count.SampleCount.{SampleCount}
 use Rattle.grid.specs.declared.sample_count.SampleCount.TheVariants.{One, Two, Four, Eight, Sixteen}
 use Rattle.shade.proofs.Resolved.{some_samples}
+use Rattle.shade.specs.declared.sample.CanvasSample.{CanvasSample}
 use Rattle.lanes.specs.declared.block_samples.BlockSamples.{BlockSamples}
 use Rattle.lanes.specs.Block.{stored_at}
 use Rattle.canvas.specs.declared.way.Way.{Way}
-use Rattle.canvas.specs.declared.way.Way.TheVariants.{Cleared, Single, Own}
-use Rattle.canvas.specs.Layout.{planes_of_tile, block_in_tile, way_of, place_by, stored_in_tile, way_in_tile, IsSameTile, KeepsOtherWays}
-use Rattle.canvas.proofs.Places.{none, behind_first}
-use Rattle.canvas.proofs.Ways.{own_not_cleared}
+use Rattle.canvas.specs.declared.way.Way.TheVariants.{Cleared, Single, Pair, Own}
+use Rattle.canvas.specs.Layout.{planes_of_tile, block_in_tile, pixel_in_block, way_of, place_by, mask_of, own_plane, masks_in, sample_place, in_list, stored_in_tile, way_in_tile, IsSameTile, KeepsOtherWays, AreOwnBy, KeepsOtherPlanes, place_in_tile}
+use Rattle.canvas.proofs.Places.{none, behind_first, within_block, last_sample}
+use Rattle.canvas.proofs.Ways.{own_not_cleared, own_not_pair}
 
 pub cases_eq : (a b : ℕ) → (a ≡ b) ⊎ (a ≢ b)
 cases_eq a b =
@@ -24,30 +26,77 @@ cases_eq a b =
       | inr from ↦ elim (cases_lt b a) [ inl more ↦ inr (λ e. omega (arith, e, more)) | inr to ↦ inl (omega (arith, from, to)) ]
     ]
 
-abbrev pub pixel_in_block : ℕ → ℕ → ℕ
-pixel_in_block i j = 8 * (j % 8) + i % 8
-
 -- ---- one of its samples, by the way in which its block keeps them
-pub by_way : (count : SampleCount) (xs : List BlockSamples) (way : Way) (i j s : ℕ) → way_in_tile xs (block_in_tile i j) ≡ way
-    → stored_in_tile count xs i j s ≡ stored_at (slice_index_or xs (place_by count way (block_in_tile i j) s) none) (pixel_in_block i j)
-by_way count xs way i j s e = ap (λ w. stored_at (slice_index_or xs (place_by count w (block_in_tile i j) s) none) (pixel_in_block i j)) e
+pub by_any_way : (count : SampleCount) (xs : List BlockSamples) (way : Way) (i j s : ℕ) → way_in_tile xs (block_in_tile i j) ≡ way
+    → stored_in_tile count xs i j s ≡ stored_at (in_list xs (sample_place count way (in_list xs) (block_in_tile i j) (pixel_in_block i j) s)) (pixel_in_block i j)
+by_any_way count xs way i j s e = ap (λ w. stored_at (in_list xs (sample_place count w (in_list xs) (block_in_tile i j) (pixel_in_block i j) s)) (pixel_in_block i j)) e
 
--- the same way and the same plane: the same sample
-pub same_by_way : (count : SampleCount) (old new : List BlockSamples) (i j s : ℕ) → way_in_tile new (block_in_tile i j) ≡ way_in_tile old (block_in_tile i j)
-    → slice_index_or new (place_by count (way_in_tile old (block_in_tile i j)) (block_in_tile i j) s) none ≡ slice_index_or old (place_by count (way_in_tile old (block_in_tile i j)) (block_in_tile i j) s) none
+-- the own plane of a sample, in a block that is no pair
+pub plane_is : (count : SampleCount) (way : Way) (masks : BlockSamples) (p s : ℕ) → way ≢ Pair → own_plane count way masks p s ≡ s
+plane_is count Cleared masks p s other = refl
+plane_is count Single masks p s other = refl
+plane_is count Pair masks p s other = absurd (other refl)
+plane_is count Own masks p s other = refl
+
+pub by_way : (count : SampleCount) (xs : List BlockSamples) (way : Way) (i j s : ℕ) → way ≢ Pair → way_in_tile xs (block_in_tile i j) ≡ way
+    → stored_in_tile count xs i j s ≡ stored_at (slice_index_or xs (place_by count way (block_in_tile i j) s) none) (pixel_in_block i j)
+by_way count xs way i j s other e =
+    by_any_way count xs way i j s e
+    ∙ ap (λ n. stored_at (slice_index_or xs (place_by count way (block_in_tile i j) n) none) (pixel_in_block i j)) (plane_is count way (masks_in count (in_list xs) (block_in_tile i j)) (pixel_in_block i j) s other)
+
+-- the same masks
+pub same_own_plane : (count : SampleCount) (way : Way) (a b : BlockSamples) (p s : ℕ) → mask_of a s ≡ mask_of b s → own_plane count way a p s ≡ own_plane count way b p s
+same_own_plane count Cleared a b p s same = refl
+same_own_plane count Single a b p s same = refl
+same_own_plane count Pair a b p s same = ap (λ mask. if bit_at mask p == 1 then count_of count / 2 else 0) same
+same_own_plane count Own a b p s same = refl
+
+pub same_mask : (a b : BlockSamples) (s : ℕ) → s < 16 → ((k : ℕ) → k < 64 → slice_index a.z k ≡ slice_index b.z k) → mask_of a s ≡ mask_of b s
+same_mask a b s l same =
+    omega (arith, same (4 * s) (omega (arith, l)), same (4 * s + 1) (omega (arith, l)), same (4 * s + 2) (omega (arith, l)), same (4 * s + 3) (omega (arith, l)))
+
+-- in a block that is no pair all pixels have their sample of an index in one plane
+pub in_block : (count : SampleCount) (xs : List BlockSamples) (a b i j s : ℕ) → block_in_tile i j ≡ block_in_tile a b → way_in_tile xs (block_in_tile a b) ≢ Pair
+    → stored_at (in_list xs (place_in_tile count (in_list xs) a b s)) (pixel_in_block i j) ≡ stored_in_tile count xs i j s
+in_block count xs a b i j s same other =
+    let block : ℕ = block_in_tile a b in
+    let way = way_in_tile xs block in
+    ap (λ n. stored_at (in_list xs (place_by count way block n)) (pixel_in_block i j)) (plane_is count way (masks_in count (in_list xs) block) (pixel_in_block a b) s other)
+    ∙ ap (λ m. stored_at (in_list xs (place_by count way m s)) (pixel_in_block i j)) (sym same)
+    ∙ sym (by_way count xs way i j s other (ap (way_in_tile xs) same))
+
+-- the masks of a pair are in its last plane
+same_plane : (count : SampleCount) (way : Way) (k p s : ℕ) (old new : List BlockSamples) → ((t : ℕ) → t < count_of count → in_list new (place_by count way k t) ≡ in_list old (place_by count way k t))
+    → own_plane count way (masks_in count (in_list new) k) p s ≡ own_plane count way (masks_in count (in_list old) k) p s
+same_plane count Cleared k p s old new same = refl
+same_plane count Single k p s old new same = refl
+same_plane count Pair k p s old new same = ap (λ masks. own_plane count Pair masks p s) (same (count_of count - 1) (last_sample count))
+same_plane count Own k p s old new same = refl
+
+-- the same way and the same planes: the same sample
+pub same_by_way : (count : SampleCount) (old new : List BlockSamples) (i j s : ℕ) → s < count_of count → way_in_tile new (block_in_tile i j) ≡ way_in_tile old (block_in_tile i j)
+    → ((t : ℕ) → t < count_of count → in_list new (place_by count (way_in_tile old (block_in_tile i j)) (block_in_tile i j) t) ≡ in_list old (place_by count (way_in_tile old (block_in_tile i j)) (block_in_tile i j) t))
     → stored_in_tile count new i j s ≡ stored_in_tile count old i j s
-same_by_way count old new i j s way plane = by_way count new (way_in_tile old (block_in_tile i j)) i j s way ∙ ap (λ p. stored_at p (pixel_in_block i j)) plane
+same_by_way count old new i j s h way planes =
+    let k : ℕ = block_in_tile i j in
+    let p : ℕ = pixel_in_block i j in
+    let w = way_in_tile old k in
+    by_any_way count new w i j s way
+    ∙ ap (λ n. stored_at (in_list new (place_by count w k n)) p) (same_plane count w k p s old new planes)
+    ∙ ap (λ plane. stored_at plane p) (planes (own_plane count w (masks_in count (in_list old) k) p s) (within_block count w (masks_in count (in_list old) k) p s h))
 
 -- ---- the own planes of a block
 -- no other block has them
 own_apart : (count : SampleCount) (way : Way) (m k s t : ℕ) → m ≢ k → s < count_of count → t < count_of count → place_by count way m s ≢ 1 + (k + 1) * count_of count + t
 own_apart count Cleared m k s t other h l e = omega (arith, e, add-mul k 1 (count_of count), h)
 own_apart count Single m k s t other h l e = other (omega (arith, (same_from_place (m + 1) 0 (k + 1) t (count_of count) (omega (arith, h)) l (omega (arith, e))).0))
+own_apart count Pair m k s t other h l e = other (omega (arith, (same_from_place (m + 1) s (k + 1) t (count_of count) h l (omega (arith, e))).0))
 own_apart count Own m k s t other h l e = other (omega (arith, (same_from_place (m + 1) s (k + 1) t (count_of count) h l (omega (arith, e))).0))
 
 pub apart : (count : SampleCount) (way way' : Way) (m k s t : ℕ) → m ≢ k → s < count_of count → t < count_of count → way' ≢ Cleared → place_by count way m s ≢ place_by count way' k t
 apart count way Cleared m k s t other h l own = absurd (own refl)
 apart count way Single m k s t other h l own = λ e. own_apart count way m k s 0 other h (some_samples count) (omega (arith, e))
+apart count way Pair m k s t other h l own = own_apart count way m k s t other h l
 apart count way Own m k s t other h l own = own_apart count way m k s t other h l
 
 -- the planes behind the first are unchanged but those of block k
@@ -59,7 +108,7 @@ pub others_same : (count : SampleCount) (k : ℕ) (old new : List BlockSamples) 
 others_same count k old new ways planes i j s h other =
     let m : ℕ = block_in_tile i j in
     let way = way_in_tile old m in
-    same_by_way count old new i j s (ways m (omega arith) other) (planes (place_by count way m s) (behind_first count way m s) (λ t l. apart count way Own m k s t other h l own_not_cleared))
+    same_by_way count old new i j s h (ways m (omega arith) other) (λ n small. planes (place_by count way m n) (behind_first count way m n) (λ t l. apart count way Own m k n t other small l own_not_cleared))
 
 -- the first plane, changed
 pub way_set : (xs : List BlockSamples) (state : BlockSamples) (m : ℕ) (way : Way) → 0 < length xs → way_of state m ≡ way → way_in_tile (slice_set xs 0 state) m ≡ way
@@ -68,34 +117,43 @@ way_set xs state m way some e = ap (λ first. way_of first m) (get_or-set_same x
 pub behind_set : (xs : List BlockSamples) (state : BlockSamples) (p : ℕ) → p ≢ 0 → slice_index_or (slice_set xs 0 state) p none ≡ slice_index_or xs p none
 behind_set xs state p behind = get_or-set_other xs 0 p state none behind
 
--- the first t own planes of block k are this one, and all planes but its own are unchanged
-pub record AreFilled (count : SampleCount) (k t : ℕ) (plane : BlockSamples) (old new : List BlockSamples) : Type 0 where
-  pub filled : (s : ℕ) → s < t → slice_index_or new (place_by count Own k s) none ≡ plane
-  pub kept : (p : ℕ) → ((s : ℕ) → s < count_of count → p ≢ place_by count Own k s) → slice_index_or new p none ≡ slice_index_or old p none
+-- the first t own planes of block k have the samples that f says, and all planes but its own are unchanged
+pub record AreFilled (count : SampleCount) (k t : ℕ) (f : ℕ → ℕ → CanvasSample) (old new : List BlockSamples) : Type 0 where
+  pub filled : (s p : ℕ) → s < t → p < 64 → stored_at (in_list new (place_by count Own k s)) p ≡ f s p
+  pub kept : KeepsOtherPlanes count k old new
 
-pub one_filled : (count : SampleCount) (k t at : ℕ) (plane : BlockSamples) (old xs : List BlockSamples) → at ≡ place_by count Own k t → at < length xs → t < count_of count
-    → AreFilled count k t plane old xs → AreFilled count k (t + 1) plane old (slice_set xs at plane)
-one_filled count k t at plane old xs is room h before = record {
-  filled = λ s l.
+pub none_filled : (count : SampleCount) (k : ℕ) (f : ℕ → ℕ → CanvasSample) (xs : List BlockSamples) → AreFilled count k 0 f xs xs
+none_filled count k f xs = record { filled = λ s p l small. absurd (omega (arith, l)); kept = λ n other. refl }
+
+pub one_filled : (count : SampleCount) (k t at : ℕ) (f : ℕ → ℕ → CanvasSample) (plane : BlockSamples) (old xs : List BlockSamples) → at ≡ place_by count Own k t → at < length xs → t < count_of count
+    → ((p : ℕ) → p < 64 → stored_at plane p ≡ f t p) → AreFilled count k t f old xs → AreFilled count k (t + 1) f old (slice_set xs at plane)
+one_filled count k t at f plane old xs is room h has before = record {
+  filled = λ s p l small.
       elim (cases_lt s t) [
-        | inl less ↦ get_or-set_other xs at (place_by count Own k s) plane none (λ e. omega (arith, e, is, less)) ∙ before.filled s less
+        | inl less ↦ ap (λ x. stored_at x p) (get_or-set_other xs at (place_by count Own k s) plane none (λ e. omega (arith, e, is, less))) ∙ before.filled s p less small
         | inr more ↦
-            let here : place_by count Own k s ≡ at = omega (arith, l, more, is) in
-            ap (λ p. slice_index_or (slice_set xs at plane) p none) here ∙ get_or-set_same xs at plane none room
+            let same : s ≡ t = omega (arith, l, more) in
+            let here : place_by count Own k s ≡ at = omega (arith, same, is) in
+            ap (λ q. stored_at (slice_index_or (slice_set xs at plane) q none) p) here ∙ ap (λ x. stored_at x p) (get_or-set_same xs at plane none room) ∙ has p small ∙ ap (λ m. f m p) (sym same)
       ];
-  kept = λ p other. get_or-set_other xs at p plane none (λ e. other t h (e ∙ is)) ∙ before.kept p other;
+  kept = λ n other. get_or-set_other xs at n plane none (λ e. other t h (e ∙ is)) ∙ before.kept n other;
 }
 
--- the way of a block that one plane stands for
-pub one_place : (count : SampleCount) (way : Way) (k s : ℕ) → way ≢ Own → place_by count way k s ≡ place_by count way k 0
-one_place count Cleared k s other = refl
-one_place count Single k s other = refl
-one_place count Own k s other = absurd (other refl)
+-- the place in a block that one plane stands for
+pub one_place : (count : SampleCount) (way : Way) (k n : ℕ) → way ≢ Pair → way ≢ Own → place_by count way k n ≡ place_by count way k 0
+one_place count Cleared k n pair own = refl
+one_place count Single k n pair own = refl
+one_place count Pair k n pair own = absurd (pair refl)
+one_place count Own k n pair own = absurd (own refl)
+
+-- the plane that stands for all samples
+pub alike_place : (count : SampleCount) (way : Way) (k p s : ℕ) (f : ℕ → BlockSamples) → way ≢ Pair → way ≢ Own → sample_place count way f k p s ≡ place_by count way k 0
+alike_place count way k p s f pair own = one_place count way k (own_plane count way (masks_in count f k) p s) pair own
 
 -- block k has its own planes, and its samples are unchanged
-module _ (count : SampleCount) (k : ℕ) (way : Way) (old filled : List BlockSamples) (state : BlockSamples) (some : 0 < length filled) (was : way_in_tile old k ≡ way) (other : way ≢ Own)
+module _ (count : SampleCount) (k : ℕ) (way : Way) (old filled : List BlockSamples) (state : BlockSamples) (some : 0 < length filled) (was : way_in_tile old k ≡ way)
     (own : way_of state k ≡ Own) (others : (m : ℕ) → m < 64 → m ≢ k → way_of state m ≡ way_of (slice_index_or filled 0 none) m)
-    (planes : AreFilled count k (count_of count) (slice_index_or old (place_by count way k 0) none) old filled) where
+    (planes : AreOwnBy count way k old filled) (kept : KeepsOtherPlanes count k old filled) where
   abbrev new : List BlockSamples
   new = slice_set filled 0 state
 
@@ -103,25 +161,25 @@ module _ (count : SampleCount) (k : ℕ) (way : Way) (old filled : List BlockSam
   block_own = way_set filled state k Own some own
 
   first_kept : slice_index_or filled 0 none ≡ slice_index_or old 0 none
-  first_kept = planes.kept 0 (λ s h e. behind_first count Own k s (sym e))
+  first_kept = kept 0 (λ s h e. behind_first count Own k s (sym e))
 
   pub block_ways : KeepsOtherWays k old new
   block_ways m small apart = way_set filled state m (way_in_tile old m) some (others m small apart ∙ ap (λ first. way_of first m) first_kept)
 
   others_kept : KeepsOthers count k old new
-  others_kept p behind apart = behind_set filled state p behind ∙ planes.kept p apart
+  others_kept p behind apart = behind_set filled state p behind ∙ kept p apart
 
   pub block_same : IsSameTile count old new
   block_same i j s h =
       elim (cases_eq (block_in_tile i j) k) [
         | inr apart ↦ others_same count k old new block_ways others_kept i j s h apart
         | inl here ↦
-            by_way count new Own i j s (ap (way_in_tile new) here ∙ block_own)
+            by_way count new Own i j s own_not_pair (ap (way_in_tile new) here ∙ block_own)
             ∙ ap (λ m. stored_at (slice_index_or new (place_by count Own m s) none) (pixel_in_block i j)) here
-            ∙ ap (λ plane. stored_at plane (pixel_in_block i j)) (behind_set filled state (place_by count Own k s) (behind_first count Own k s) ∙ planes.filled s h)
-            ∙ ap (λ p. stored_at (slice_index_or old p none) (pixel_in_block i j)) (sym (one_place count way k s other))
-            ∙ ap (λ m. stored_at (slice_index_or old (place_by count way m s) none) (pixel_in_block i j)) (sym here)
-            ∙ sym (by_way count old way i j s (ap (way_in_tile old) here ∙ was))
+            ∙ ap (λ plane. stored_at plane (pixel_in_block i j)) (behind_set filled state (place_by count Own k s) (behind_first count Own k s))
+            ∙ planes s (pixel_in_block i j) h (omega arith)
+            ∙ ap (λ m. stored_at (in_list old (sample_place count way (in_list old) m (pixel_in_block i j) s)) (pixel_in_block i j)) (sym here)
+            ∙ sym (by_any_way count old way i j s (ap (way_in_tile old) here ∙ was))
       ]
 
 -- ---- the own blocks of a tile, behind its first planes

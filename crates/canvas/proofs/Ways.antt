@@ -5,10 +5,14 @@ use Rattle.std.proofs.lemmas.Bool.Decides.{eqb_tells}
 use Rattle.std.proofs.lemmas.List.{get_or-set_other, get_or-replicate, length-replicate}
 use Rattle.std.proofs.lemmas.Grind.{same_number_lists}
 use Rattle.canvas.specs.declared.way.Way.{Way}
-use Rattle.canvas.specs.declared.way.Way.TheVariants.{Cleared, Single, Own}
+use Rattle.canvas.specs.declared.way.Way.TheVariants.{Cleared, Single, Pair, Own}
+
+-- the way that a red byte says
+abbrev by_byte : ℕ → Way
+by_byte byte = if byte == 1 then Cleared else (if byte == 2 then Single else (if byte == 3 then Pair else Own))
 
 abbrev pub way_by : List ℕ → List ℕ → ℕ → Way
-way_by green red m = if slice_index green 0 == 0 then Own else (if slice_index red m == 1 then Cleared else (if slice_index red m == 2 then Single else Own))
+way_by green red m = if slice_index green 0 == 0 then Own else by_byte (slice_index red m)
 
 -- ---- own blocks
 either_own : (b : Bool) → (if b then Own else Own) ≡ Own
@@ -16,11 +20,11 @@ either_own true = refl
 either_own false = refl
 
 pub own_by_green : (green red : List ℕ) (m : ℕ) → slice_index green 0 ≡ 0 → way_by green red m ≡ Own
-own_by_green green red m e = ap (λ g. if g == 0 then Own else (if slice_index red m == 1 then Cleared else (if slice_index red m == 2 then Single else Own))) e
+own_by_green green red m e = ap (λ g. if g == 0 then Own else by_byte (slice_index red m)) e
 
 pub own_by_red : (green red : List ℕ) (m : ℕ) → slice_index red m ≡ 0 → way_by green red m ≡ Own
 own_by_red green red m e =
-    ap (λ r. if slice_index green 0 == 0 then Own else (if r == 1 then Cleared else (if r == 2 then Single else Own))) e ∙ either_own (slice_index green 0 == 0)
+    ap (λ r. if slice_index green 0 == 0 then Own else by_byte r) e ∙ either_own (slice_index green 0 == 0)
 
 pub own_before : (green old : List ℕ) (m : ℕ) → m < 64 → slice_index old 0 ≡ 0 → (red : List ℕ) → way_by green (replicate 64 0) m ≡ way_by old red m
 own_before green old m l e red = own_by_red green (replicate 64 0) m (get_or-replicate 64 m 0 0 l) ∙ sym (own_by_green old red m e)
@@ -29,6 +33,7 @@ own_before green old m l e red = own_by_red green (replicate 64 0) m (get_or-rep
 IsNotCleared : Way → Type 0
 IsNotCleared Cleared = ⊥
 IsNotCleared Single = Unit {0}
+IsNotCleared Pair = Unit {0}
 IsNotCleared Own = Unit {0}
 
 pub own_not_cleared : Own ≢ Cleared
@@ -39,9 +44,13 @@ pub single_not_cleared : Single ≢ Cleared
 unfolding IsNotCleared
 single_not_cleared e = subst IsNotCleared e tt
 
+pub pair_not_cleared : Pair ≢ Cleared
+unfolding IsNotCleared
+pair_not_cleared e = subst IsNotCleared e tt
+
 pub cleared_by : (green red : List ℕ) (m : ℕ) → slice_index green 0 ≢ 0 → slice_index red m ≡ 1 → way_by green red m ≡ Cleared
 cleared_by green red m some e =
-    ap (λ r. if slice_index green 0 == 0 then Own else (if r == 1 then Cleared else (if r == 2 then Single else Own))) e
+    ap (λ r. if slice_index green 0 == 0 then Own else by_byte r) e
     ∙ elim (eqb_tells (slice_index green 0) 0) [
       | inl none ↦ absurd (some none.1)
       | inr other ↦ ap (λ b. if b then Own else Cleared) other.0
@@ -50,20 +59,21 @@ cleared_by green red m some e =
 some_green : (green red : List ℕ) (m : ℕ) → way_by green red m ≡ Cleared → slice_index green 0 ≢ 0
 some_green green red m e none = own_not_cleared (sym (own_by_green green red m none) ∙ e)
 
-not_either : (b : Bool) → (if b then Single else Own) ≢ Cleared
-not_either true = single_not_cleared
-not_either false = own_not_cleared
+not_any : (b c : Bool) → (if b then Single else (if c then Pair else Own)) ≢ Cleared
+not_any true c = single_not_cleared
+not_any false true = pair_not_cleared
+not_any false false = own_not_cleared
 
 red_one : (green red : List ℕ) (m : ℕ) → way_by green red m ≡ Cleared → slice_index red m ≡ 1
 red_one green red m e =
     elim (eqb_tells (slice_index green 0) 0) [
       | inl none ↦ absurd (some_green green red m e none.1)
       | inr other ↦
-          let by_red : (if slice_index red m == 1 then Cleared else (if slice_index red m == 2 then Single else Own)) ≡ Cleared =
-          sym (ap (λ b. if b then Own else (if slice_index red m == 1 then Cleared else (if slice_index red m == 2 then Single else Own))) other.0) ∙ e in
+          let by_red : by_byte (slice_index red m) ≡ Cleared =
+          sym (ap (λ b. if b then Own else by_byte (slice_index red m)) other.0) ∙ e in
           elim (eqb_tells (slice_index red m) 1) [
             | inl one ↦ one.1
-            | inr not_one ↦ absurd (not_either (slice_index red m == 2) (sym (ap (λ b. if b then Cleared else (if slice_index red m == 2 then Single else Own)) not_one.0) ∙ by_red))
+            | inr not_one ↦ absurd (not_any (slice_index red m == 2) (slice_index red m == 3) (sym (ap (λ b. if b then Cleared else (if slice_index red m == 2 then Single else (if slice_index red m == 3 then Pair else Own))) not_one.0) ∙ by_red))
           ]
     ]
 
@@ -81,4 +91,23 @@ some_of_cleared green red all = some_green green red 0 (all 0 (omega arith))
 -- ---- another red byte
 pub other_way : (green red : List ℕ) (k byte m : ℕ) → m ≢ k → way_by green (slice_set red k byte) m ≡ way_by green red m
 other_way green red k byte m other =
-    ap (λ r. if slice_index green 0 == 0 then Own else (if r == 1 then Cleared else (if r == 2 then Single else Own))) (get_or-set_other red k m byte 0 other)
+    ap (λ r. if slice_index green 0 == 0 then Own else by_byte r) (get_or-set_other red k m byte 0 other)
+
+-- ---- pairs and own blocks
+IsNotPair : Way → Type 0
+IsNotPair Cleared = Unit {0}
+IsNotPair Single = Unit {0}
+IsNotPair Pair = ⊥
+IsNotPair Own = Unit {0}
+
+pub own_not_pair : Own ≢ Pair
+unfolding IsNotPair
+own_not_pair e = subst IsNotPair e tt
+
+pub cleared_not_pair : Cleared ≢ Pair
+unfolding IsNotPair
+cleared_not_pair e = subst IsNotPair e tt
+
+pub single_not_pair : Single ≢ Pair
+unfolding IsNotPair
+single_not_pair e = subst IsNotPair e tt

@@ -35,6 +35,13 @@ IsAlphaOfPixel c first samples i j = IsResolved c.count (λ s. (stored c first s
 abbrev pub IsAlphaIn : SampleCount → List BlockSamples → ℕ → ℕ → ℕ → Type 0
 IsAlphaIn count samples i j = IsResolved count (λ s. (stored_in_tile count samples i j s).alpha)
 
+-- The colour and the alpha of a sample are resolved from these samples.
+pub record IsMeanOf (count : SampleCount) (samples : ℕ → CanvasSample) (mean : CanvasSample) : Type 0 where
+  pub red : IsResolved count (λ s. (samples s).r) mean.r
+  pub green : IsResolved count (λ s. (samples s).g) mean.g
+  pub blue : IsResolved count (λ s. (samples s).b) mean.b
+  pub alpha : IsResolved count (λ s. (samples s).alpha) mean.alpha
+
 -- The bytes of pixel (i, j) in the format.
 pub record IsPixelOf (c : Canvas) (first : ℕ) (samples : List BlockSamples) (format : Format) (i j : ℕ) (bytes : ℕ → ℕ) : Type 0 where
   pub r : ℕ

@@ -1,5 +1,6 @@
 -- Where the samples of a picture lie, in planes that the caller keeps.
 use Rattle.std.specs.Prelude.{◌≡◌, ◌≢◌, ℕ, ◌+◌, ◌-◌, ◌*◌, ◌/◌, ◌%◌, ◌<◌, ◌≤◌, ◌==◌, if◌then◌else◌, List, [], slice_index, slice_index_or}
+use Rattle.std.specs.Int.{bit_at}
 use Rattle.grid.specs.Samples.{count_of}
 use Rattle.grid.specs.declared.sample_count.SampleCount.{SampleCount}
 use Rattle.shade.specs.declared.sample.CanvasSample.{CanvasSample}
@@ -7,7 +8,7 @@ use Rattle.lanes.specs.declared.block_samples.BlockSamples.{BlockSamples}
 use Rattle.lanes.specs.Block.{stored_at}
 use Rattle.canvas.specs.declared.canvas.Canvas.{Canvas}
 use Rattle.canvas.specs.declared.way.Way.{Way}
-use Rattle.canvas.specs.declared.way.Way.TheVariants.{Cleared, Single, Own}
+use Rattle.canvas.specs.declared.way.Way.TheVariants.{Cleared, Single, Pair, Own}
 
 -- A picture is at most 4096 by 4096 pixels, and not empty (this project's limits).
 pub record IsCanvasSize (width height : ℕ) : Type 0 where
@@ -62,26 +63,53 @@ pub record HasTile (c : Canvas) (first end : ℕ) (column row : ℕ) : Type 0 wh
 abbrev pub block_in_tile : ℕ → ℕ → ℕ
 block_in_tile i j = j % 64 / 8 * 8 + i % 64 / 8
 
+-- The number of pixel (i, j) among the 64 of its block, row by row.
+abbrev pub pixel_in_block : ℕ → ℕ → ℕ
+pixel_in_block i j = 8 * (j % 8) + i % 8
+
 -- The way in which block k of a tile keeps its samples, by the tile's first plane. Its red byte k says so, unless its first green
 -- byte is 0, which stands for 64 own blocks.
 abbrev pub way_of : BlockSamples → ℕ → Way
 way_of state k =
-    if slice_index state.g 0 == 0 then Own else (if slice_index state.r k == 1 then Cleared else (if slice_index state.r k == 2 then Single else Own))
+    if slice_index state.g 0 == 0 then Own
+    else (if slice_index state.r k == 1 then Cleared else (if slice_index state.r k == 2 then Single else (if slice_index state.r k == 3 then Pair else Own)))
 
--- The index of the plane of sample s of block k among those of its tile, if the block keeps its samples in this way. Plane 1 is that
--- of the block to which the tile was cleared. The own planes of a block lie together, sample by sample.
+-- The index of own plane n of block k among the planes of its tile, if the block keeps its samples in this way. Plane 1 is that of the
+-- block to which the tile was cleared. The own planes of a block lie together: one for each sample of a pixel.
 abbrev pub place_by : SampleCount → Way → ℕ → ℕ → ℕ
-place_by count Cleared k s = 1
-place_by count Single k s = 1 + (k + 1) * count_of count
-place_by count Own k s = 1 + (k + 1) * count_of count + s
+place_by count Cleared k n = 1
+place_by count Single k n = 1 + (k + 1) * count_of count
+place_by count Pair k n = 1 + (k + 1) * count_of count + n
+place_by count Own k n = 1 + (k + 1) * count_of count + n
 
--- The index of the plane of sample s of pixel (i, j) among those of its tile, whose first plane this is.
-abbrev pub place_in_tile : SampleCount → BlockSamples → ℕ → ℕ → ℕ → ℕ
-place_in_tile count state i j s = place_by count (way_of state (block_in_tile i j)) (block_in_tile i j) s
+-- The mask of sample index s, 64 bits that a plane has in place of depths: bit p says in which plane of a pair pixel p has the sample.
+abbrev pub mask_of : BlockSamples → ℕ → ℕ
+mask_of masks s =
+    slice_index masks.z (4 * s) + 65536 * slice_index masks.z (4 * s + 1) + 4294967296 * slice_index masks.z (4 * s + 2) + 281474976710656 * slice_index masks.z (4 * s + 3)
+
+-- Which of the own planes of a block has sample s of pixel p. A pair has two of them, the first and the middle one, and these masks.
+abbrev pub own_plane : SampleCount → Way → BlockSamples → ℕ → ℕ → ℕ
+own_plane count Cleared masks p s = s
+own_plane count Single masks p s = s
+own_plane count Pair masks p s = if bit_at (mask_of masks s) p == 1 then count_of count / 2 else 0
+own_plane count Own masks p s = s
+
+-- The masks of block k of a tile with these planes, if it is a pair: the last of its own planes.
+abbrev pub masks_in : SampleCount → (ℕ → BlockSamples) → ℕ → BlockSamples
+masks_in count planes k = planes (1 + (k + 1) * count_of count + (count_of count - 1))
+
+-- The index of the plane of sample s of pixel p of block k among those of its tile, if the block keeps its samples in this way.
+abbrev pub sample_place : SampleCount → Way → (ℕ → BlockSamples) → ℕ → ℕ → ℕ → ℕ
+sample_place count way planes k p s = place_by count way k (own_plane count way (masks_in count planes k) p s)
+
+-- The index of the plane of sample s of pixel (i, j) among those of its tile.
+abbrev pub place_in_tile : SampleCount → (ℕ → BlockSamples) → ℕ → ℕ → ℕ → ℕ
+place_in_tile count planes i j s =
+    sample_place count (way_of (planes 0) (block_in_tile i j)) planes (block_in_tile i j) (pixel_in_block i j) s
 
 -- Sample s of pixel (i, j), by the planes of its tile. A plane has one sample of each pixel of the block, row by row.
 abbrev pub sample_in : SampleCount → (ℕ → BlockSamples) → ℕ → ℕ → ℕ → CanvasSample
-sample_in count planes i j s = stored_at (planes (place_in_tile count (planes 0) i j s)) (8 * (j % 8) + i % 8)
+sample_in count planes i j s = stored_at (planes (place_in_tile count planes i j s)) (pixel_in_block i j)
 
 -- Plane k of the tile of pixel (i, j), among those of the tile rows from `first` on. Tiles lie from left to right.
 abbrev pub plane_of : Canvas → ℕ → List BlockSamples → ℕ → ℕ → ℕ → BlockSamples
@@ -92,18 +120,56 @@ plane_of c first samples i j k =
 abbrev pub stored : Canvas → ℕ → List BlockSamples → ℕ → ℕ → ℕ → CanvasSample
 stored c first samples i j s = sample_in c.count (plane_of c first samples i j) i j s
 
+-- The planes of a tile by their index.
+abbrev pub in_list : List BlockSamples → ℕ → BlockSamples
+in_list samples k = slice_index_or samples k (record { z = []; r = []; g = []; b = []; alpha = [] })
+
 -- Sample s of the pixel in a column and a row of a tile, as it is stored in the tile's planes.
 abbrev pub stored_in_tile : SampleCount → List BlockSamples → ℕ → ℕ → ℕ → CanvasSample
-stored_in_tile count samples i j s = sample_in count (λ k. slice_index_or samples k (record { z = []; r = []; g = []; b = []; alpha = [] })) i j s
+stored_in_tile count samples i j s = sample_in count (in_list samples) i j s
 
 -- The way in which block k of a tile keeps its samples, by the tile's planes.
 abbrev pub way_in_tile : List BlockSamples → ℕ → Way
-way_in_tile samples k = way_of (slice_index_or samples 0 (record { z = []; r = []; g = []; b = []; alpha = [] })) k
+way_in_tile samples k = way_of (in_list samples 0) k
+
+-- The way in which the block of pixel (i, j) keeps its samples, by the planes of its tile row.
+abbrev pub way_in_row : Canvas → List BlockSamples → ℕ → ℕ → Way
+way_in_row c samples i j = way_of (plane_of c (j / 64) samples i j 0) (block_in_tile i j)
 
 -- Each sample of the tile is unchanged. It may be kept in another way.
 abbrev pub IsSameTile : SampleCount → List BlockSamples → List BlockSamples → Type 0
 IsSameTile count old new = (i j s : ℕ) → s < count_of count → stored_in_tile count new i j s ≡ stored_in_tile count old i j s
 
+-- Each sample of the tile that is not one of block k is unchanged.
+abbrev pub KeepsOtherSamples : SampleCount → ℕ → List BlockSamples → List BlockSamples → Type 0
+KeepsOtherSamples count k old new =
+    (i j s : ℕ) → s < count_of count → block_in_tile i j ≢ k → stored_in_tile count new i j s ≡ stored_in_tile count old i j s
+
 -- All blocks of the tile but block k keep their samples in the way in which they did.
 abbrev pub KeepsOtherWays : ℕ → List BlockSamples → List BlockSamples → Type 0
 KeepsOtherWays k old new = (m : ℕ) → m < 64 → m ≢ k → way_in_tile new m ≡ way_in_tile old m
+
+-- Where the mask has a bit, the first sample, else the second.
+abbrev pub chosen : ℕ → ℕ → CanvasSample → CanvasSample → CanvasSample
+chosen mask p set clear = if bit_at mask p == 1 then set else clear
+
+-- Each sample of block k, which kept them in this way before, is now in its own plane.
+abbrev pub AreOwnBy : SampleCount → Way → ℕ → List BlockSamples → List BlockSamples → Type 0
+AreOwnBy count way k old new =
+    (s p : ℕ) → s < count_of count → p < 64
+    → stored_at (in_list new (place_by count Own k s)) p ≡ stored_at (in_list old (sample_place count way (in_list old) k p s)) p
+
+-- All planes of the tile but the own ones of block k are unchanged.
+abbrev pub KeepsOtherPlanes : SampleCount → ℕ → List BlockSamples → List BlockSamples → Type 0
+KeepsOtherPlanes count k old new =
+    (n : ℕ) → ((s : ℕ) → s < count_of count → n ≢ place_by count Own k s) → in_list new n ≡ in_list old n
+
+-- The masks of block k of a tile, which is a pair, are these.
+abbrev pub HasMasks : SampleCount → ℕ → List ℕ → List BlockSamples → Type 0
+HasMasks count k masks samples = (s : ℕ) → s < count_of count → mask_of (masks_in count (in_list samples) k) s ≡ slice_index masks s
+
+-- Of block k sample s of a pixel is that of this plane where mask s has the pixel's bit, else it is unchanged.
+abbrev pub AreReplaced : SampleCount → ℕ → List ℕ → BlockSamples → List BlockSamples → List BlockSamples → Type 0
+AreReplaced count k masks plane old new =
+    (i j s : ℕ) → s < count_of count → block_in_tile i j ≡ k
+    → stored_in_tile count new i j s ≡ chosen (slice_index masks s) (pixel_in_block i j) (stored_at plane (pixel_in_block i j)) (stored_in_tile count old i j s)

@@ -13,6 +13,7 @@ ghost use Rattle.canvas.specs.Colours.{IsPixelOf, IsPixelIn, IsTilePixel, IsSamp
 use crate::canvas::Canvas;
 use crate::format::{Format, arranged};
 use crate::misfit::Misfit;
+use crate::pair_means::means_of_pair;
 use crate::place::{block_in_tile, place_by};
 use crate::view::View;
 use crate::way::{Way, way_of};
@@ -136,20 +137,27 @@ impl Canvas {
     {
         let number = block_in_tile(8 * block, j);
         let way = way_of(&samples[0], number);
-        if let Way::Own = way {
-            let tile = self.tile(block / 8, j / 64);
-            resolve_run::<MORE>(
-                &tile,
-                &samples[own..],
-                j % 64,
-                block % 8,
-                format,
-                count,
-                bytes,
-            );
-        } else {
-            let place = place_by(self.count, way, number, 0);
-            resolve_plane(&samples[place..place + 1], j % 8, format, count, bytes);
+        match way {
+            Way::Own => {
+                let tile = self.tile(block / 8, j / 64);
+                resolve_run::<MORE>(
+                    &tile,
+                    &samples[own..],
+                    j % 64,
+                    block % 8,
+                    format,
+                    count,
+                    bytes,
+                );
+            }
+            Way::Pair => {
+                let means = means_of_pair(self.count, samples, number, j % 8);
+                resolve_plane(&[means], j % 8, format, count, bytes);
+            }
+            _ => {
+                let place = place_by(self.count, way, number, 0);
+                resolve_plane(&samples[place..place + 1], j % 8, format, count, bytes);
+            }
         }
     }
 
@@ -205,6 +213,37 @@ impl Canvas {
 }
 
 impl Canvas {
+    /// Writes the colours of the samples `s` of the first `count` of eight pixels of row `j`, from column 8 * `block`
+    /// on, from the samples of their tile row.
+    #[inline]
+    fn colour_eight(
+        &self,
+        block: u32,
+        j: u32,
+        s: u32,
+        samples: &[BlockSamples],
+        format: Format,
+        count: u32,
+        bytes: &mut [u8],
+    )
+        requires column { block / 8 < columns_of self.now }
+        requires sample { s < count_of self.now.count }
+        requires samples { length samples.now ≡ planes_of_row self.now }
+        requires count { count ≤ 8 }
+        requires bytes { length bytes.old ≡ count * pixel_bytes format }
+        ensures { (i : ℕ) → i < count →
+            IsSampleColour format (stored self.now (j / 64) samples.now (8 * block + i) j s)
+            (λ k. slice_index bytes.new (i * pixel_bytes format + k)) }
+    {
+        match self.merged(samples, 8 * block, j, s) {
+            Some(plane) => resolve_plane(&[plane], j % 8, format, count, bytes),
+            None => {
+                let place = self.place(samples, 8 * block, j, s);
+                resolve_plane(&samples[place..place + 1], j % 8, format, count, bytes);
+            }
+        }
+    }
+
     /// Writes the colours of the samples `s` of row `j` of pixels, from the samples of its tile row.
     fn colour_row(&self, j: u32, s: u32, samples: &[BlockSamples], format: Format, bytes: &mut [u8])
         requires row { j < self.now.height }
@@ -218,11 +257,12 @@ impl Canvas {
         let unit = format.pixel_bytes();
         for block in 0..(self.width + 7) / 8 {
             let count = (self.width - 8 * block).min(8);
-            let place = self.place(samples, 8 * block, j, s);
             let from = 8 * block as usize * unit;
-            resolve_plane(
-                &samples[place..place + 1],
-                j % 8,
+            self.colour_eight(
+                block,
+                j,
+                s,
+                samples,
                 format,
                 count,
                 &mut bytes[from..from + count as usize * unit],

@@ -1,9 +1,9 @@
 //! The depths and the ids of the samples of one index, written to the caller's memory.
-ghost use Rattle.std.specs.Prelude.{◌≡◌, ◌↔◌, ℕ, ◌+◌, ◌/◌, ◌<◌, ◌≤◌, length, map, slice_index, IsOk, OnOk, OnErr, IfErr};
+ghost use Rattle.std.specs.Prelude.{◌≡◌, ◌↔◌, ℕ, ◌+◌, ◌*◌, ◌/◌, ◌<◌, ◌≤◌, length, map, slice_index, IsOk, OnOk, OnErr, IfErr};
 ghost use Rattle.lanes.specs.Block.{stored_at};
 ghost use Rattle.shade.specs.declared.sample.CanvasSample.{CanvasSample};
 ghost use Rattle.grid.specs.Samples.{count_of};
-ghost use Rattle.canvas.specs.Layout.{stored, planes_of_row};
+ghost use Rattle.canvas.specs.Layout.{columns_of, stored, planes_of_row};
 ghost use Rattle.canvas.specs.Entries.{FitEntries, IsEntriesMisfit};
 ghost use Rattle.canvas.specs.Colours.{id_of, AreEntries, AreDepths, AreIds};
 
@@ -85,6 +85,34 @@ fn write_run<E: Entry>(plane: &BlockSamples, first: usize, entries: &mut [E])
 }
 
 impl Canvas {
+    /// Writes the entries of the samples `s` of at most eight pixels of row `j`, from column 8 * `block` on, from the
+    /// samples of their tile row.
+    #[inline]
+    fn entry_eight<E: Entry>(
+        &self,
+        block: u32,
+        j: u32,
+        s: u32,
+        samples: &[BlockSamples],
+        entries: &mut [E],
+    )
+        requires column { block / 8 < columns_of self.now }
+        requires sample { s < count_of self.now.count }
+        requires samples { length samples.now ≡ planes_of_row self.now }
+        requires entries { length entries.old ≤ 8 }
+        ensures { (i : ℕ) → i < length entries.old → slice_index (map E.number entries.new) i ≡
+            E.number_of (stored self.now (j / 64) samples.now (8 * block + i) j s) }
+    {
+        let first = (8 * (j % 8)) as usize;
+        match self.merged(samples, 8 * block, j, s) {
+            Some(plane) => write_run(&plane, first, entries),
+            None => {
+                let place = self.place(samples, 8 * block, j, s);
+                write_run(&samples[place], first, entries);
+            }
+        }
+    }
+
     /// Writes the entries of the samples `s` of row `j` of pixels, from the samples of its tile row, block by block.
     fn entry_row<E: Entry>(&self, j: u32, s: u32, samples: &[BlockSamples], entries: &mut [E])
         requires sample { s < count_of self.now.count }
@@ -96,12 +124,7 @@ impl Canvas {
         for block in 0..(self.width + 7) / 8 {
             let many = (self.width - 8 * block).min(8) as usize;
             let from = 8 * block as usize;
-            let place = self.place(samples, 8 * block, j, s);
-            write_run(
-                &samples[place],
-                (8 * (j % 8)) as usize,
-                &mut entries[from..from + many],
-            );
+            self.entry_eight(block, j, s, samples, &mut entries[from..from + many]);
         }
     }
 }

@@ -2,13 +2,13 @@
 ghost use Rattle.std.specs.Prelude.{◌≡◌, ◌↔◌, ◌⊎◌, ℕ, ◌*◌, ◌<◌, ◌≤◌, length, take, slice_index, IsSome, IfSome, IsOk, IsTrue, IfOk, OnErr, IfErr};
 ghost use Rattle.lanes.specs.Block.{stored_at};
 ghost use Rattle.grid.specs.Samples.{count_of};
-ghost use Rattle.canvas.specs.Layout.{planes_of_tile, stored_in_tile};
+ghost use Rattle.canvas.specs.Layout.{planes_of_tile, block_in_tile, pixel_in_block, stored_in_tile};
 ghost use Rattle.canvas.specs.Colours.{id_of};
 ghost use Rattle.canvas.specs.Tiles.{FitTile, IsTileMisfit, tile_entries as entries_of, entry_in_tile, said_of, AreTileIds, IsUniformTile, IsIdCount};
 
 use crate::entries::{Entry, write_entries};
 use crate::misfit::Misfit;
-use crate::place::place_in_tile;
+use crate::place::{merged_in_tile, place_in_tile};
 use crate::tile_planes::is_cleared;
 use crate::view::View;
 use grid::SampleCount;
@@ -52,6 +52,25 @@ fn cleared_id(count: SampleCount, samples: &[BlockSamples]) -> Option<u32>
     }
 }
 
+/// Writes the ids of the samples `s` of block `k` of a tile.
+#[inline]
+fn write_block_ids(count: SampleCount, samples: &[BlockSamples], k: u32, s: u32, ids: &mut [u32])
+    requires block { k < 64 }
+    requires sample { s < count_of count }
+    requires samples { length samples.now ≡ planes_of_tile count }
+    requires ids { length ids.old ≡ 64 }
+    ensures { (i j : ℕ) → block_in_tile i j ≡ k → slice_index ids.new (pixel_in_block i j) ≡
+        id_of (stored_in_tile count samples.now i j s) }
+{
+    match merged_in_tile(samples, count, k as usize, s) {
+        Some(plane) => write_entries(&plane, 0, 64, ids),
+        None => {
+            let place = place_in_tile(samples, count, 8 * (k % 8), 8 * (k / 8), s);
+            write_entries(&samples[place], 0, 64, ids);
+        }
+    }
+}
+
 /// Writes the ids of all samples of a tile, plane by plane.
 fn write_ids(count: SampleCount, samples: &[BlockSamples], ids: &mut [u32])
     requires samples { length samples.now ≡ planes_of_tile count }
@@ -61,11 +80,14 @@ fn write_ids(count: SampleCount, samples: &[BlockSamples], ids: &mut [u32])
 {
     let many = count.count();
     for number in 0..64 * many {
-        let block = number / many;
-        let (i, j) = (8 * (block % 8), 8 * (block / 8));
-        let place = place_in_tile(&samples[0], count, i, j, number % many);
         let from = 64 * number as usize;
-        write_entries(&samples[place], 0, 64, &mut ids[from..from + 64]);
+        write_block_ids(
+            count,
+            samples,
+            number / many,
+            number % many,
+            &mut ids[from..from + 64],
+        );
     }
 }
 

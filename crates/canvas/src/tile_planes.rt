@@ -5,9 +5,10 @@ ghost use Rattle.std.specs.Prelude.{◌≡◌, ◌≢◌, ◌↔◌, ℕ, ◌%�
 ghost use Rattle.grid.specs.Samples.{count_of};
 ghost use Rattle.shade.specs.Canvas.{with_alpha};
 ghost use Rattle.lanes.specs.Block.{stored_at};
-ghost use Rattle.canvas.specs.declared.way.Way.TheVariants.{Cleared as AsCleared, Single as AsSingle, Own as AsOwn};
-ghost use Rattle.canvas.specs.Layout.{planes_of_tile, block_in_tile, stored_in_tile, way_in_tile, IsSameTile, KeepsOtherWays};
+ghost use Rattle.canvas.specs.declared.way.Way.TheVariants.{Cleared as AsCleared, Single as AsSingle, Pair as AsPair, Own as AsOwn};
+ghost use Rattle.canvas.specs.Layout.{planes_of_tile, block_in_tile, pixel_in_block, stored_in_tile, way_in_tile, IsSameTile, KeepsOtherSamples, KeepsOtherWays, AreOwnBy, KeepsOtherPlanes};
 
+use crate::pair::{mask_of, merged};
 use crate::place::place_by;
 use crate::way::{Way, all_cleared, says_cleared, says_own, set_all_own, set_way, way_of};
 use grid::SampleCount;
@@ -40,6 +41,49 @@ pub(crate) fn clear_tile(
     samples[1] = BlockSamples::filled(sample, alpha);
 }
 
+/// Copies the plane that stands for all samples of block `k` of a tile to each of its own planes.
+fn fill_alike(count: SampleCount, way: Way, k: usize, samples: &mut [BlockSamples])
+    requires way { (way ≢ AsPair) × (way ≢ AsOwn) }
+    requires block { k < 64 }
+    requires samples { length samples.old ≡ planes_of_tile count }
+    ensures own { AreOwnBy count way k samples.old samples.new }
+    ensures others { KeepsOtherPlanes count k samples.old samples.new }
+{
+    let plane = samples[place_by(count, way, k, 0)];
+    for s in 0..count.count() {
+        samples[place_by(count, Way::Own, k, s)] = plane;
+    }
+}
+
+/// Puts each of the own planes of block `k` of a tile together of the two planes of the pair.
+fn fill_pair(count: SampleCount, k: usize, samples: &mut [BlockSamples])
+    requires block { k < 64 }
+    requires samples { length samples.old ≡ planes_of_tile count }
+    ensures own { AreOwnBy count AsPair k samples.old samples.new }
+    ensures others { KeepsOtherPlanes count k samples.old samples.new }
+{
+    let first = samples[place_by(count, Way::Pair, k, 0)];
+    let second = samples[place_by(count, Way::Pair, k, count.count() / 2)];
+    let masks = samples[place_by(count, Way::Pair, k, count.count() - 1)];
+    for s in 0..count.count() {
+        samples[place_by(count, Way::Own, k, s)] = merged(&first, &second, mask_of(&masks, s));
+    }
+}
+
+/// Writes each sample of block `k` of a tile, which keeps them in this way, to its own plane.
+fn fill_planes(count: SampleCount, way: Way, k: usize, samples: &mut [BlockSamples])
+    requires way { way ≢ AsOwn }
+    requires block { k < 64 }
+    requires samples { length samples.old ≡ planes_of_tile count }
+    ensures own { AreOwnBy count way k samples.old samples.new }
+    ensures others { KeepsOtherPlanes count k samples.old samples.new }
+{
+    match way {
+        Way::Pair => fill_pair(count, k, samples),
+        _ => fill_alike(count, way, k, samples),
+    }
+}
+
 /// Gives block `k` of a tile its own planes, one for each sample of a pixel, so that each sample can be changed.
 pub fn fill_block(count: SampleCount, k: usize, samples: &mut [BlockSamples])
     requires block { k < 64 }
@@ -52,10 +96,7 @@ pub fn fill_block(count: SampleCount, k: usize, samples: &mut [BlockSamples])
     if let Way::Own = way {
         return;
     }
-    let plane = samples[place_by(count, way, k, 0)];
-    for s in 0..count.count() {
-        samples[place_by(count, Way::Own, k, s)] = plane;
-    }
+    fill_planes(count, way, k, samples);
     set_way(&mut samples[0], k, Way::Own);
 }
 
@@ -92,7 +133,7 @@ pub fn single_block(count: SampleCount, k: usize, samples: &mut [BlockSamples]) 
             true
         }
         Way::Single => true,
-        Way::Own => false,
+        Way::Pair | Way::Own => false,
     }
 }
 
@@ -103,9 +144,8 @@ pub fn make_single(count: SampleCount, k: usize, plane: &BlockSamples, samples: 
     ensures single { way_in_tile samples.new k ≡ AsSingle }
     ensures ways { KeepsOtherWays k samples.old samples.new }
     ensures made { (i j s : ℕ) → s < count_of count → block_in_tile i j ≡ k →
-        stored_in_tile count samples.new i j s ≡ stored_at plane.now (8 * (j % 8) + i % 8) }
-    ensures others { (i j s : ℕ) → s < count_of count → block_in_tile i j ≢ k →
-        stored_in_tile count samples.new i j s ≡ stored_in_tile count samples.old i j s }
+        stored_in_tile count samples.new i j s ≡ stored_at plane.now (pixel_in_block i j) }
+    ensures others { KeepsOtherSamples count k samples.old samples.new }
 {
     samples[place_by(count, Way::Single, k, 0)] = *plane;
     set_way(&mut samples[0], k, Way::Single);

@@ -2,7 +2,7 @@
 ghost use Rattle.std.specs.Prelude.{◌≡◌, ◌↔◌, ◌⊎◌, ℕ, ◌+◌, ◌*◌, ◌/◌, ◌%◌, ◌<◌, ◌≤◌, length, slice_index, slice_index_or, [], IsOk, OnOk, OnErr, IfErr};
 ghost use Rattle.lanes.specs.Block.{stored_at};
 ghost use Rattle.grid.specs.Samples.{count_of};
-ghost use Rattle.canvas.specs.Layout.{HasTile, columns_of, planes_of_tile, planes_of_row, planes_of_rows, place_in_tile as place_of, stored_in_tile};
+ghost use Rattle.canvas.specs.Layout.{HasTile, columns_of, planes_of_tile, planes_of_row, planes_of_rows, place_in_tile as place_of, in_list, stored_in_tile};
 ghost use Rattle.canvas.specs.Loaded.{AreChanged};
 ghost use Rattle.canvas.specs.Tiles.{IsInTile, FitTileOrOne, IsTileMisfit, tile_entries as entries_of, entry_in_tile, said_of, with_colour, IsUniformTile, IsUniform, AreTileColours};
 
@@ -56,7 +56,7 @@ fn fill_plane(plane: &mut BlockSamples, colour: u32)
 
 /// The end of the planes in which the samples of a tile lie.
 fn end_of_planes(count: SampleCount, samples: &[BlockSamples]) -> usize
-    ensures read { (i j s : ℕ) → s < count_of count → place_of count (slice_index_or samples.now 0 (record { z = []; r = []; g = []; b = []; alpha = [] })) i j s < result }
+    ensures read { (i j s : ℕ) → s < count_of count → place_of count (in_list samples.now) i j s < result }
     ensures within { result ≤ planes_of_tile count }
     ensures some { 1 ≤ result }
 {

@@ -1,6 +1,6 @@
 //! The ways in which the blocks of a tile keep their samples, as its first plane says them.
 ghost use Rattle.std.specs.Prelude.{◌≡◌, ◌≢◌, ◌↔◌, ℕ, ◌<◌, slice_index, IsTrue};
-ghost use Rattle.canvas.specs.declared.way.Way.TheVariants.{Cleared as AsCleared, Own as AsOwn};
+ghost use Rattle.canvas.specs.declared.way.Way.TheVariants.{Cleared as AsCleared, Pair as AsPair, Own as AsOwn};
 ghost use Rattle.canvas.specs.Layout.{way_of as the_way};
 
 use lanes::BlockSamples;
@@ -13,8 +13,23 @@ pub enum Way {
     Cleared,
     /// In the first of its own planes alone, in which a sample stands for all of its pixel.
     Single,
+    /// In two of its own planes. Masks in a third say which of the two has a sample of a pixel.
+    Pair,
     /// In its own planes, one for each sample of a pixel.
     Own,
+}
+
+impl Way {
+    /// Whether one plane stands for all samples of the block's pixels.
+    #[inline]
+    pub(crate) fn is_alike(self) -> bool
+        ensures { IsTrue result ↔ (self ≢ AsPair) × (self ≢ AsOwn) }
+    {
+        match self {
+            Way::Cleared | Way::Single => true,
+            Way::Pair | Way::Own => false,
+        }
+    }
 }
 
 /// The red byte of a block that is kept as the one to which the tile was cleared.
@@ -22,6 +37,9 @@ const CLEARED: u8 = 1;
 
 /// The red byte of a block that is kept in one plane of its own.
 const SINGLE: u8 = 2;
+
+/// The red byte of a block that is kept as a pair.
+const PAIR: u8 = 3;
 
 /// The red byte of a block that is kept in its own planes. So is one with any other byte.
 const OWN: u8 = 0;
@@ -38,6 +56,7 @@ pub(crate) fn way_of(state: &BlockSamples, k: usize) -> Way
     match state.r[k] {
         CLEARED => Way::Cleared,
         SINGLE => Way::Single,
+        PAIR => Way::Pair,
         _ => Way::Own,
     }
 }
@@ -99,6 +118,7 @@ pub(crate) fn set_way(state: &mut BlockSamples, k: usize, way: Way)
     state.r[k] = match way {
         Way::Cleared => CLEARED,
         Way::Single => SINGLE,
+        Way::Pair => PAIR,
         Way::Own => OWN,
     };
 }

@@ -2,11 +2,11 @@ use Rattle.std.proofs.Common.{◌≡◌, ◌∙◌, sym, ap, subst, ◌+◌, ◌
 use Rattle.std.specs.Prelude.{slice_index_or}
 use Rattle.grid.specs.Samples.{count_of}
 use Rattle.lanes.specs.Block.{stored_at}
-use Rattle.canvas.specs.Layout.{block_in_tile, place_by, place_in_tile}
+use Rattle.canvas.specs.Layout.{block_in_tile, place_in_tile, pixel_in_block, in_list, sample_place}
 use Rattle.canvas.specs.Tiles.{entry_in_tile, with_colour}
 use Rattle.canvas.proofs.Cut.{part_of}
 use Rattle.canvas.proofs.Places.{none}
-use Rattle.canvas.proofs.TilePlanes.{pixel_in_block, own_place}
+use Rattle.canvas.proofs.TilePlanes.{own_place}
 use Rattle.canvas.proofs.TileEntries.{number_in, number_below, AreRecoloured, none_recoloured, one_recoloured, sample_recoloured}
 use Rattle.canvas.proofs.tile_store.store_each.Goals as goal
 
@@ -40,11 +40,11 @@ returns c i j s h =
     let filled = c.fill_tile.new.samples in
     let q : ℕ = block_in_tile i j in
     let f : ℕ → ℕ → ℕ = λ p k. slice_index colours (64 * (p - own) + k) in
-    let state = slice_index_or filled 0 none in
-    let changed : place_in_tile count state i j s ≡ 1 + (q + 1) * count_of count + s = ap (λ way. place_by count way q s) (c.fill_tile.ensures.own q) in
-    let place : place_in_tile count state i j s ≡ own + number_in count i j s = changed ∙ sym (own_place count q s) ∙ ap (λ m. 1 + m + (q * count_of count + s)) (sym c.count-many.ensures) in
+    let changed : place_in_tile count (in_list filled) i j s ≡ 1 + (q + 1) * count_of count + s =
+    ap (λ way. sample_place count way (in_list filled) q (pixel_in_block i j) s) (c.fill_tile.ensures.own q) in
+    let place : place_in_tile count (in_list filled) i j s ≡ own + number_in count i j s = changed ∙ sym (own_place count q s) ∙ ap (λ m. 1 + m + (q * count_of count + s)) (sym c.count-many.ensures) in
     let below = number_below count q s (omega arith) h in
     let entry : 64 * (own + number_in count i j s - own) + pixel_in_block i j ≡ entry_in_tile count i j s = omega arith in
-    sample_recoloured count own (own + number) (slice_index colours (entry_in_tile count i j s)) f filled c.loop-number.samples i j s (omega arith) (omega (arith, place)) (omega (arith, place, below, c.loop-number-test.false, c.count-many.ensures))
+    sample_recoloured count own (own + number) (slice_index colours (entry_in_tile count i j s)) f filled c.loop-number.samples i j s h (omega arith) (omega (arith, place)) (omega (arith, place, below, c.loop-number-test.false, c.count-many.ensures))
     (ap (λ p. f p (pixel_in_block i j)) place ∙ ap (λ m. slice_index colours m) entry) c.loop-number.invariant
     ∙ ap (λ x. with_colour (slice_index colours (entry_in_tile count i j s)) x) (c.fill_tile.ensures.kept i j s h)

@@ -1,12 +1,8 @@
-use Rattle.std.proofs.Common.{◌≡◌, ◌∙◌, ap, ◌+◌, ◌-◌, ◌*◌, ◌/◌, ◌%◌, ◌<◌, ◌≤◌, ℕ, min, subst, take, drop, length, slice_index, arith}
-use Rattle.std.specs.Prelude.{slice_index_or}
+use Rattle.std.proofs.Common.{◌≡◌, ◌∙◌, ap, ◌+◌, ◌-◌, ◌*◌, ◌/◌, ◌<◌, ◌≤◌, ℕ, min, subst, length, arith}
 use Rattle.std.proofs.Math.Nat.{add-mul, mul-le-mul_right}
-use Rattle.lanes.specs.Block.{stored_at}
 use Rattle.canvas.specs.Layout.{stored}
 use Rattle.canvas.specs.Pixels.{pixel_bytes}
 use Rattle.canvas.specs.Colours.{IsSampleColour}
-use Rattle.canvas.proofs.Cut.{part_of}
-use Rattle.canvas.proofs.Places.{none}
 use Rattle.canvas.proofs.PixelColours.{sample_colour_same}
 use Rattle.canvas.proofs.Units.{AreUnits, no_units, more_units, all_units}
 use Rattle.canvas.proofs.canvas.Canvas.colour_row.Goals as goal
@@ -25,12 +21,10 @@ loop-block-preserved c =
     let format = c.args.format in
     let block : ℕ = c.loop-block.block in
     let many : ℕ = c.min-count.result in
-    let run = c.resolve_plane.new.bytes in
+    let run = c.colour_eight.new.bytes in
     let unit : ℕ = c.pixel_bytes-unit.result in
     let w : ℕ = pixel_bytes format in
     let is_unit : unit ≡ w = c.pixel_bytes-unit.ensures in
-    let place : ℕ = c.place-place.result in
-    let n : ℕ = place + 1 - place in
     let at : ℕ = 8 * block * unit in
     let whole : at + many * unit - at ≡ many * unit = omega arith in
     let is : many ≡ min (self.width - 8 * block) 8 = c.min-count.ensures in
@@ -40,19 +34,10 @@ loop-block-preserved c =
     let length_is : at + many * unit - at ≡ many * w = whole ∙ ap (λ u. many * u) is_unit in
     let few : (8 * block + many) * w ≤ self.width * w = mul-le-mul_right w (let within : 8 * block + many ≤ self.width = omega (arith, is, some) in within) in
     let room : at + (at + many * unit - at) ≤ length c.loop-block.bytes = omega (arith, few, long, begin, length_is, add-mul (8 * block) many w) in
-    let here : (i : ℕ) → i < many → IsSampleColour format (stored self (j / 64) xs (8 * block + i) j s) (λ k. slice_index run (i * w + k)) =
-    λ i l.
-    let first : 8 * block % 8 ≡ 0 = omega arith in
-    let inside : 8 * block % 8 + i < 8 = omega (arith, l, is, first) in
-    let pixel : 8 * (j % 8) + i ≡ 8 * (j % 8) + (8 * block % 8 + i) = omega (arith, first) in
-    let plane : slice_index_or (take n (drop place xs)) 0 none ≡ slice_index_or xs place none = part_of xs place n none 0 (omega arith) ∙ ap (λ p. slice_index_or xs p none) (let same : place + 0 ≡ place = omega arith in same) in
-    subst (λ sample. IsSampleColour format sample (λ k. slice_index run (i * w + k)))
-    (ap (λ p. stored_at p (8 * (j % 8) + i)) plane ∙ ap (λ k. stored_at (slice_index_or xs place none) k) pixel ∙ c.place-place.ensures.stored i inside)
-    (c.resolve_plane.ensures i l) in
     let before : min (8 * block) self.width ≡ 8 * block = omega (arith, some) in
     let P : ℕ → (ℕ → ℕ) → Type 0 = λ i bytes. IsSampleColour format (stored self (j / 64) xs i j s) bytes in
     more_units w P (λ i f h. sample_colour_same format (stored self (j / 64) xs i j s) f h) (8 * block) many at (at + many * unit - at) c.loop-block.bytes run begin length_is room
-    (omega (arith, c.resolve_plane.auto.bytes, room)) (subst (λ m. AreUnits w P m c.loop-block.bytes) before c.loop-block.invariant) here (min (8 * (block + 1)) self.width) (omega (arith, is, some))
+    (omega (arith, c.colour_eight.auto.bytes, room)) (subst (λ m. AreUnits w P m c.loop-block.bytes) before c.loop-block.invariant) c.colour_eight.ensures (min (8 * (block + 1)) self.width) (omega (arith, is, some))
 
 pub returns : goal.returns
 returns c =

@@ -1,9 +1,6 @@
-use Rattle.std.proofs.Common.{◌≡◌, ◌∙◌, ap, ◌+◌, ◌-◌, ◌*◌, ◌/◌, ◌%◌, ◌<◌, ◌≤◌, ℕ, min, sym, subst, map, length, slice_index, arith}
+use Rattle.std.proofs.Common.{◌≡◌, ◌∙◌, ◌+◌, ◌-◌, ◌*◌, ◌/◌, ◌<◌, ◌≤◌, ℕ, min, sym, subst, map, length, slice_index, arith}
 use Rattle.std.proofs.lemmas.List.{length-map}
-use Rattle.std.specs.Prelude.{slice_index_or}
-use Rattle.lanes.specs.Block.{stored_at}
 use Rattle.canvas.specs.Layout.{stored}
-use Rattle.canvas.proofs.Places.{none}
 use Rattle.canvas.proofs.Cut.{map-put}
 use Rattle.canvas.proofs.Units.{AreUnits, no_units, more_units, all_units, as_units}
 use Rattle.canvas.proofs.canvas.Canvas.entry_row.Goals as goal
@@ -23,7 +20,7 @@ loop-block-preserved g c =
     let number_of = g.E.Entry.number_of in
     let block : ℕ = c.loop-block.block in
     let many : ℕ = c.min-many.result in
-    let run = c.write_run.new.entries in
+    let run = c.entry_eight.new.entries in
     let at : ℕ = 8 * block in
     let n : ℕ = at + many - at in
     let size : n ≡ many = omega arith in
@@ -31,13 +28,9 @@ loop-block-preserved g c =
     let some : 8 * block < self.width = omega (arith, c.loop-block-test.true) in
     let long : length c.loop-block.entries ≡ self.width = omega (arith, c.loop-block.auto.entries, c.requires.entries) in
     let room : at + n ≤ length c.loop-block.entries = omega (arith, long, size, is, some) in
-    let is_long : length run ≡ n = omega (arith, c.write_run.auto.entries, room) in
+    let is_long : length run ≡ n = omega (arith, c.entry_eight.auto.entries, room) in
     let here : (i : ℕ) → i < many → slice_index (map number run) (i * 1 + 0) ≡ number_of (stored self (j / 64) xs (8 * block + i) j s) =
-    λ i l.
-    let first : 8 * block % 8 ≡ 0 = omega arith in
-    let inside : 8 * block % 8 + i < 8 = omega (arith, l, is, first) in
-    let pixel : 8 * (j % 8) + i ≡ 8 * (j % 8) + (8 * block % 8 + i) = omega (arith, first) in
-    as_units (map number run) i ∙ c.write_run.ensures i (omega (arith, l, room)) ∙ ap number_of (ap (λ k. stored_at (slice_index_or xs c.place-place.result none) k) pixel ∙ c.place-place.ensures.stored i inside) in
+    λ i l. as_units (map number run) i ∙ c.entry_eight.ensures i (omega (arith, l, room)) in
     let before : min (8 * block) self.width ≡ 8 * block = omega (arith, some) in
     let P : ℕ → (ℕ → ℕ) → Type 0 = λ i entries. entries 0 ≡ number_of (stored self (j / 64) xs i j s) in
     subst (λ written. AreUnits 1 P (min (8 * (block + 1)) self.width) written) (sym (map-put number c.loop-block.entries run at n))

@@ -1,9 +1,7 @@
-use Rattle.std.proofs.Common.{◌≡◌, ◌∙◌, ap, ◌+◌, ◌-◌, ◌*◌, ◌/◌, ◌%◌, ◌<◌, ℕ, take, drop, refl, arith}
-use Rattle.std.specs.Prelude.{slice_index_or}
-use Rattle.lanes.specs.Block.{stored_at}
+use Rattle.std.proofs.Common.{◌≡◌, ◌∙◌, ◌+◌, ◌-◌, ◌*◌, ◌/◌, ◌<◌, ℕ, take, drop, refl, arith}
 use Rattle.grid.specs.Samples.{count_of}
-use Rattle.canvas.specs.Layout.{HasPixel, columns_of, planes_of_row, stored}
-use Rattle.canvas.proofs.Places.{none, row_of}
+use Rattle.canvas.specs.Layout.{HasPixel, columns_of, planes_of_row}
+use Rattle.canvas.proofs.Places.{row_of}
 use Rattle.canvas.proofs.view.View.sample.Goals as goal
 
 pub returns-clause-value : goal.returns-clause-value
@@ -20,10 +18,6 @@ returns-clause-value c =
     let wide : i / 64 < columns_of self.canvas = omega (arith, has.column) in
     let sample : c.args.s < count_of self.canvas.count = omega (arith, c.count.ensures, c.if-count-s.false) in
     let planes = take n (drop from c.args.self.now.planes.now) in
-    let pixel : 8 * (j % 8) + i % 8 ≡ 8 * (j % 8) + (i % 8 + 0) = omega arith in
-    let column : i + 0 ≡ i = omega arith in
     c.sample.ensures
-    ∙ ap (λ k. stored_at (slice_index_or planes c.place-place.result none) k) pixel
-    ∙ c.place-place.ensures.stored 0 (omega arith)
-    ∙ ap (λ x. stored self.canvas (j / 64) planes x j c.args.s) column
+    ∙ c.place-place.ensures.stored
     ∙ row_of self.canvas i j c.args.s (j / 64) self.first c.args.self.now.planes.now n from refl size at wide sample

@@ -1,0 +1,60 @@
+-- The bits of masks of 64 pixels.
+use Rattle.std.proofs.Common.{◌≡◌, ◌≢◌, ◌∙◌, inl, inr, sym, ap, subst, ℕ, ◌+◌, ◌-◌, ◌<◌, ◌^◌, min, max, List, length, slice_index, slice_set, bit_and, bit_or, w64, arith}
+use Rattle.std.specs.Int.{bit_at}
+use Rattle.std.proofs.lemmas.Bool.{cases_lt}
+use Rattle.std.proofs.lemmas.List.{get_or-set_same, get_or-set_other}
+use Rattle.std.proofs.lemmas.Nat.Bits.{bit_at-zero, bit_at-lt, bit_at_and, bit_at_or, bit_at_not, bit_at_ones}
+
+abbrev pub full : ℕ
+full = 18446744073709551615
+
+pub bit_of_full : (mask p : ℕ) → mask ≡ full → p < 64 → bit_at mask p ≡ 1
+bit_of_full mask p e l = ap (λ m. bit_at m p) e ∙ bit_at_ones 64 p l
+
+bit_of_rest : (mask p : ℕ) → mask < 2 ^ 64 → p < 64 → bit_at (full - mask) p ≡ 1 - bit_at mask p
+bit_of_rest mask p fits l = bit_at_not w64 mask p fits l
+
+-- all bits of one mask are in another
+pub bit_in : (a b p : ℕ) → b < 2 ^ 64 → p < 64 → bit_and a (full - b) ≡ 0 → bit_at a p ≡ 1 → bit_at b p ≡ 1
+bit_in a b p fits l none set =
+    let both : min (bit_at a p) (bit_at (full - b) p) ≡ 0 = sym (bit_at_and a (full - b) p) ∙ ap (λ m. bit_at m p) none ∙ bit_at-zero p in
+    let rest = bit_of_rest b p fits l in
+    let low = bit_at-lt b p in
+    omega (arith, both, set, rest, low)
+
+-- each bit is in one of two masks
+pub bit_of_either : (a b p : ℕ) → p < 64 → bit_or a b ≡ full → bit_at b p ≢ 1 → bit_at a p ≡ 1
+bit_of_either a b p l all clear =
+    let either : max (bit_at a p) (bit_at b p) ≡ 1 = sym (bit_at_or a b p) ∙ bit_of_full (bit_or a b) p all l in
+    let low = bit_at-lt b p in
+    omega (arith, either, clear, low)
+
+-- the bits of one mask that are not in another
+pub bit_without_set : (a b p : ℕ) → b < 2 ^ 64 → p < 64 → bit_at b p ≡ 1 → bit_at (bit_and a (full - b)) p ≡ 0
+bit_without_set a b p fits l set =
+    let both = bit_at_and a (full - b) p in
+    let rest = bit_of_rest b p fits l in
+    omega (arith, both, rest, set)
+
+pub bit_without_clear : (a b p : ℕ) → b < 2 ^ 64 → p < 64 → bit_at b p ≢ 1 → bit_at (bit_and a (full - b)) p ≡ bit_at a p
+bit_without_clear a b p fits l clear =
+    let both = bit_at_and a (full - b) p in
+    let rest = bit_of_rest b p fits l in
+    let low = bit_at-lt b p in
+    let one = bit_at-lt a p in
+    omega (arith, both, rest, clear, low, one)
+
+-- ---- what holds of the masks before s and of mask s
+pub one_more : (P : ℕ → Type 0) (s : ℕ) → ((t : ℕ) → t < s → P t) → P s → (t : ℕ) → t < s + 1 → P t
+one_more P s before here t l =
+    elim (cases_lt t s) [
+      | inl less ↦ before t less
+      | inr more ↦ (let same : s ≡ t = omega (arith, l, more) in subst P same here)
+    ]
+
+-- a mask more in a list
+pub one_mask_more : (P : ℕ → ℕ → Type 0) (xs : List ℕ) (s mask : ℕ) → s < length xs → ((t : ℕ) → t < s → P t (slice_index xs t)) → P s mask → (t : ℕ) → t < s + 1 → P t (slice_index (slice_set xs s mask) t)
+one_mask_more P xs s mask room before here =
+    one_more (λ t. P t (slice_index (slice_set xs s mask) t)) s
+    (λ t l. subst (P t) (sym (get_or-set_other xs s t mask 0 (λ e. omega (arith, e, l)))) (before t l))
+    (subst (P s) (sym (get_or-set_same xs s mask 0 room)) here)

@@ -1,0 +1,8 @@
+use Rattle.std.proofs.Common.{◌≡◌, slice_index}
+use Rattle.std.specs.Int.{bit_at}
+use Rattle.canvas.proofs.MaskBits.{one_more, bit_of_full}
+use Rattle.canvas.proofs.pair.are_full.Goals as goal
+
+pub loop-s-preserved : goal.loop-s-preserved
+loop-s-preserved c t p l small =
+    one_more (λ t. bit_at (slice_index c.args.masks.now t) p ≡ 1) c.loop-s.s (λ t l. c.loop-s.invariant t p l small) (bit_of_full _ p c.if-masks-s.false small) t l

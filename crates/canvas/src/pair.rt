@@ -1,0 +1,109 @@
+//! Two planes of a block and masks, which say for each sample index in which of the two a pixel has its sample.
+ghost use Rattle.std.specs.Prelude.{◌≡◌, ◌≢◌, ◌⊎◌, ℕ, ◌/◌, ◌<◌, ◌≤◌, slice_index, IsTrue};
+ghost use Rattle.std.specs.Int.{bit_at};
+ghost use Rattle.grid.specs.Samples.{count_of};
+ghost use Rattle.lanes.specs.Block.{stored_at};
+ghost use Rattle.canvas.specs.Layout.{mask_of as the_mask, chosen};
+
+use grid::SampleCount;
+use lanes::BlockSamples;
+
+/// Whether blocks with this many samples a pixel are kept as pairs: these need three planes.
+#[inline]
+pub(crate) fn has_pairs(count: SampleCount) -> bool
+    ensures { IsTrue result → 4 ≤ count_of count }
+{
+    count.count() >= 4
+}
+
+/// The mask of sample index `s` of those that a plane has in place of depths.
+#[inline]
+pub(crate) fn mask_of(masks: &BlockSamples, s: u32) -> u64
+    requires { s < 16 }
+    ensures { result ≡ the_mask masks.now s }
+{
+    let at = 4 * s as usize;
+    u64::from(masks.z[at])
+        + 65536 * u64::from(masks.z[at + 1])
+        + 4294967296 * u64::from(masks.z[at + 2])
+        + 281474976710656 * u64::from(masks.z[at + 3])
+}
+
+/// Has a plane have this mask of sample index `s`.
+#[inline]
+pub(crate) fn set_mask(masks: &mut BlockSamples, s: u32, mask: u64)
+    requires { s < 16 }
+    ensures set { the_mask masks.new s ≡ mask }
+    ensures others { (t : ℕ) → t ≢ s → the_mask masks.new t ≡ the_mask masks.old t }
+{
+    let at = 4 * s as usize;
+    masks.z[at] = (mask % 65536) as u16;
+    masks.z[at + 1] = (mask / 65536 % 65536) as u16;
+    masks.z[at + 2] = (mask / 4294967296 % 65536) as u16;
+    masks.z[at + 3] = (mask / 281474976710656) as u16;
+}
+
+/// The samples of `second` where the mask has a bit, and those of `first` where it has none.
+pub(crate) fn merged(first: &BlockSamples, second: &BlockSamples, mask: u64) -> BlockSamples
+    ensures { (p : ℕ) → p < 64 → stored_at result p ≡ chosen mask p (stored_at second.now p) (stored_at first.now p) }
+{
+    let mut plane = *first;
+    for p in 0..64 {
+        if (mask >> p) % 2 == 1 {
+            plane.set(p, second.sample(p));
+        }
+    }
+    plane
+}
+
+/// Whether all samples of all pixels are in these masks.
+pub(crate) fn are_full(count: SampleCount, masks: &[u64; 16]) -> bool
+    ensures { IsTrue result → (s p : ℕ) → s < count_of count → p < 64 → bit_at (slice_index masks.now s) p ≡ 1 }
+{
+    for s in 0..count.count() as usize {
+        if masks[s] != u64::MAX {
+            return false;
+        }
+    }
+    true
+}
+
+/// Whether all bits of a block's masks are in these.
+pub(crate) fn are_in(count: SampleCount, stored: &BlockSamples, masks: &[u64; 16]) -> bool
+    ensures { IsTrue result → (s p : ℕ) → s < count_of count → p < 64 → bit_at (the_mask stored.now s) p ≡ 1 →
+        bit_at (slice_index masks.now s) p ≡ 1 }
+{
+    for s in 0..count.count() {
+        if mask_of(stored, s) & !masks[s as usize] != 0 {
+            return false;
+        }
+    }
+    true
+}
+
+/// Whether each bit is in a block's masks or in these.
+pub(crate) fn are_all(count: SampleCount, stored: &BlockSamples, masks: &[u64; 16]) -> bool
+    ensures { IsTrue result → (s p : ℕ) → s < count_of count → p < 64 → bit_at (slice_index masks.now s) p ≢ 1 →
+        bit_at (the_mask stored.now s) p ≡ 1 }
+{
+    for s in 0..count.count() {
+        if mask_of(stored, s) | masks[s as usize] != u64::MAX {
+            return false;
+        }
+    }
+    true
+}
+
+/// The bits of a block's masks that are not in these.
+pub(crate) fn without(count: SampleCount, stored: &BlockSamples, masks: &[u64; 16]) -> [u64; 16]
+    ensures less { (s p : ℕ) → s < count_of count → p < 64 → bit_at (slice_index masks.now s) p ≡ 1 →
+        bit_at (slice_index result s) p ≡ 0 }
+    ensures rest { (s p : ℕ) → s < count_of count → p < 64 → bit_at (slice_index masks.now s) p ≢ 1 →
+        bit_at (slice_index result s) p ≡ bit_at (the_mask stored.now s) p }
+{
+    let mut rest = [0; 16];
+    for s in 0..count.count() {
+        rest[s as usize] = mask_of(stored, s) & !masks[s as usize];
+    }
+    rest
+}
