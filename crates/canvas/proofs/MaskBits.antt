@@ -1,8 +1,10 @@
 -- The bits of masks of 64 pixels.
-use Rattle.std.proofs.Common.{◌≡◌, ◌≢◌, ◌∙◌, inl, inr, sym, ap, subst, ℕ, ◌+◌, ◌-◌, ◌<◌, ◌^◌, min, max, List, length, slice_index, slice_set, bit_and, bit_or, w64, arith}
+use Rattle.std.proofs.Common.{◌≡◌, ◌≢◌, ◌∙◌, inl, inr, sym, ap, subst, ℕ, suc, ◌+◌, ◌-◌, ◌/◌, ◌%◌, ◌<◌, ◌^◌, min, max, List, length, slice_index, slice_set, bit_and, bit_or, w64, arith, ◌≤◌, refl}
 use Rattle.std.specs.Int.{bit_at}
 use Rattle.std.proofs.lemmas.Bool.{cases_lt}
-use Rattle.std.proofs.lemmas.List.{get_or-set_same, get_or-set_other}
+use Rattle.std.proofs.lemmas.List.{get_or-set_same, get_or-set_other, length-set}
+use Rattle.shade.specs.Resolve.{total}
+use Rattle.std.proofs.lemmas.Nat.{shr-shr}
 use Rattle.std.proofs.lemmas.Nat.Bits.{bit_at-zero, bit_at-lt, bit_at_and, bit_at_or, bit_at_not, bit_at_ones}
 
 abbrev pub full : ℕ
@@ -58,3 +60,31 @@ one_mask_more P xs s mask room before here =
     one_more (λ t. P t (slice_index (slice_set xs s mask) t)) s
     (λ t l. subst (P t) (sym (get_or-set_other xs s t mask 0 (λ e. omega (arith, e, l)))) (before t l))
     (subst (P s) (sym (get_or-set_same xs s mask 0 room)) here)
+
+-- ---- sums of the bits of masks
+-- the sums before i have a bit more
+pub record HaveBits (i mask : ℕ) (old new : List ℕ) : Type 0 where
+  pub long : length new ≡ 8
+  pub added : (m : ℕ) → m < i → slice_index new m ≡ slice_index old m + bit_at mask m
+  pub kept : (m : ℕ) → i ≤ m → slice_index new m ≡ slice_index old m
+
+pub one_bit_more : (i mask sum : ℕ) (old xs : List ℕ) → i < 8 → sum ≡ slice_index xs i + bit_at mask i → HaveBits i mask old xs → HaveBits (i + 1) mask old (slice_set xs i sum)
+one_bit_more i mask sum old xs small is before = record {
+  long = length-set xs i sum ∙ before.long;
+  added = one_mask_more (λ m x. x ≡ slice_index old m + bit_at mask m) xs i sum (omega (arith, small, before.long)) before.added (is ∙ ap (λ x. x + bit_at mask i) (before.kept i (omega arith)));
+  kept = λ m since. get_or-set_other xs i m sum 0 (λ e. omega (arith, e, since)) ∙ before.kept m (omega (arith, since));
+}
+
+-- each sum is that of the bits of n masks
+pub record AreBitSums (n at : ℕ) (mask : ℕ → ℕ) (sums : List ℕ) : Type 0 where
+  pub each : (i : ℕ) → i < 8 → slice_index sums i ≡ total n (λ s. bit_at (mask s) (at + i))
+  pub most : (i : ℕ) → i < 8 → slice_index sums i ≤ n
+
+pub one_mask_added : (n at : ℕ) (mask : ℕ → ℕ) (old new : List ℕ) → ((i : ℕ) → i < 8 → slice_index new i ≡ slice_index old i + bit_at (mask n / 2 ^ at) i) → AreBitSums n at mask old → AreBitSums (n + 1) at mask new
+one_mask_added n at mask old new is before = record {
+  each = λ i l. is i l ∙ ap (λ b. slice_index old i + b) (ap (λ x. x % 2) (shr-shr (mask n) at i)) ∙ ap (λ x. x + bit_at (mask n) (at + i)) (before.each i l) ∙ next n (λ s. bit_at (mask s) (at + i));
+  most = λ i l. (let low = bit_at-lt (mask n / 2 ^ at) i in let few = before.most i l in omega (arith, is i l, low, few));
+}
+  where
+    next : (n : ℕ) (f : ℕ → ℕ) → total n f + f n ≡ total (n + 1) f
+    next n f = let one : suc n ≡ n + 1 = omega arith in subst (λ m. total n f + f n ≡ total m f) one refl

@@ -20,6 +20,10 @@ use Rattle.canvas.proofs.Pairs.{chosen_place}
 parts_of : (a n b : ℕ) → b ≤ n → a * (n - b) + a * b ≡ a * n
 parts_of a n b few = let whole : n - b + b ≡ n = omega (arith, few) in (let sum : a * (n - b + b) ≡ a * (n - b) + a * b = grind arith in sym sum ∙ ap (λ m. a * m) whole)
 
+pub few_bits : (mask : ℕ → ℕ) (p n : ℕ) → total n (λ s. bit_at (mask s) p) ≤ n
+few_bits mask p zero = omega arith
+few_bits mask p (suc n) = let before = few_bits mask p n in let low = bit_at-lt (mask n) p in omega arith
+
 -- of n samples, where the bits of masks choose between two
 module _ (g : CanvasSample → ℕ) (mask : ℕ → ℕ) (p : ℕ) (x y : CanvasSample) where
   abbrev bits : ℕ → ℕ
@@ -42,14 +46,10 @@ module _ (g : CanvasSample → ℕ) (mask : ℕ → ℕ) (p : ℕ) (x y : Canvas
   sum_of_both zero = omega arith
   sum_of_both (suc n) = let before = sum_of_both n in let here = one_chosen n in grind arith
 
-  few_bits : (n : ℕ) → bits n ≤ n
-  few_bits zero = omega arith
-  few_bits (suc n) = let before = few_bits n in let low = bit_at-lt (mask n) p in omega arith
-
   pub sum_of_chosen : (n : ℕ) → g x * (n - bits n) + g y * bits n ≡ total n (λ s. g (chosen (mask s) p y x))
   sum_of_chosen n =
       let both = sum_of_both n in
-      let few = few_bits n in
+      let few = few_bits mask p n in
       let parts : g x * (n - bits n) + g x * bits n ≡ g x * n = parts_of (g x) n (bits n) few in
       omega (arith, both, parts)
 

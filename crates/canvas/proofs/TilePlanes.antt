@@ -15,7 +15,7 @@ use Rattle.lanes.specs.declared.block_samples.BlockSamples.{BlockSamples}
 use Rattle.lanes.specs.Block.{stored_at}
 use Rattle.canvas.specs.declared.way.Way.{Way}
 use Rattle.canvas.specs.declared.way.Way.TheVariants.{Cleared, Single, Pair, Own}
-use Rattle.canvas.specs.Layout.{planes_of_tile, block_in_tile, pixel_in_block, way_of, place_by, mask_of, own_plane, masks_in, sample_place, in_list, stored_in_tile, way_in_tile, IsSameTile, KeepsOtherWays, AreOwnBy, KeepsOtherPlanes, place_in_tile}
+use Rattle.canvas.specs.Layout.{planes_of_tile, block_in_tile, pixel_in_block, way_of, place_by, mask_of, own_plane, masks_in, sample_place, in_list, stored_in_tile, way_in_tile, IsSameTile, KeepsOtherWays, AreOwnBy, KeepsOtherPlanes, place_in_tile, masks_place}
 use Rattle.canvas.proofs.Places.{none, behind_first, within_block, last_sample}
 use Rattle.canvas.proofs.Ways.{own_not_cleared, own_not_pair}
 
@@ -72,6 +72,14 @@ same_plane count Cleared k p s old new same = refl
 same_plane count Single k p s old new same = refl
 same_plane count Pair k p s old new same = ap (λ masks. own_plane count Pair masks p s) (same (count_of count - 1) (last_sample count))
 same_plane count Own k p s old new same = refl
+
+-- the same place, if the masks of a pair are the same
+pub same_place_by : (count : SampleCount) (way : Way) (old new : List BlockSamples) (k p s : ℕ) → (way ≡ Pair → in_list new (masks_place count k) ≡ in_list old (masks_place count k))
+    → sample_place count way (in_list new) k p s ≡ sample_place count way (in_list old) k p s
+same_place_by count Cleared old new k p s same = refl
+same_place_by count Single old new k p s same = refl
+same_place_by count Pair old new k p s same = ap (λ masks. place_by count Pair k (own_plane count Pair masks p s)) (same refl)
+same_place_by count Own old new k p s same = refl
 
 -- the same way and the same planes: the same sample
 pub same_by_way : (count : SampleCount) (old new : List BlockSamples) (i j s : ℕ) → s < count_of count → way_in_tile new (block_in_tile i j) ≡ way_in_tile old (block_in_tile i j)

@@ -94,9 +94,13 @@ own_plane count Single masks p s = s
 own_plane count Pair masks p s = if bit_at (mask_of masks s) p == 1 then count_of count / 2 else 0
 own_plane count Own masks p s = s
 
--- The masks of block k of a tile with these planes, if it is a pair: the last of its own planes.
+-- The index of the plane of the masks of block k among those of its tile, if the block is a pair: the last of its own planes.
+abbrev pub masks_place : SampleCount → ℕ → ℕ
+masks_place count k = 1 + (k + 1) * count_of count + (count_of count - 1)
+
+-- The masks of block k of a tile with these planes.
 abbrev pub masks_in : SampleCount → (ℕ → BlockSamples) → ℕ → BlockSamples
-masks_in count planes k = planes (1 + (k + 1) * count_of count + (count_of count - 1))
+masks_in count planes k = planes (masks_place count k)
 
 -- The index of the plane of sample s of pixel p of block k among those of its tile, if the block keeps its samples in this way.
 abbrev pub sample_place : SampleCount → Way → (ℕ → BlockSamples) → ℕ → ℕ → ℕ → ℕ

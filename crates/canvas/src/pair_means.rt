@@ -1,5 +1,5 @@
 //! The colours of pixels whose blocks are kept as pairs.
-ghost use Rattle.std.specs.Prelude.{◌≡◌, ℕ, ◌+◌, ◌-◌, ◌*◌, ◌/◌, ◌<◌, ◌≤◌, length};
+ghost use Rattle.std.specs.Prelude.{◌≡◌, ℕ, ◌+◌, ◌-◌, ◌*◌, ◌/◌, ◌<◌, ◌≤◌, length, slice_index};
 ghost use Rattle.std.specs.Int.{bit_at};
 ghost use Rattle.grid.specs.Samples.{count_of};
 ghost use Rattle.shade.specs.Resolve.{total};
@@ -15,18 +15,29 @@ use grid::SampleCount;
 use lanes::BlockSamples;
 use shade::CanvasSample;
 
-/// How many of the masks have bit `p`.
+/// Adds the bits of a mask to eight sums, the first bit to the first.
 #[inline(always)]
-fn count_bits(count: SampleCount, masks: &BlockSamples, p: usize) -> u32
-    requires { p < 64 }
-    ensures value { result ≡ total (count_of count) (λ s. bit_at (the_mask masks.now s) p) }
-    ensures most { result ≤ count_of count }
+fn add_bits(sums: &mut [u16; 8], mask: u64)
+    requires { (i : ℕ) → i < 8 → slice_index sums.old i ≤ 16 }
+    ensures { (i : ℕ) → i < 8 → slice_index sums.new i ≡ slice_index sums.old i + bit_at mask i }
 {
-    let mut bits = 0;
-    for s in 0..count.count() {
-        bits += ((mask_of(masks, s) >> p) % 2) as u32;
+    for i in 0..8 {
+        sums[i] += ((mask >> i) % 2) as u16;
     }
-    bits
+}
+
+/// How many of the masks have the bit of each pixel in a row.
+#[inline(always)]
+fn count_bits(count: SampleCount, masks: &BlockSamples, row: u32) -> [u16; 8]
+    requires { row < 8 }
+    ensures { (i : ℕ) → i < 8 → slice_index result i ≡
+        total (count_of count) (λ s. bit_at (the_mask masks.now s) (8 * row + i)) }
+{
+    let mut sums = [0; 8];
+    for s in 0..count.count() {
+        add_bits(&mut sums, mask_of(masks, s) >> (8 * row));
+    }
+    sums
 }
 
 /// The mean of a channel, of which `bits` samples have `second` and the others `first`.
@@ -37,7 +48,7 @@ fn mean(count: SampleCount, bits: u32, first: u8, second: u8) -> u8
 {
     let many = count.count();
     let sum = u32::from(first) * (many - bits) + u32::from(second) * bits;
-    ((sum + many / 2) / many) as u8
+    ((sum + many / 2) >> count.logarithm()) as u8
 }
 
 /// The means of the channels of a pixel, of which `bits` samples are `second` and the others `first`.
@@ -83,11 +94,12 @@ pub(crate) fn means_of_pair(
     let first = &planes[place_by(count, Way::Pair, k, 0)];
     let second = &planes[place_by(count, Way::Pair, k, many / 2)];
     let masks = &planes[place_by(count, Way::Pair, k, many - 1)];
+    let sums = count_bits(count, masks, row);
     let at = 8 * row as usize;
     let mut means = *first;
     for i in 0..8 {
         let p = at + i;
-        let bits = count_bits(count, masks, p);
+        let bits = u32::from(sums[i]);
         means.set(
             p,
             mean_sample(count, bits, first.sample(p), second.sample(p)),
