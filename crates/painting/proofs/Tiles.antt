@@ -44,11 +44,12 @@ same_square row column r s q = record { left = q.left; right = q.right; top = q.
 single_own : Single ≡ Own → ⊥
 single_own e = cc
 
--- a block is kept in one of three ways
-way_cases : (P : Way → Type 0) → P Cleared → P Single → P Own → (way : Way) → P way
-way_cases P a b c Cleared = a
-way_cases P a b c Single = b
-way_cases P a b c Own = c
+-- a block is kept in one of four ways
+way_cases : (P : Way → Type 0) → P Cleared → P Single → P Pair → P Own → (way : Way) → P way
+way_cases P a b c d Cleared = a
+way_cases P a b c d Single = b
+way_cases P a b c d Pair = c
+way_cases P a b c d Own = d
 
 -- ---- drawn in the planes of a block
 module _ (t : Placed) (tile : Tile) (side : tile.side ≡ T64) (bx by from : ℕ) (masks : List ℕ) (old part : List BlockSamples) (n a : ℕ) (many : a + n ≡ planes_of_tile tile.count) (at : a ≡ 1 + count_of tile.count)
@@ -85,41 +86,71 @@ module _ (t : Placed) (tile : Tile) (side : tile.side ≡ T64) (bx by from : ℕ
         → stored_at (slice_index_or new (1 + (block + 1) * count_of tile.count + r) none) (pixel_in_block column row) ≡ stored_at (slice_index_or old (1 + (block + 1) * count_of tile.count + r) none) (pixel_in_block column row)
     same_own r small other = sym (in_new r small) ∙ draws.kept row column r (record { high = h.high; wide = h.wide; is_sample = small }) other ∙ in_own r small old
 
-    at_way : (xs : List BlockSamples) (way : Way) → slice_index_or xs 0 none ≡ slice_index_or old 0 none → way_in_tile old block ≡ way
+    at_way : (xs : List BlockSamples) (way : Way) → way ≢ Pair → slice_index_or xs 0 none ≡ slice_index_or old 0 none → way_in_tile old block ≡ way
         → stored_in_tile tile.count xs column row s ≡ stored_at (slice_index_or xs (place_by tile.count way block s) none) (pixel_in_block column row)
-    at_way xs way same e = by_way tile.count xs way column row s (ap (λ (state : BlockSamples). way_of state block) same ∙ e)
+    at_way xs way other same e = by_way tile.count xs way column row s other (ap (λ (state : BlockSamples). way_of state block) same ∙ e)
 
     met : IsChosen t.state tile bx by from masks row column s
         → IsCanvasDrawnAt t (sample_position (8 * tile.bx + column) (8 * tile.by + row) s tile.count) (stored_in_tile tile.count old column row s) (stored_in_tile tile.count new column row s)
     met chosen =
         let here : way_in_tile old block ≡ Own = ap (way_in_tile old) (in_block tile side bx by row column s h chosen.part.square) ∙ own in
         let p = sample_position (8 * tile.bx + column) (8 * tile.by + row) s tile.count in
-        subst (λ (x : CanvasSample). IsCanvasDrawnAt t p x (stored_in_tile tile.count new column row s)) (in_own s h.is_sample old ∙ sym (at_way old Own refl here))
-        (subst (λ (y : CanvasSample). IsCanvasDrawnAt t p (in_tile tile (take n (drop a old)) row column s) y) (in_new s h.is_sample ∙ sym (at_way new Own same_state here)) (draws.drawn row column s h chosen))
+        subst (λ (x : CanvasSample). IsCanvasDrawnAt t p x (stored_in_tile tile.count new column row s)) (in_own s h.is_sample old ∙ sym (at_way old Own own_not_pair refl here))
+        (subst (λ (y : CanvasSample). IsCanvasDrawnAt t p (in_tile tile (take n (drop a old)) row column s) y) (in_new s h.is_sample ∙ sym (at_way new Own own_not_pair same_state here)) (draws.drawn row column s h chosen))
 
     abbrev Missed : Way → Type 0
     Missed way = way_in_tile old block ≡ way → ¬ IsChosen t.state tile bx by from masks row column s → stored_in_tile tile.count new column row s ≡ stored_in_tile tile.count old column row s
 
     missed_cleared : Missed Cleared
     missed_cleared e other =
-        at_way new Cleared same_state e
+        at_way new Cleared cleared_not_pair same_state e
         ∙ ap (λ p. stored_at p (pixel_in_block column row)) (put_elsewhere old part a n none fits whole 1 (λ k l m. let some = some_samples tile.count in omega (arith, m, at, some)))
-        ∙ sym (at_way old Cleared refl e)
+        ∙ sym (at_way old Cleared cleared_not_pair refl e)
 
     missed_single : Missed Single
     missed_single e other =
         let first : 1 + (block + 1) * count_of tile.count ≡ 1 + (block + 1) * count_of tile.count + 0 = omega arith in
-        at_way new Single same_state e
+        at_way new Single single_not_pair same_state e
         ∙ ap (λ k. stored_at (slice_index_or new k none) (pixel_in_block column row)) first
         ∙ same_own 0 (some_samples tile.count) (λ chosen. single_own (sym e ∙ ap (way_in_tile old) (in_block tile side bx by row column s h (same_square row column 0 s chosen.part.square)) ∙ own))
         ∙ ap (λ k. stored_at (slice_index_or old k none) (pixel_in_block column row)) (sym first)
-        ∙ sym (at_way old Single refl e)
+        ∙ sym (at_way old Single single_not_pair refl e)
+
+    -- a pixel of the same block, in own plane r
+    module _ (e : way_in_tile old block ≡ Pair) (p r : ℕ) (low : p < 64) (small : r < count_of tile.count) where
+      there : IsSampleOf tile (row / 8 * 8 + p / 8) (column / 8 * 8 + p % 8) r
+      there =
+          let down = high_is tile side bx by row column s h in
+          let across = wide_is tile side bx by row column s h in
+          record { high = rw side (omega (arith, down, low)); wide = rw side (omega (arith, across, low)); is_sample = small }
+
+      same_block_there : block_in_tile (column / 8 * 8 + p % 8) (row / 8 * 8 + p / 8) ≡ block
+      same_block_there = let down = high_is tile side bx by row column s h in let across = wide_is tile side bx by row column s h in omega (arith, down, across, low)
+
+      not_chosen : ¬ IsChosen t.state tile bx by from masks (row / 8 * 8 + p / 8) (column / 8 * 8 + p % 8) r
+      not_chosen chosen =
+          own_not_pair (sym own ∙ ap (way_in_tile old) (sym (in_block tile side bx by (row / 8 * 8 + p / 8) (column / 8 * 8 + p % 8) r there chosen.part.square) ∙ same_block_there) ∙ e)
+
+      same_pixel : 8 * ((row / 8 * 8 + p / 8) % 8) + (column / 8 * 8 + p % 8) % 8 ≡ p
+      same_pixel = omega (arith, low)
+
+      same_in_block : stored_at (in_list new (1 + (block + 1) * count_of tile.count + r)) p ≡ stored_at (in_list old (1 + (block + 1) * count_of tile.count + r)) p
+      same_in_block = subst
+          (λ (b : ℕ). stored_at (in_list new (1 + (b + 1) * count_of tile.count + r)) p ≡ stored_at (in_list old (1 + (b + 1) * count_of tile.count + r)) p) same_block_there
+          (subst
+          (λ (q : ℕ). stored_at (in_list new (1 + (block_in_tile (column / 8 * 8 + p % 8) (row / 8 * 8 + p / 8) + 1) * count_of tile.count + r)) q
+          ≡ stored_at (in_list old (1 + (block_in_tile (column / 8 * 8 + p % 8) (row / 8 * 8 + p / 8) + 1) * count_of tile.count + r)) q)
+          same_pixel (same_there))
+        where
+          same_there : stored_at (in_list new (1 + (block_in_tile (column / 8 * 8 + p % 8) (row / 8 * 8 + p / 8) + 1) * count_of tile.count + r)) (8 * ((row / 8 * 8 + p / 8) % 8) + (column / 8 * 8 + p % 8) % 8)
+              ≡ stored_at (in_list old (1 + (block_in_tile (column / 8 * 8 + p % 8) (row / 8 * 8 + p / 8) + 1) * count_of tile.count + r)) (8 * ((row / 8 * 8 + p / 8) % 8) + (column / 8 * 8 + p % 8) % 8)
+          same_there = SAME_THERE
 
     missed_own : Missed Own
-    missed_own e other = at_way new Own same_state e ∙ same_own s h.is_sample other ∙ sym (at_way old Own refl e)
+    missed_own e other = at_way new Own own_not_pair same_state e ∙ same_own s h.is_sample other ∙ sym (at_way old Own own_not_pair refl e)
 
     missed : ¬ IsChosen t.state tile bx by from masks row column s → stored_in_tile tile.count new column row s ≡ stored_in_tile tile.count old column row s
-    missed = way_cases Missed missed_cleared missed_single missed_own (way_in_tile old block) refl
+    missed = way_cases Missed missed_cleared missed_single missed_pair missed_own (way_in_tile old block) refl
 
   pub tile_painted : TilePaints t tile (IsChosen t.state tile bx by from masks) old new
   tile_painted = record { met = λ row column s h chosen. met row column s h chosen; missed = λ row column s h other. missed row column s h other }
