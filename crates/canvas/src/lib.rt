@@ -47,7 +47,7 @@ pub use piece::Piece;
 pub use place::place_by;
 pub use shade::Triangles;
 pub use straight::{loads_what_was_written, multiplies_as_over};
-pub use tile_planes::{fill_block, fill_tile, is_cleared, make_single, single_block};
+pub use tile_planes::{block_way, fill_block, fill_tile, is_cleared, make_single, single_block};
 pub use tile_rows::TileRows;
 pub use vertex::Vertex;
 pub use view::View;

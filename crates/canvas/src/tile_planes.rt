@@ -26,6 +26,16 @@ pub fn is_cleared(samples: &[BlockSamples]) -> bool
     }
 }
 
+/// The way in which block `k` of the tile with these planes keeps its samples.
+#[inline]
+pub fn block_way(k: usize, samples: &[BlockSamples]) -> Way
+    requires block { k < 64 }
+    requires samples { 0 < length samples.now }
+    ensures { result ≡ way_in_tile samples.now k }
+{
+    way_of(&samples[0], k)
+}
+
 /// Makes all samples of a tile the given one, with this alpha if alpha is stored.
 pub(crate) fn clear_tile(
     count: SampleCount,
@@ -148,7 +158,6 @@ pub fn single_block(count: SampleCount, k: usize, samples: &mut [BlockSamples]) 
     requires block { k < 64 }
     requires samples { length samples.old ≡ planes_of_tile count }
     ensures single { IsTrue result → way_in_tile samples.new k ≡ AsSingle }
-    ensures own { result ≡ false → way_in_tile samples.old k ≡ AsOwn }
     ensures unchanged { result ≡ false → samples.new ≡ samples.old }
     ensures ways { KeepsOtherWays k samples.old samples.new }
     ensures kept { IsSameTile count samples.old samples.new }

@@ -11,11 +11,12 @@ use Rattle.shade.specs.declared.sample.CanvasSample.{CanvasSample}
 use Rattle.shade.specs.Canvas.{IsCanvasDrawnAt}
 use Rattle.canvas.specs.declared.way.Way.TheVariants.{Own}
 use Rattle.canvas.specs.Hidden.{ReplacesColours}
-use Rattle.canvas.specs.Layout.{block_in_tile, place_by, stored_in_tile, way_in_tile, IsSameTile}
+use Rattle.canvas.specs.Layout.{block_in_tile, pixel_in_block, place_by, stored_in_tile, way_in_tile, IsSameTile}
 use Rattle.canvas.proofs.Cut.{part_of}
 use Rattle.canvas.proofs.Places.{none}
 use Rattle.canvas.proofs.Shown.{always, merged_alike}
-use Rattle.canvas.proofs.TilePlanes.{pixel_in_block, by_way, cases_eq}
+use Rattle.canvas.proofs.TilePlanes.{by_way, cases_eq}
+use Rattle.canvas.proofs.Ways.{own_not_pair}
 use Rattle.painting.specs.Parts.{DrawsAlike, KeepsOtherBlocks}
 
 -- the triangle that replaces colours makes the same of samples of the same depth and alpha
@@ -51,7 +52,7 @@ module _ (t : Placed) (count : SampleCount) (k first n : ℕ) (old new : List Bl
 
     own_is : stored_in_tile count old i j s ≡ stored_at (plane s) (pixel_in_block i j)
     own_is =
-        by_way count old Own i j s (ap (way_in_tile old) here ∙ own)
+        by_way count old Own i j s own_not_pair (ap (way_in_tile old) here ∙ own)
         ∙ ap (λ m. stored_at (slice_index_or old (place_by count Own m s) none) (pixel_in_block i j)) here
         ∙ ap (λ q. stored_at (slice_index_or old q none) (pixel_in_block i j)) (let e : place_by count Own k s ≡ first + s = omega (arith, at) in e)
         ∙ ap (λ (p : BlockSamples). stored_at p (pixel_in_block i j)) (sym (plane_is s h))

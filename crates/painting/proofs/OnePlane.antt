@@ -18,13 +18,15 @@ use Rattle.raster.specs.Region.{HoldsTile}
 use Rattle.raster.specs.Samples.{IsSampleOf, place_of as place_in, stored as in_tile}
 use Rattle.raster.proofs.Rows.{word_full}
 use Rattle.canvas.specs.declared.way.Way.{Way}
-use Rattle.canvas.specs.declared.way.Way.TheVariants.{Cleared, Single}
-use Rattle.canvas.specs.Layout.{stored_in_tile, block_in_tile, place_by, place_in_tile, way_in_tile}
+use Rattle.canvas.specs.declared.way.Way.TheVariants.{Cleared, Single, Pair, Own}
+use Rattle.canvas.specs.Layout.{stored_in_tile, block_in_tile, pixel_in_block, in_list, place_by, place_in_tile, sample_place, masks_place, masks_in, own_plane, way_of, way_in_tile}
 use Rattle.canvas.proofs.Cut.{put, put_here, put_elsewhere, part_of}
-use Rattle.canvas.proofs.Places.{none}
-use Rattle.canvas.proofs.TilePlanes.{cases_eq, apart}
+use Rattle.canvas.proofs.Places.{none, last_sample, within_block}
+use Rattle.canvas.proofs.TilePlanes.{cases_eq, apart, same_place_by}
+use Rattle.canvas.proofs.Ways.{single_not_cleared}
+use Rattle.grid.specs.declared.sample_count.SampleCount.{SampleCount}
 use Rattle.painting.specs.declared.masks.Masks.{Masks}
-use Rattle.painting.specs.Parts.{mask_of, number_of, IsAlikeOverScreen, AllowsTile, IsAllowed, IsInBlock, IsKeptAt, TilePaints, DrawsAlike, KeepsOtherBlocks}
+use Rattle.painting.specs.Parts.{mask_of, number_of, IsAlikeOverScreen, AllowsTile, IsAllowed, IsInBlock, IsKeptAt, HasNoMasks, KeepsPlanesBut, DrawsPlane, TilePaints, DrawsAlike, KeepsOtherBlocks}
 use Rattle.painting.proofs.Joined.{tile_same}
 use Rattle.painting.proofs.Tiles.{in_block, of_block}
 
@@ -52,102 +54,114 @@ zero_word : (s k : ℕ) → s < 1 → k < 64 → IsBitSet (slice_index ones s) k
 zero_word zero k h low = word_full k low
 zero_word (suc s) k h low = absurd (omega (arith, h))
 
--- The triangle is drawn at plane q of the tile, by the samples of the centres of the pixels of block (bx, by).
-module _ (t : Placed) (tile o : Tile) (side : tile.side ≡ T64) (bx by q : ℕ) (xs part : List BlockSamples) (n : ℕ) (single : n ≡ 1) (first : 1 ≤ q) (fits : q + n ≤ length xs) (long : length part ≡ n)
-    (at_block : (o.bx ≡ bx) × (o.by ≡ by) × (o.side ≡ T8) × (o.count ≡ One)) (on_screen : (8 * bx < 4096) × (8 * by < 4096))
-    (alike : IsAlikeOverScreen t) (scissor : HoldsTile t.state.scissor o) (in_mask : t.state.sample_mask / 2 ^ 0 % 2 ≡ 1) (draws : DrawsMasks t o bx by 0 ones (take n (drop q xs)) part) where
-  abbrev pub after : List BlockSamples
-  after = put xs part q n
+-- The triangle is drawn at the one plane of a tile of one block, with one sample a pixel.
+module _ (t : Placed) (o : Tile) (bx by : ℕ) (xs part : List BlockSamples) (at_block : (o.bx ≡ bx) × (o.by ≡ by) × (o.side ≡ T8) × (o.count ≡ One)) (on_screen : (8 * bx < 4096) × (8 * by < 4096))
+    (alike : IsAlikeOverScreen t) (scissor : HoldsTile t.state.scissor o) (in_mask : t.state.sample_mask / 2 ^ 0 % 2 ≡ 1) (draws : DrawsMasks t o bx by 0 ones xs part) where
+  module _ (p : ℕ) (low : p < 64) where
+    in_o : IsSampleOf o (p / 8) (p % 8) 0
+    in_o = record { high = rw at_block.2 (omega (arith, low)); wide = rw at_block.2 (omega arith); is_sample = rw at_block.3 (omega arith) }
 
-  same_state : slice_index_or after 0 none ≡ slice_index_or xs 0 none
-  same_state = put_elsewhere xs part q n none fits long 0 (λ s l e. omega (arith, e, first))
+    place_is : place_in o (p / 8 / 8) (p % 8 / 8) 0 ≡ 0
+    place_is = rw (at_block.2, at_block.3) (omega (arith, low))
 
-  -- the sample of the block's own tile that lies in the same pixel
-  module _ (row column : ℕ) where
-    in_o : IsSampleOf o (row % 8) (column % 8) 0
-    in_o = record { high = rw at_block.2 (omega arith); wide = rw at_block.2 (omega arith); is_sample = rw at_block.3 (omega arith) }
+    same_pixel : 8 * (p / 8 % 8) + p % 8 % 8 ≡ p
+    same_pixel = omega (arith, low)
 
-    place_is : place_in o (row % 8 / 8) (column % 8 / 8) 0 ≡ 0
-    place_is = rw (at_block.2, at_block.3) (omega arith)
+    in_plane : (ys : List BlockSamples) → in_tile o ys (p / 8) (p % 8) 0 ≡ stored_at (in_list ys 0) p
+    in_plane ys =
+        ap (λ k. stored_at (slice_index_or ys k none) (8 * (p / 8 % 8) + p % 8 % 8)) place_is
+        ∙ ap (λ q. stored_at (in_list ys 0) q) same_pixel
 
-    same_pixel : 8 * (row % 8 % 8) + column % 8 % 8 ≡ 8 * (row % 8) + column % 8
-    same_pixel = omega arith
-
-    in_part : (ys : List BlockSamples) → in_tile o ys (row % 8) (column % 8) 0 ≡ stored_at (slice_index_or ys 0 none) (8 * (row % 8) + column % 8)
-    in_part ys =
-        ap (λ k. stored_at (slice_index_or ys k none) (8 * (row % 8 % 8) + column % 8 % 8)) place_is
-        ∙ ap (λ p. stored_at (slice_index_or ys 0 none) p) same_pixel
-
-    chosen : IsChosen t.state o bx by 0 ones (row % 8) (column % 8) 0
+    chosen : IsChosen t.state o bx by 0 ones (p / 8) (p % 8) 0
     chosen = record {
       part = record {
         square = record {
           left = let e = at_block.0 in omega (arith, e);
           right = let e = at_block.0 in omega (arith, e);
           top = let e = at_block.1 in omega (arith, e);
-          bottom = let e = at_block.1 in omega (arith, e);
+          bottom = let e = at_block.1 in omega (arith, e, low);
         };
         samples = record { low = omega arith; high = rw at_block.3 (omega arith) };
       };
-      in_masks = zero_word 0 (8 * (row % 8 % 8) + column % 8 % 8) (omega arith) (omega arith);
-      allowed = record { in_scissor = scissor (row % 8) (column % 8) in_o.high in_o.wide; in_mask = in_mask };
+      in_masks = zero_word 0 (8 * (p / 8 % 8) + p % 8 % 8) (omega arith) (omega arith);
+      allowed = record { in_scissor = scissor (p / 8) (p % 8) in_o.high in_o.wide; in_mask = in_mask };
     }
 
-    old_plane : in_tile o (take n (drop q xs)) (row % 8) (column % 8) 0 ≡ stored_at (slice_index_or xs q none) (8 * (row % 8) + column % 8)
-    old_plane =
-        in_part (take n (drop q xs))
-        ∙ ap (λ p. stored_at p (8 * (row % 8) + column % 8)) (part_of xs q n none 0 (omega (arith, single)))
-        ∙ ap (λ k. stored_at (slice_index_or xs k none) (8 * (row % 8) + column % 8)) (let same : q + 0 ≡ q = omega arith in same)
+  pub plane_drawn : DrawsPlane t (in_list xs 0) (in_list part 0)
+  plane_drawn count i j s p wide high low =
+      let drawn = draws.drawn (p / 8) (p % 8) 0 (in_o p low) (chosen p low) in
+      let moved = alike o.count count (8 * o.bx + p % 8) (8 * o.by + p / 8) 0 i j s _ _ (let e = at_block.0 in omega (arith, e, on_screen.0)) (let e = at_block.1 in omega (arith, e, on_screen.1, low)) wide high drawn in
+      let there = sample_position i j s count in
+      subst (λ (x : CanvasSample). IsCanvasDrawnAt t there x (stored_at (in_list part 0) p)) (in_plane p low xs)
+      (subst (λ (y : CanvasSample). IsCanvasDrawnAt t there (in_tile o xs (p / 8) (p % 8) 0) y) (in_plane p low part) moved)
 
-    new_plane : in_tile o part (row % 8) (column % 8) 0 ≡ stored_at (slice_index_or after q none) (8 * (row % 8) + column % 8)
-    new_plane =
-        in_part part
-        ∙ ap (λ p. stored_at p (8 * (row % 8) + column % 8)) (sym (put_here xs part q n none fits long 0 (omega (arith, single))))
-        ∙ ap (λ k. stored_at (slice_index_or after k none) (8 * (row % 8) + column % 8)) (let same : q + 0 ≡ q = omega arith in same)
+-- ---- plane q of a tile, put back with the triangle drawn at it
+module _ (t : Placed) (tile : Tile) (side : tile.side ≡ T64) (q : ℕ) (xs part : List BlockSamples) (n : ℕ) (single : n ≡ 1) (first : 1 ≤ q) (fits : q + n ≤ length xs) (long : length part ≡ n)
+    (no_masks : HasNoMasks tile.count xs q) (draws : DrawsPlane t (in_list (take n (drop q xs)) 0) (in_list part 0)) where
+  abbrev pub after : List BlockSamples
+  after = put xs part q n
+
+  pub others_kept : KeepsPlanesBut q xs after
+  others_kept m other = put_elsewhere xs part q n none fits long m (λ s l e. other (omega (arith, e, l, single)))
+
+  old_plane : in_list (take n (drop q xs)) 0 ≡ in_list xs q
+  old_plane = part_of xs q n none 0 (omega (arith, single)) ∙ ap (λ k. in_list xs k) (let same : q + 0 ≡ q = omega arith in same)
+
+  new_plane : in_list part 0 ≡ in_list after q
+  new_plane = sym (put_here xs part q n none fits long 0 (omega (arith, single))) ∙ ap (λ k. in_list after k) (let same : q + 0 ≡ q = omega arith in same)
+
+  pub same_places : (i j s : ℕ) → place_in_tile tile.count (in_list after) i j s ≡ place_in_tile tile.count (in_list xs) i j s
+  same_places i j s =
+      let k : ℕ = block_in_tile i j in
+      ap (λ (state : BlockSamples). sample_place tile.count (way_of state k) (in_list after) k (pixel_in_block i j) s) (others_kept 0 (λ e. omega (arith, e, first)))
+      ∙ same_place_by tile.count (way_in_tile xs k) xs after k (pixel_in_block i j) s (λ pair. others_kept (masks_place tile.count k) (no_masks k (omega arith) pair))
 
   module _ (row column s : ℕ) (h : IsSampleOf tile row column s) where
-    high : row < 64
-    high = let below = h.high in rw side at below
-
-    wide : column < 64
-    wide = let below = h.wide in rw side at below
-
     across : 8 * tile.bx + column < 4096
-    across = let aligned = rw side at tile.column.aligned in let small = wide in omega (arith, aligned, tile.column.on_screen, small)
+    across = let aligned = rw side at tile.column.aligned in let wide = rw side at h.wide in omega (arith, aligned, tile.column.on_screen, wide)
 
     down : 8 * tile.by + row < 4096
-    down = let aligned = rw side at tile.row.aligned in let small = high in omega (arith, aligned, tile.row.on_screen, small)
+    down = let aligned = rw side at tile.row.aligned in let high = rw side at h.high in omega (arith, aligned, tile.row.on_screen, high)
 
     -- a sample that is kept there
-    pub drawn_there : place_in_tile tile.count (slice_index_or xs 0 none) column row s ≡ q
+    pub drawn_there : place_in_tile tile.count (in_list xs) column row s ≡ q
         → IsCanvasDrawnAt t (sample_position (8 * tile.bx + column) (8 * tile.by + row) s tile.count) (stored_in_tile tile.count xs column row s) (stored_in_tile tile.count after column row s)
     drawn_there at =
-        let pixel : ℕ = 8 * (row % 8) + column % 8 in
-        let old_is : stored_in_tile tile.count xs column row s ≡ stored_at (slice_index_or xs q none) pixel = ap (λ k. stored_at (slice_index_or xs k none) pixel) at in
-        let new_is : stored_in_tile tile.count after column row s ≡ stored_at (slice_index_or after q none) pixel =
-        ap (λ (state : BlockSamples). stored_at (slice_index_or after (place_in_tile tile.count state column row s) none) pixel) same_state ∙ ap (λ k. stored_at (slice_index_or after k none) pixel) at in
+        let pixel : ℕ = pixel_in_block column row in
+        let old_is : stored_in_tile tile.count xs column row s ≡ stored_at (in_list xs q) pixel = ap (λ k. stored_at (in_list xs k) pixel) at in
+        let new_is : stored_in_tile tile.count after column row s ≡ stored_at (in_list after q) pixel = ap (λ k. stored_at (in_list after k) pixel) (same_places column row s ∙ at) in
         let there = sample_position (8 * tile.bx + column) (8 * tile.by + row) s tile.count in
-        let drawn = draws.drawn (row % 8) (column % 8) 0 (in_o row column) (chosen row column) in
-        let moved = alike o.count tile.count (8 * o.bx + column % 8) (8 * o.by + row % 8) 0 (8 * tile.bx + column) (8 * tile.by + row) s _ _
-        (let e = at_block.0 in omega (arith, e, on_screen.0)) (let e = at_block.1 in omega (arith, e, on_screen.1)) across down drawn in
-        subst (λ (x : CanvasSample). IsCanvasDrawnAt t there x (stored_in_tile tile.count after column row s)) (old_plane row column ∙ sym old_is)
-        (subst (λ (y : CanvasSample). IsCanvasDrawnAt t there (in_tile o (take n (drop q xs)) (row % 8) (column % 8) 0) y) (new_plane row column ∙ sym new_is) moved)
+        subst (λ (x : CanvasSample). IsCanvasDrawnAt t there x (stored_in_tile tile.count after column row s)) (ap (λ (p : BlockSamples). stored_at p pixel) old_plane ∙ sym old_is)
+        (subst (λ (y : CanvasSample). IsCanvasDrawnAt t there (stored_at (in_list (take n (drop q xs)) 0) pixel) y) (ap (λ (p : BlockSamples). stored_at p pixel) new_plane ∙ sym new_is)
+        (draws tile.count (8 * tile.bx + column) (8 * tile.by + row) s pixel across down (omega arith)))
 
     -- a sample that is kept elsewhere
-    pub kept_elsewhere : place_in_tile tile.count (slice_index_or xs 0 none) column row s ≢ q → stored_in_tile tile.count after column row s ≡ stored_in_tile tile.count xs column row s
+    pub kept_elsewhere : place_in_tile tile.count (in_list xs) column row s ≢ q → stored_in_tile tile.count after column row s ≡ stored_in_tile tile.count xs column row s
     kept_elsewhere other =
-        let pixel : ℕ = 8 * (row % 8) + column % 8 in
-        ap (λ (state : BlockSamples). stored_at (slice_index_or after (place_in_tile tile.count state column row s) none) pixel) same_state
-        ∙ ap (λ (p : BlockSamples). stored_at p pixel)
-        (put_elsewhere xs part q n none fits long (place_in_tile tile.count (slice_index_or xs 0 none) column row s)
-        (λ k l e. other (omega (arith, e, l, single))))
+        let pixel : ℕ = pixel_in_block column row in
+        ap (λ k. stored_at (in_list after k) pixel) (same_places column row s)
+        ∙ ap (λ (p : BlockSamples). stored_at p pixel) (others_kept (place_in_tile tile.count (in_list xs) column row s) other)
 
   pub plane_painted : TilePaints t tile (IsKeptAt tile.count xs q) xs after
   plane_painted = record { met = λ row column s h at. drawn_there row column s h at; missed = λ row column s h other. kept_elsewhere row column s h other }
 
 -- ---- of a block that is kept in one plane
-single_cleared : Single ≡ Cleared → ⊥
-single_cleared e = cc
+-- a sample of another block is kept elsewhere
+pub place_apart : (count : SampleCount) (xs : List BlockSamples) (way : Way) (i j s k n : ℕ) → block_in_tile i j ≢ k → s < count_of count → n < count_of count → way ≢ Cleared
+    → place_in_tile count (in_list xs) i j s ≢ place_by count way k n
+place_apart count xs way i j s k n other h l own =
+    let m : ℕ = block_in_tile i j in
+    let w = way_in_tile xs m in
+    apart count w way m k (own_plane count w (masks_in count (in_list xs) m) (pixel_in_block i j) s) n other (within_block count w (masks_in count (in_list xs) m) (pixel_in_block i j) s h) l own
+
+-- and so are the masks of another block, and those of this one are not in its other planes
+pub no_masks_at : (count : SampleCount) (xs : List BlockSamples) (way : Way) (k n : ℕ) → n < count_of count → way ≢ Cleared → (way_in_tile xs k ≡ Pair → masks_place count k ≢ place_by count way k n)
+    → HasNoMasks count xs (place_by count way k n)
+no_masks_at count xs way k n l own here m small pair e =
+    elim (cases_eq m k) [
+      | inl same ↦ here (ap (way_in_tile xs) (sym same) ∙ pair) (ap (masks_place count) (sym same) ∙ e)
+      | inr other ↦ apart count Own way m k (count_of count - 1) n other (last_sample count) l own e
+    ]
 
 module _ (t : Placed) (tile : Tile) (side : tile.side ≡ T64) (bx by : ℕ) (block : LiesIn tile bx by 8) (xs after : List BlockSamples) (single : way_in_tile xs (number_of tile bx by) ≡ Single)
     (paints : TilePaints t tile (IsKeptAt tile.count xs (place_by tile.count Single (number_of tile bx by) 0)) xs after) where
@@ -160,10 +174,11 @@ module _ (t : Placed) (tile : Tile) (side : tile.side ≡ T64) (bx by : ℕ) (bl
       tile_same t tile (IsKeptAt tile.count xs (place_by tile.count Single (number_of tile bx by) 0)) (IsInSquare tile bx by 8) xs after paints
       (λ row column s h q.
       let here = in_block tile side bx by row column s h q in
-      ap (λ m. place_by tile.count (way_in_tile xs m) m s) here ∙ ap (λ (way : Way). place_by tile.count way (number_of tile bx by) s) single)
+      ap (λ m. sample_place tile.count (way_in_tile xs m) (in_list xs) m (pixel_in_block column row) s) here
+      ∙ ap (λ (way : Way). sample_place tile.count way (in_list xs) (number_of tile bx by) (pixel_in_block column row) s) single)
       (λ row column s h at. elim (cases_eq (block_in_tile column row) (number_of tile bx by)) [
         | inl here ↦ of_block tile side bx by row column s h left (omega (arith, right)) top (omega (arith, bottom)) here
-        | inr other ↦ absurd (apart tile.count (way_in_tile xs (block_in_tile column row)) Single (block_in_tile column row) (number_of tile bx by) s 0 other h.is_sample (some_samples tile.count) single_cleared at)
+        | inr other ↦ absurd (place_apart tile.count xs Single column row s (number_of tile bx by) 0 other h.is_sample (some_samples tile.count) single_not_cleared at)
       ])
 
 -- ---- of a tile all of whose blocks are kept as the one to which it was cleared
@@ -172,7 +187,7 @@ module _ (t : Placed) (tile : Tile) (xs after : List BlockSamples) (cleared : (k
   pub whole_painted : TilePaints t tile (IsAllowed t.state tile) xs after
   whole_painted =
       tile_same t tile (IsKeptAt tile.count xs 1) (IsAllowed t.state tile) xs after paints
-      (λ row column s h p. ap (λ (way : Way). place_by tile.count way (block_in_tile column row) s) (cleared (block_in_tile column row) (omega arith)))
+      (λ row column s h p. ap (λ (way : Way). sample_place tile.count way (in_list xs) (block_in_tile column row) (pixel_in_block column row) s) (cleared (block_in_tile column row) (omega arith)))
       (λ row column s h at. allowed_all t.state tile allows row column s h)
 
 -- ---- of a block all of whose bits are set

@@ -1,5 +1,5 @@
 -- What is drawn at the samples of a block with its own planes, drawn at the tile's samples.
-use Rattle.std.proofs.Common.{◌≡◌, ◌∙◌, refl, ap, sym, subst, ℕ, ◌+◌, ◌*◌, ◌/◌, ◌<◌, ◌≤◌, List, length, take, drop, arith}
+use Rattle.std.proofs.Common.{◌≡◌, ◌≢◌, ◌∙◌, refl, ap, sym, subst, ℕ, ◌+◌, ◌-◌, ◌*◌, ◌%◌, ◌/◌, ◌<◌, ◌≤◌, List, length, take, drop, arith}
 use Rattle.std.specs.Prelude.{slice_index_or}
 use Rattle.grid.specs.Samples.{count_of, sample_position}
 use Rattle.grid.specs.declared.pixels.TileSide.TheVariants.{T64}
@@ -8,17 +8,18 @@ use Rattle.lanes.specs.Block.{stored_at}
 use Rattle.shade.specs.declared.placed.Placed.{Placed}
 use Rattle.shade.specs.declared.sample.CanvasSample.{CanvasSample}
 use Rattle.shade.specs.Canvas.{IsCanvasDrawnAt}
-use Rattle.shade.proofs.Resolved.{some_samples}
+use Rattle.shade.proofs.Resolved.{some_samples, few_samples}
 use Rattle.raster.specs.declared.tile.Tile.{Tile}
 use Rattle.raster.specs.Drawing.{IsChosen, IsInSquare, DrawsMasks}
 use Rattle.raster.specs.Samples.{IsSampleOf, place_of as place_in, stored as in_tile}
 use Rattle.canvas.specs.declared.way.Way.{Way}
-use Rattle.canvas.specs.declared.way.Way.TheVariants.{Cleared, Single, Own}
-use Rattle.canvas.specs.Layout.{planes_of_tile, stored_in_tile, way_of, way_in_tile, block_in_tile, place_by}
+use Rattle.canvas.specs.declared.way.Way.TheVariants.{Cleared, Single, Pair, Own}
+use Rattle.canvas.specs.Layout.{planes_of_tile, stored_in_tile, way_of, way_in_tile, block_in_tile, pixel_in_block, in_list, place_by, sample_place, masks_place, masks_in, own_plane}
 use Rattle.canvas.proofs.Cut.{put, put_elsewhere, part_of}
 use Rattle.canvas.proofs.DrawnTiles.{own_put, mark_put}
-use Rattle.canvas.proofs.Places.{none}
-use Rattle.canvas.proofs.TilePlanes.{pixel_in_block, by_way, own_place, within_own}
+use Rattle.canvas.proofs.Places.{none, last_sample, within_block}
+use Rattle.canvas.proofs.TilePlanes.{by_way, by_any_way, own_place, within_own, same_own_plane, same_mask}
+use Rattle.canvas.proofs.Ways.{cleared_not_pair, single_not_pair, own_not_pair}
 use Rattle.painting.specs.Parts.{number_of, TilePaints}
 
 -- ---- where the samples of a block are
@@ -44,11 +45,12 @@ same_square row column r s q = record { left = q.left; right = q.right; top = q.
 single_own : Single ≡ Own → ⊥
 single_own e = cc
 
--- a block is kept in one of three ways
-way_cases : (P : Way → Type 0) → P Cleared → P Single → P Own → (way : Way) → P way
-way_cases P a b c Cleared = a
-way_cases P a b c Single = b
-way_cases P a b c Own = c
+-- a block is kept in one of four ways
+way_cases : (P : Way → Type 0) → P Cleared → P Single → P Pair → P Own → (way : Way) → P way
+way_cases P a b c d Cleared = a
+way_cases P a b c d Single = b
+way_cases P a b c d Pair = c
+way_cases P a b c d Own = d
 
 -- ---- drawn in the planes of a block
 module _ (t : Placed) (tile : Tile) (side : tile.side ≡ T64) (bx by from : ℕ) (masks : List ℕ) (old part : List BlockSamples) (n a : ℕ) (many : a + n ≡ planes_of_tile tile.count) (at : a ≡ 1 + count_of tile.count)
@@ -85,41 +87,91 @@ module _ (t : Placed) (tile : Tile) (side : tile.side ≡ T64) (bx by from : ℕ
         → stored_at (slice_index_or new (1 + (block + 1) * count_of tile.count + r) none) (pixel_in_block column row) ≡ stored_at (slice_index_or old (1 + (block + 1) * count_of tile.count + r) none) (pixel_in_block column row)
     same_own r small other = sym (in_new r small) ∙ draws.kept row column r (record { high = h.high; wide = h.wide; is_sample = small }) other ∙ in_own r small old
 
-    at_way : (xs : List BlockSamples) (way : Way) → slice_index_or xs 0 none ≡ slice_index_or old 0 none → way_in_tile old block ≡ way
-        → stored_in_tile tile.count xs column row s ≡ stored_at (slice_index_or xs (place_by tile.count way block s) none) (pixel_in_block column row)
-    at_way xs way same e = by_way tile.count xs way column row s (ap (λ (state : BlockSamples). way_of state block) same ∙ e)
+  -- a pixel p of a block that is kept in another way, in own plane r of the block
+  module _ (row column s : ℕ) (h : IsSampleOf tile row column s) (other : way_in_tile old (block_in_tile column row) ≢ Own) (p r : ℕ) (low : p < 64) (small : r < count_of tile.count) where
+    abbrev row_there : ℕ
+    row_there = row / 8 * 8 + p / 8
+
+    abbrev column_there : ℕ
+    column_there = column / 8 * 8 + p % 8
+
+    there : IsSampleOf tile row_there column_there r
+    there =
+        let down = high_is tile side bx by row column s h in
+        let across = wide_is tile side bx by row column s h in
+        record { high = rw side (omega (arith, down, low)); wide = rw side (omega (arith, across, low)); is_sample = small }
+
+    same_block_there : block_in_tile column_there row_there ≡ block_in_tile column row
+    same_block_there = let down = high_is tile side bx by row column s h in let across = wide_is tile side bx by row column s h in omega (arith, down, across, low)
+
+    same_pixel_there : pixel_in_block column_there row_there ≡ p
+    same_pixel_there = omega (arith, low)
+
+    not_chosen : ¬ IsChosen t.state tile bx by from masks row_there column_there r
+    not_chosen chosen = other (ap (way_in_tile old) (sym same_block_there ∙ in_block tile side bx by row_there column_there r there chosen.part.square) ∙ own)
+
+    same_in_block : stored_at (in_list new (1 + (block_in_tile column row + 1) * count_of tile.count + r)) p ≡ stored_at (in_list old (1 + (block_in_tile column row + 1) * count_of tile.count + r)) p
+    same_in_block =
+        subst (λ (b : ℕ). stored_at (in_list new (1 + (b + 1) * count_of tile.count + r)) p ≡ stored_at (in_list old (1 + (b + 1) * count_of tile.count + r)) p) same_block_there
+        (subst (λ (q : ℕ). stored_at (in_list new (1 + (block_in_tile column_there row_there + 1) * count_of tile.count + r)) q ≡ stored_at (in_list old (1 + (block_in_tile column_there row_there + 1) * count_of tile.count + r)) q) same_pixel_there
+        (same_own row_there column_there r there r small not_chosen))
+
+  module _ (row column s : ℕ) (h : IsSampleOf tile row column s) where
+    abbrev here_block : ℕ
+    here_block = block_in_tile column row
+
+    abbrev here_pixel : ℕ
+    here_pixel = pixel_in_block column row
+
+    at_way : (xs : List BlockSamples) (way : Way) → way ≢ Pair → slice_index_or xs 0 none ≡ slice_index_or old 0 none → way_in_tile old here_block ≡ way
+        → stored_in_tile tile.count xs column row s ≡ stored_at (slice_index_or xs (place_by tile.count way here_block s) none) here_pixel
+    at_way xs way other same e = by_way tile.count xs way column row s other (ap (λ (state : BlockSamples). way_of state here_block) same ∙ e)
 
     met : IsChosen t.state tile bx by from masks row column s
         → IsCanvasDrawnAt t (sample_position (8 * tile.bx + column) (8 * tile.by + row) s tile.count) (stored_in_tile tile.count old column row s) (stored_in_tile tile.count new column row s)
     met chosen =
-        let here : way_in_tile old block ≡ Own = ap (way_in_tile old) (in_block tile side bx by row column s h chosen.part.square) ∙ own in
+        let here : way_in_tile old here_block ≡ Own = ap (way_in_tile old) (in_block tile side bx by row column s h chosen.part.square) ∙ own in
         let p = sample_position (8 * tile.bx + column) (8 * tile.by + row) s tile.count in
-        subst (λ (x : CanvasSample). IsCanvasDrawnAt t p x (stored_in_tile tile.count new column row s)) (in_own s h.is_sample old ∙ sym (at_way old Own refl here))
-        (subst (λ (y : CanvasSample). IsCanvasDrawnAt t p (in_tile tile (take n (drop a old)) row column s) y) (in_new s h.is_sample ∙ sym (at_way new Own same_state here)) (draws.drawn row column s h chosen))
+        subst (λ (x : CanvasSample). IsCanvasDrawnAt t p x (stored_in_tile tile.count new column row s)) (in_own row column s h s h.is_sample old ∙ sym (at_way old Own own_not_pair refl here))
+        (subst (λ (y : CanvasSample). IsCanvasDrawnAt t p (in_tile tile (take n (drop a old)) row column s) y) (in_new row column s h s h.is_sample ∙ sym (at_way new Own own_not_pair same_state here))
+        (draws.drawn row column s h chosen))
 
     abbrev Missed : Way → Type 0
-    Missed way = way_in_tile old block ≡ way → ¬ IsChosen t.state tile bx by from masks row column s → stored_in_tile tile.count new column row s ≡ stored_in_tile tile.count old column row s
+    Missed way = way_in_tile old here_block ≡ way → ¬ IsChosen t.state tile bx by from masks row column s → stored_in_tile tile.count new column row s ≡ stored_in_tile tile.count old column row s
 
     missed_cleared : Missed Cleared
     missed_cleared e other =
-        at_way new Cleared same_state e
-        ∙ ap (λ p. stored_at p (pixel_in_block column row)) (put_elsewhere old part a n none fits whole 1 (λ k l m. let some = some_samples tile.count in omega (arith, m, at, some)))
-        ∙ sym (at_way old Cleared refl e)
+        at_way new Cleared cleared_not_pair same_state e
+        ∙ ap (λ p. stored_at p here_pixel) (put_elsewhere old part a n none fits whole 1 (λ k l m. let some = some_samples tile.count in omega (arith, m, at, some)))
+        ∙ sym (at_way old Cleared cleared_not_pair refl e)
 
     missed_single : Missed Single
     missed_single e other =
-        let first : 1 + (block + 1) * count_of tile.count ≡ 1 + (block + 1) * count_of tile.count + 0 = omega arith in
-        at_way new Single same_state e
-        ∙ ap (λ k. stored_at (slice_index_or new k none) (pixel_in_block column row)) first
-        ∙ same_own 0 (some_samples tile.count) (λ chosen. single_own (sym e ∙ ap (way_in_tile old) (in_block tile side bx by row column s h (same_square row column 0 s chosen.part.square)) ∙ own))
-        ∙ ap (λ k. stored_at (slice_index_or old k none) (pixel_in_block column row)) (sym first)
-        ∙ sym (at_way old Single refl e)
+        let first : 1 + (here_block + 1) * count_of tile.count ≡ 1 + (here_block + 1) * count_of tile.count + 0 = omega arith in
+        at_way new Single single_not_pair same_state e
+        ∙ ap (λ k. stored_at (slice_index_or new k none) here_pixel) first
+        ∙ same_in_block row column s h (λ f. single_own (sym e ∙ f)) here_pixel 0 (omega arith) (some_samples tile.count)
+        ∙ ap (λ k. stored_at (slice_index_or old k none) here_pixel) (sym first)
+        ∙ sym (at_way old Single single_not_pair refl e)
+
+    -- the masks of a pair are unchanged too
+    missed_pair : Missed Pair
+    missed_pair e other =
+        let not_own = λ (f : way_in_tile old here_block ≡ Own). own_not_pair (sym f ∙ e) in
+        let place : ℕ = masks_place tile.count here_block in
+        let depths = λ (k : ℕ) (l : k < 64). ap (λ (x : CanvasSample). x.z) (same_in_block row column s h not_own k (count_of tile.count - 1) l (last_sample tile.count)) in
+        let masks_same = same_mask (in_list new place) (in_list old place) s (omega (arith, h.is_sample, few_samples tile.count)) depths in
+        let plane : ℕ = own_plane tile.count Pair (masks_in tile.count (in_list old) here_block) here_pixel s in
+        by_any_way tile.count new Pair column row s (ap (λ (state : BlockSamples). way_of state here_block) same_state ∙ e)
+        ∙ ap (λ k. stored_at (in_list new (place_by tile.count Pair here_block k)) here_pixel) (same_own_plane tile.count Pair (in_list new place) (in_list old place) here_pixel s masks_same)
+        ∙ same_in_block row column s h not_own here_pixel plane (omega arith) (within_block tile.count Pair (masks_in tile.count (in_list old) here_block) here_pixel s h.is_sample)
+        ∙ sym (by_any_way tile.count old Pair column row s e)
 
     missed_own : Missed Own
-    missed_own e other = at_way new Own same_state e ∙ same_own s h.is_sample other ∙ sym (at_way old Own refl e)
+    missed_own e other = at_way new Own own_not_pair same_state e ∙ same_own row column s h s h.is_sample other ∙ sym (at_way old Own own_not_pair refl e)
 
     missed : ¬ IsChosen t.state tile bx by from masks row column s → stored_in_tile tile.count new column row s ≡ stored_in_tile tile.count old column row s
-    missed = way_cases Missed missed_cleared missed_single missed_own (way_in_tile old block) refl
+    missed = way_cases Missed missed_cleared missed_single missed_pair missed_own (way_in_tile old here_block) refl
 
   pub tile_painted : TilePaints t tile (IsChosen t.state tile bx by from masks) old new
   tile_painted = record { met = λ row column s h chosen. met row column s h chosen; missed = λ row column s h other. missed row column s h other }

@@ -25,7 +25,9 @@ use Rattle.raster.specs.Region.{HoldsTile}
 use Rattle.raster.specs.Samples.{IsSampleOf}
 use Rattle.canvas.specs.declared.canvas.Canvas.{Canvas}
 use Rattle.canvas.specs.declared.window.Origin.{Origin}
-use Rattle.canvas.specs.Layout.{IsStoredIn, block_in_tile, columns_of, place_in_tile, stored, stored_in_tile}
+use Rattle.canvas.specs.declared.way.Way.TheVariants.{Pair}
+use Rattle.canvas.specs.Layout.{IsStoredIn, block_in_tile, columns_of, in_list, masks_place, place_in_tile, stored, stored_in_tile, way_in_tile}
+use Rattle.lanes.specs.Block.{stored_at}
 use Rattle.canvas.specs.Window.{moved_state}
 use Rattle.painting.specs.declared.masks.Masks.{Masks}
 use Rattle.painting.specs.declared.polygon.Polygon.{Polygon}
@@ -130,8 +132,20 @@ number_of tile bx by = (by - tile.by) * 8 + (bx - tile.bx)
 
 -- The sample is kept in the plane of this index among those of the tile.
 abbrev pub IsKeptAt : SampleCount → List BlockSamples → ℕ → ℕ → ℕ → ℕ → Type 0
-IsKeptAt count samples place row column s =
-    place_in_tile count (slice_index_or samples 0 (record { z = []; r = []; g = []; b = []; alpha = [] })) column row s ≡ place
+IsKeptAt count samples place row column s = place_in_tile count (in_list samples) column row s ≡ place
+
+-- The plane of this index among those of the tile is not that of a pair's masks.
+abbrev pub HasNoMasks : SampleCount → List BlockSamples → ℕ → Type 0
+HasNoMasks count samples place = (k : ℕ) → k < 64 → way_in_tile samples k ≡ Pair → masks_place count k ≢ place
+
+-- All planes of the tile but the one of this index are unchanged.
+abbrev pub KeepsPlanesBut : ℕ → List BlockSamples → List BlockSamples → Type 0
+KeepsPlanesBut place old new = (n : ℕ) → n ≢ place → in_list new n ≡ in_list old n
+
+-- The triangle is drawn at each sample of the plane, wherever on the screen the sample lies, and however many a pixel has.
+abbrev pub DrawsPlane : Placed → BlockSamples → BlockSamples → Type 0
+DrawsPlane t old new =
+    (count : SampleCount) (i j s p : ℕ) → i < 4096 → j < 4096 → p < 64 → IsCanvasDrawnAt t (sample_position i j s count) (stored_at old p) (stored_at new p)
 
 -- The sample is in block (bx, by) and is drawn there. Its bit is set in column k of the masks, and the state lets it be drawn.
 pub record IsInBlock (state : State) (tile : Tile) (bx by : ℕ) (masks : Masks) (k : ℕ) (row column s : ℕ) : Type 0 where

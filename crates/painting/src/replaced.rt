@@ -4,7 +4,7 @@ ghost use Rattle.canvas.specs.declared.way.Way.TheVariants.{Single as AsSingle};
 ghost use Rattle.canvas.specs.Layout.{planes_of_tile, way_in_tile};
 ghost use Rattle.painting.specs.Parts.{DrawsAlike, KeepsOtherBlocks};
 
-use canvas::{Way, make_single, place_by, replaces_colours, single_block};
+use canvas::{Way, block_way, make_single, place_by, replaces_colours, single_block};
 use lanes::{BlockSamples, Interpolants};
 use raster::Tile;
 
@@ -42,6 +42,9 @@ pub(crate) fn has_one_plane(
 {
     if single_block(tile.count, k, samples) {
         return true;
+    }
+    if block_way(k, samples) != Way::Own {
+        return false;
     }
     if !replaces_colours(&triangle.placed().state, tile.count) {
         return false;

@@ -1,4 +1,5 @@
-use Rattle.std.proofs.Common.{subst, arith}
+use Rattle.std.proofs.Common.{subst, sym, ◌∙◌, arith}
+use Rattle.canvas.proofs.Ways.{cleared_not_pair}
 use Rattle.painting.specs.Parts.{IsKeptAt, TilePaints}
 use Rattle.painting.proofs.OnePlane.{whole_painted}
 use Rattle.painting.proofs.whole.paint_whole.Goals as goal
@@ -6,10 +7,13 @@ use Rattle.painting.proofs.whole.paint_whole.Goals as goal
 pub paint_plane-requires-clause-block : goal.paint_plane-requires-clause-block
 paint_plane-requires-clause-block c = record { left = omega arith; right = rw c.requires.side (omega arith); top = omega arith; bottom = rw c.requires.side (omega arith) }
 
+pub paint_plane-requires-clause-masks : goal.paint_plane-requires-clause-masks
+paint_plane-requires-clause-masks c k small pair = absurd (cleared_not_pair (sym (c.requires.cleared k small) ∙ pair))
+
 pub returns : goal.returns
 returns c =
     let t = c.args.triangle.now in
     let tile = c.args.tile.now in
     let old = c.args.samples.now in
     let new = c.paint_plane.new.samples in
-    whole_painted t tile old new c.requires.cleared c.requires.allows (subst (λ q. TilePaints t tile (IsKeptAt tile.count old q) old new) c.place_by-place.ensures.value c.paint_plane.ensures)
+    whole_painted t tile old new c.requires.cleared c.requires.allows (subst (λ q. TilePaints t tile (IsKeptAt tile.count old q) old new) c.place_by-place.ensures.value c.paint_plane.ensures.painted)
