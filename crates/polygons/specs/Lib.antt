@@ -75,7 +75,7 @@
 --   IsWalking: What is kept of an edge at a row: the numbers of the step, and the first column with what is left there.
 --
 -- Pixels.antt
---   IsFirstPixel: Of the coordinates that lie a whole number of pixels from `start`, the one n pixels behind it is the first that is not before `to`.
+--   IsFirstPixel: Of the coordinates whole pixels from `start`, the one n pixels behind it is the first that is not before `to`.
 --
 -- Short.antt
 --   IsShortEdge: The edge is at most a pixel wide and a pixel high.

@@ -6,9 +6,6 @@ use Rattle.polygons.specs.Pixels.{IsFirstPixel}
 use Rattle.std.specs.Int.Signed.{shr_z}
 use Rattle.polygons.proofs.pixels.first_pixel.Goals as goal
 
-distance : (to start : ℤ) → IsInBand to → IsInBand start → to_z w32 (of_z w32 (to_z w32 (of_z w32 (to_z w32 (of_z w32 to) +ℤ pos 255)) -ℤ to_z w32 (of_z w32 start))) ≡ (to +ℤ pos 255) -ℤ start
-distance to start h k = omega (arith, ints)
-
 shifted : (start to z : ℤ) → z ≡ (to +ℤ pos 255) -ℤ start → IsWithin (2 ^ 25) z → IsFirstPixel start to (to_z w32 (of_z w32 (shr_z z 256)))
 shifted start to (pos n) e h = record { reached = omega (arith, ints); first = omega (arith, ints) }
 shifted start to (negsuc n) e h = record { reached = omega (arith, ints); first = omega (arith, ints) }
@@ -16,5 +13,4 @@ shifted start to (negsuc n) e h = record { reached = omega (arith, ints); first 
 pub returns : goal.returns
 returns c =
     let s = c.requires.start in let t = c.requires.to in
-    let e = distance c.args.to c.args.start t s in
-    rw e (shifted c.args.start c.args.to ((c.args.to +ℤ pos 255) -ℤ c.args.start) refl (record { low = omega (arith, ints); high = omega (arith, ints) }))
+    shifted c.args.start c.args.to _ (omega (arith, ints)) (record { low = omega (arith, ints); high = omega (arith, ints) })
