@@ -42,6 +42,7 @@ pub use ids::{Ids, colour_of_id, replacing};
 pub use indexed::Indexed;
 pub use laws::{joins_batches, keeps_colours, keeps_tiles, moves_by_pixels, tells_last};
 pub use misfit::Misfit;
+pub use pair::has_pairs;
 pub use pair_blocks::{pair_block, replace_samples, second_place};
 pub use piece::Piece;
 pub use place::place_by;

@@ -10,7 +10,7 @@ use lanes::BlockSamples;
 
 /// Whether blocks with this many samples a pixel are kept as pairs: these need three planes.
 #[inline]
-pub(crate) fn has_pairs(count: SampleCount) -> bool
+pub fn has_pairs(count: SampleCount) -> bool
     ensures { IsTrue result → 4 ≤ count_of count }
 {
     count.count() >= 4

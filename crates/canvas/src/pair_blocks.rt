@@ -76,6 +76,7 @@ pub fn pair_block(
     requires block { k < 64 }
     requires samples { length samples.old ≡ planes_of_tile count }
     ensures pair { IsTrue result → (way_in_tile samples.new k ≡ AsPair) × HasMasks count k masks.now samples.new }
+    ensures some { IsTrue result → 4 ≤ count_of count }
     ensures own { result ≡ false → samples.new ≡ samples.old }
     ensures ways { KeepsOtherWays k samples.old samples.new }
     ensures kept { IsSameTile count samples.old samples.new }

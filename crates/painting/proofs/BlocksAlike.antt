@@ -20,7 +20,7 @@ use Rattle.canvas.proofs.Ways.{own_not_pair}
 use Rattle.painting.specs.Parts.{DrawsAlike, KeepsOtherBlocks}
 
 -- the triangle that replaces colours makes the same of samples of the same depth and alpha
-drawn_alike : (t : Placed) (count : SampleCount) (p : Position) (x y made : CanvasSample) → ReplacesColours t.state count → y.z ≡ x.z → y.alpha ≡ x.alpha → IsCanvasDrawnAt t p x made → IsCanvasDrawnAt t p y made
+pub drawn_alike : (t : Placed) (count : SampleCount) (p : Position) (x y made : CanvasSample) → ReplacesColours t.state count → y.z ≡ x.z → y.alpha ≡ x.alpha → IsCanvasDrawnAt t p x made → IsCanvasDrawnAt t p y made
 drawn_alike t count p x y made replaces depth alpha drawn =
     let merged = drawn.2.passed (always t.state.merge.test drawn.0.z x.z replaces.passes) in (
       drawn.0,

@@ -5,6 +5,7 @@ pub mod BlockParts
 pub mod Tiles
 pub mod BlocksAlike
 pub mod OnePlane
+pub mod PairBlocks
 pub mod Columns
 pub mod Strips
 pub mod RowMasks

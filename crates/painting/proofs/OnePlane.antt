@@ -31,7 +31,7 @@ use Rattle.painting.proofs.Joined.{tile_same}
 use Rattle.painting.proofs.Tiles.{in_block, of_block}
 
 -- the state lets each sample of the tile be drawn
-allowed_all : (state : State) (tile : Tile) → AllowsTile state tile → (row column s : ℕ) → IsSampleOf tile row column s → IsAllowed state tile row column s
+pub allowed_all : (state : State) (tile : Tile) → AllowsTile state tile → (row column s : ℕ) → IsSampleOf tile row column s → IsAllowed state tile row column s
 allowed_all state tile allows row column s h = record { in_scissor = allows.in_scissor row column h.high h.wide; in_mask = allows.in_mask s h.is_sample }
 
 -- the pixels of a block of the tile are in the rectangle that holds the tile
@@ -95,6 +95,13 @@ module _ (t : Placed) (o : Tile) (bx by : ℕ) (xs part : List BlockSamples) (at
       subst (λ (x : CanvasSample). IsCanvasDrawnAt t there x (stored_at (in_list part 0) p)) (in_plane p low xs)
       (subst (λ (y : CanvasSample). IsCanvasDrawnAt t there (in_tile o xs (p / 8) (p % 8) 0) y) (in_plane p low part) moved)
 
+-- the same places, if a plane without masks is changed
+pub same_places : (count : SampleCount) (q : ℕ) (xs after : List BlockSamples) → 1 ≤ q → KeepsPlanesBut q xs after → HasNoMasks count xs q → (i j s : ℕ) → place_in_tile count (in_list after) i j s ≡ place_in_tile count (in_list xs) i j s
+same_places count q xs after first others no_masks i j s =
+    let k : ℕ = block_in_tile i j in
+    ap (λ (state : BlockSamples). sample_place count (way_of state k) (in_list after) k (pixel_in_block i j) s) (others 0 (λ e. omega (arith, e, first)))
+    ∙ same_place_by count (way_in_tile xs k) xs after k (pixel_in_block i j) s (λ pair. others (masks_place count k) (no_masks k (omega arith) pair))
+
 -- ---- plane q of a tile, put back with the triangle drawn at it
 module _ (t : Placed) (tile : Tile) (side : tile.side ≡ T64) (q : ℕ) (xs part : List BlockSamples) (n : ℕ) (single : n ≡ 1) (first : 1 ≤ q) (fits : q + n ≤ length xs) (long : length part ≡ n)
     (no_masks : HasNoMasks tile.count xs q) (draws : DrawsPlane t (in_list (take n (drop q xs)) 0) (in_list part 0)) where
@@ -110,11 +117,8 @@ module _ (t : Placed) (tile : Tile) (side : tile.side ≡ T64) (q : ℕ) (xs par
   new_plane : in_list part 0 ≡ in_list after q
   new_plane = sym (put_here xs part q n none fits long 0 (omega (arith, single))) ∙ ap (λ k. in_list after k) (let same : q + 0 ≡ q = omega arith in same)
 
-  pub same_places : (i j s : ℕ) → place_in_tile tile.count (in_list after) i j s ≡ place_in_tile tile.count (in_list xs) i j s
-  same_places i j s =
-      let k : ℕ = block_in_tile i j in
-      ap (λ (state : BlockSamples). sample_place tile.count (way_of state k) (in_list after) k (pixel_in_block i j) s) (others_kept 0 (λ e. omega (arith, e, first)))
-      ∙ same_place_by tile.count (way_in_tile xs k) xs after k (pixel_in_block i j) s (λ pair. others_kept (masks_place tile.count k) (no_masks k (omega arith) pair))
+  same_here : (i j s : ℕ) → place_in_tile tile.count (in_list after) i j s ≡ place_in_tile tile.count (in_list xs) i j s
+  same_here = same_places tile.count q xs after first others_kept no_masks
 
   module _ (row column s : ℕ) (h : IsSampleOf tile row column s) where
     across : 8 * tile.bx + column < 4096
@@ -129,7 +133,7 @@ module _ (t : Placed) (tile : Tile) (side : tile.side ≡ T64) (q : ℕ) (xs par
     drawn_there at =
         let pixel : ℕ = pixel_in_block column row in
         let old_is : stored_in_tile tile.count xs column row s ≡ stored_at (in_list xs q) pixel = ap (λ k. stored_at (in_list xs k) pixel) at in
-        let new_is : stored_in_tile tile.count after column row s ≡ stored_at (in_list after q) pixel = ap (λ k. stored_at (in_list after k) pixel) (same_places column row s ∙ at) in
+        let new_is : stored_in_tile tile.count after column row s ≡ stored_at (in_list after q) pixel = ap (λ k. stored_at (in_list after k) pixel) (same_here column row s ∙ at) in
         let there = sample_position (8 * tile.bx + column) (8 * tile.by + row) s tile.count in
         subst (λ (x : CanvasSample). IsCanvasDrawnAt t there x (stored_in_tile tile.count after column row s)) (ap (λ (p : BlockSamples). stored_at p pixel) old_plane ∙ sym old_is)
         (subst (λ (y : CanvasSample). IsCanvasDrawnAt t there (stored_at (in_list (take n (drop q xs)) 0) pixel) y) (ap (λ (p : BlockSamples). stored_at p pixel) new_plane ∙ sym new_is)
@@ -139,7 +143,7 @@ module _ (t : Placed) (tile : Tile) (side : tile.side ≡ T64) (q : ℕ) (xs par
     pub kept_elsewhere : place_in_tile tile.count (in_list xs) column row s ≢ q → stored_in_tile tile.count after column row s ≡ stored_in_tile tile.count xs column row s
     kept_elsewhere other =
         let pixel : ℕ = pixel_in_block column row in
-        ap (λ k. stored_at (in_list after k) pixel) (same_places column row s)
+        ap (λ k. stored_at (in_list after k) pixel) (same_here column row s)
         ∙ ap (λ (p : BlockSamples). stored_at p pixel) (others_kept (place_in_tile tile.count (in_list xs) column row s) other)
 
   pub plane_painted : TilePaints t tile (IsKeptAt tile.count xs q) xs after

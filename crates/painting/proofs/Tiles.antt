@@ -14,7 +14,7 @@ use Rattle.raster.specs.Drawing.{IsChosen, IsInSquare, DrawsMasks}
 use Rattle.raster.specs.Samples.{IsSampleOf, place_of as place_in, stored as in_tile}
 use Rattle.canvas.specs.declared.way.Way.{Way}
 use Rattle.canvas.specs.declared.way.Way.TheVariants.{Cleared, Single, Pair, Own}
-use Rattle.canvas.specs.Layout.{planes_of_tile, stored_in_tile, way_of, way_in_tile, block_in_tile, pixel_in_block, in_list, place_by, sample_place, masks_place, masks_in, own_plane}
+use Rattle.canvas.specs.Layout.{planes_of_tile, stored_in_tile, way_of, way_in_tile, block_in_tile, pixel_in_block, in_list, place_by, masks_place, masks_in, own_plane}
 use Rattle.canvas.proofs.Cut.{put, put_elsewhere, part_of}
 use Rattle.canvas.proofs.DrawnTiles.{own_put, mark_put}
 use Rattle.canvas.proofs.Places.{none, last_sample, within_block}

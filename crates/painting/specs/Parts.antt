@@ -1,5 +1,6 @@
 -- Parts of a canvas that are painted one after another, by masks.
-use Rattle.std.specs.Prelude.{◌≡◌, ◌≢◌, ◌↔◌, ℕ, ◌+◌, ◌-◌, ◌*◌, ◌/◌, ◌%◌, ◌^◌, ◌<◌, ◌≤◌, ◌==◌, if◌then◌else◌, pos, negsuc, ◌+ℤ◌, List, [], ◌∷◌, slice_index, slice_index_or, IsBitSet}
+use Rattle.std.specs.Prelude.{◌≡◌, ◌≢◌, ◌↔◌, ℕ, ◌+◌, ◌-◌, ◌*◌, ◌/◌, ◌%◌, ◌^◌, ◌<◌, ◌≤◌, ◌==◌, if◌then◌else◌, pos, negsuc, ◌+ℤ◌, List, [], ◌∷◌, slice_index, IsBitSet}
+use Rattle.std.specs.Int.{bit_at}
 use Rattle.grid.specs.Position.{Position}
 use Rattle.grid.specs.Samples.{count_of, parts_of, sample_position}
 use Rattle.grid.specs.Triangle.{Covers}
@@ -26,7 +27,7 @@ use Rattle.raster.specs.Samples.{IsSampleOf}
 use Rattle.canvas.specs.declared.canvas.Canvas.{Canvas}
 use Rattle.canvas.specs.declared.window.Origin.{Origin}
 use Rattle.canvas.specs.declared.way.Way.TheVariants.{Pair}
-use Rattle.canvas.specs.Layout.{IsStoredIn, block_in_tile, columns_of, in_list, masks_place, place_in_tile, stored, stored_in_tile, way_in_tile}
+use Rattle.canvas.specs.Layout.{IsStoredIn, block_in_tile, columns_of, in_list, masks_place, pixel_in_block, place_in_tile, stored, stored_in_tile, way_in_tile}
 use Rattle.lanes.specs.Block.{stored_at}
 use Rattle.canvas.specs.Window.{moved_state}
 use Rattle.painting.specs.declared.masks.Masks.{Masks}
@@ -152,6 +153,11 @@ pub record IsInBlock (state : State) (tile : Tile) (bx by : ℕ) (masks : Masks)
   pub square : IsInSquare tile bx by 8 row column s
   pub in_masks : IsBitSet (mask_of masks k (row / 8) s) (8 * (row % 8) + column % 8)
   pub allowed : IsAllowed state tile row column s
+
+-- The sample is in block (bx, by), and its bit is set in the mask of its index.
+pub record IsInWords (tile : Tile) (bx by : ℕ) (words : List ℕ) (row column s : ℕ) : Type 0 where
+  pub square : IsInSquare tile bx by 8 row column s
+  pub in_words : bit_at (slice_index words s) (pixel_in_block column row) ≡ 1
 
 -- The sample is in the first n rows of blocks of column `bx` of blocks and is drawn there. Its bit is set in column k of the masks, and
 -- the state lets it be drawn.

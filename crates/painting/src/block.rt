@@ -1,5 +1,5 @@
 //! The samples of a block.
-ghost use Rattle.std.specs.Prelude.{◌≡◌, ◌<◌, length, IsTrue};
+ghost use Rattle.std.specs.Prelude.{◌≡◌, ◌<◌, false, length, IsTrue};
 ghost use Rattle.grid.specs.Samples.{IsPart};
 ghost use Rattle.grid.specs.declared.pixels.TileSide.TheVariants.{T64};
 ghost use Rattle.raster.specs.Drawing.{LiesIn, IsChosen, IsInSquare};
@@ -8,23 +8,14 @@ ghost use Rattle.canvas.specs.Layout.{planes_of_tile, way_in_tile};
 ghost use Rattle.painting.specs.Parts.{CoversScreen, IsAlikeOverScreen, AllowsTile, number_of as number_in_tile, IsInBlock, TilePaints};
 
 use crate::masks::{Masks, has_some};
+use crate::number::number_of;
+use crate::pair::{paint_as_pair, paint_both, replace_in_pair};
 use crate::plane::paint_plane;
 use crate::replaced::has_one_plane;
 use canvas::{Way, fill_block, place_by};
 use lanes::{BlockSamples, Interpolants};
 use planes::Corrections;
 use raster::{Tile, draw_masks};
-
-/// The number of block (bx, by) among the 64 of its tile, row by row.
-#[inline(always)]
-fn number_of(tile: &Tile, bx: u32, by: u32) -> usize
-    requires side { tile.now.side ≡ T64 }
-    requires block { LiesIn tile.now bx by 8 }
-    ensures value { result ≡ number_in_tile tile.now bx by }
-    ensures few { result < 64 }
-{
-    ((by - tile.by) * 8 + (bx - tile.bx)) as usize
-}
 
 /// Draws a triangle that covers the screen at those samples of block (bx, by) of the tile that are in the masks, of the
 /// part that begins with sample `from`. The block has its own planes. `whole` says that the state lets all samples of
@@ -122,8 +113,74 @@ fn paint_single(
 }
 
 /// Draws a triangle that covers the screen, in one colour and at one depth, at those samples of block (bx, by) of the
+/// tile whose bits are set, in column `k` of the masks, if the block can be a pair. Returns whether it was drawn; else
+/// all planes are unchanged.
+fn paint_some(
+    triangle: &Interpolants,
+    tile: &Tile,
+    bx: u32,
+    by: u32,
+    masks: &Masks<'_>,
+    k: usize,
+    samples: &mut [BlockSamples],
+) -> bool
+    requires side { tile.now.side ≡ T64 }
+    requires count { masks.now.count ≡ tile.now.count }
+    requires block { LiesIn tile.now bx by 8 }
+    requires column { k < masks.now.columns }
+    requires covers { CoversScreen triangle.now }
+    requires alike { IsAlikeOverScreen triangle.now }
+    requires whole { AllowsTile triangle.now.state tile.now }
+    requires samples { length samples.old ≡ planes_of_tile tile.now.count }
+    ensures painted { IsTrue result → TilePaints triangle.now tile.now
+        (IsInBlock triangle.now.state tile.now bx by masks.now k) samples.old samples.new }
+    ensures unchanged { result ≡ false → samples.new ≡ samples.old }
+{
+    let words = masks.words(k, (by - tile.by) as usize);
+    if paint_as_pair(triangle, tile, bx, by, &words, samples) {
+        return true;
+    }
+    replace_in_pair(triangle, tile, bx, by, &words, samples)
+}
+
+/// Draws a triangle that covers the screen, in one colour and at one depth, at those samples of block (bx, by) of the
+/// tile whose bits are set, in column `k` of the masks, if that needs no planes for each sample. Returns whether it was
+/// drawn; else all planes are unchanged.
+fn paint_planes(
+    triangle: &Interpolants,
+    tile: &Tile,
+    bx: u32,
+    by: u32,
+    masks: &Masks<'_>,
+    k: usize,
+    samples: &mut [BlockSamples],
+) -> bool
+    requires side { tile.now.side ≡ T64 }
+    requires count { masks.now.count ≡ tile.now.count }
+    requires block { LiesIn tile.now bx by 8 }
+    requires column { k < masks.now.columns }
+    requires covers { CoversScreen triangle.now }
+    requires alike { IsAlikeOverScreen triangle.now }
+    requires whole { AllowsTile triangle.now.state tile.now }
+    requires samples { length samples.old ≡ planes_of_tile tile.now.count }
+    ensures painted { IsTrue result → TilePaints triangle.now tile.now
+        (IsInBlock triangle.now.state tile.now bx by masks.now k) samples.old samples.new }
+    ensures unchanged { result ≡ false → samples.new ≡ samples.old }
+{
+    let row = (by - tile.by) as usize;
+    if !masks.is_full(k, row) {
+        return paint_some(triangle, tile, bx, by, masks, k, samples);
+    }
+    if has_one_plane(triangle, tile, number_of(tile, bx, by), samples) {
+        paint_single(triangle, tile, bx, by, samples);
+        return true;
+    }
+    paint_both(triangle, tile, bx, by, samples)
+}
+
+/// Draws a triangle that covers the screen, in one colour and at one depth, at those samples of block (bx, by) of the
 /// tile whose bits are set, in column `k` of the masks. `whole` says that the state lets all samples of the tile be
-/// drawn. A block that is drawn whole is kept in one plane if it can be.
+/// drawn. A block that can be kept in one plane or two is.
 pub(crate) fn paint_block(
     triangle: &Interpolants,
     tile: &Tile,
@@ -145,13 +202,7 @@ pub(crate) fn paint_block(
     ensures { TilePaints triangle.now tile.now (IsInBlock triangle.now.state tile.now bx by masks.now k) samples.old
         samples.new }
 {
-    if !whole || !masks.is_full(k, (by - tile.by) as usize) {
+    if !whole || !paint_planes(triangle, tile, bx, by, masks, k, samples) {
         paint_parts(triangle, tile, bx, by, masks, k, whole, samples);
-        return;
     }
-    if !has_one_plane(triangle, tile, number_of(tile, bx, by), samples) {
-        paint_parts(triangle, tile, bx, by, masks, k, whole, samples);
-        return;
-    }
-    paint_single(triangle, tile, bx, by, samples);
 }

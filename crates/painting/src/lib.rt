@@ -6,6 +6,8 @@ mod batch;
 mod block;
 mod column;
 mod masks;
+mod number;
+mod pair;
 mod plane;
 mod polygon;
 mod replaced;

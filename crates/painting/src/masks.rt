@@ -89,4 +89,18 @@ impl Masks<'_> {
         }
         true
     }
+    /// The masks of all samples of the block in a column and a row of blocks.
+    #[inline]
+    pub(crate) fn words(&self, column: usize, row: usize) -> [u64; 16]
+        requires column { column < self.now.columns }
+        requires row { row < 8 }
+        ensures { (s : ℕ) → s < count_of self.now.count → slice_index result s ≡ mask_of self.now column row s }
+    {
+        let mut words = [0; 16];
+        for s in 0..self.count.count() {
+            let of_part = &self.flags[(s / 4) as usize * self.columns + column];
+            words[s as usize] = of_part[4 * row + (s % 4) as usize];
+        }
+        words
+    }
 }

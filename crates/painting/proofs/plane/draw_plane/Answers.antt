@@ -1,4 +1,4 @@
-use Rattle.std.proofs.Common.{◌≡◌, arith, ℕ, ◌+◌, ◌-◌, ◌≤◌, length}
+use Rattle.std.proofs.Common.{arith, ◌+◌}
 use Rattle.grid.specs.declared.sample_count.SampleCount.TheVariants.{One}
 use Rattle.shade.proofs.Resolved.{some_samples}
 use Rattle.painting.proofs.OnePlane.{holds_block, plane_drawn}

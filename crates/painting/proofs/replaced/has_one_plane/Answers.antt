@@ -1,4 +1,4 @@
-use Rattle.std.proofs.Common.{rules, ◌≡◌, subst, sym, ℕ, ◌+◌, ◌-◌, ◌≤◌, List, length, drop, arith}
+use Rattle.std.proofs.Common.{rules, ◌≡◌, subst, ℕ, ◌+◌, ◌-◌, ◌≤◌, List, length, drop, arith}
 use Rattle.std.proofs.lemmas.List.{length-take, length-drop}
 use Rattle.grid.specs.Samples.{count_of}
 use Rattle.shade.specs.declared.placed.Placed.{Placed}

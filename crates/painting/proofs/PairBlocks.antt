@@ -1,0 +1,213 @@
+-- What is drawn at blocks that are kept as pairs.
+use Rattle.std.proofs.Common.{◌≡◌, ◌≢◌, ◌∙◌, inl, inr, sym, subst, ap, arith, ℕ, ◌+◌, ◌-◌, ◌*◌, ◌/◌, ◌<◌, ◌≤◌, List, slice_index}
+use Rattle.std.specs.Prelude.{◌==◌, if◌then◌else◌}
+use Rattle.std.specs.Int.{bit_at}
+use Rattle.std.proofs.lemmas.Bool.Decides.{eqb_tells}
+use Rattle.grid.specs.Samples.{count_of, sample_position}
+use Rattle.grid.specs.declared.pixels.TileSide.TheVariants.{T64}
+use Rattle.grid.specs.declared.sample_count.SampleCount.{SampleCount}
+use Rattle.lanes.specs.declared.block_samples.BlockSamples.{BlockSamples}
+use Rattle.lanes.specs.Block.{stored_at}
+use Rattle.shade.specs.declared.placed.Placed.{Placed}
+use Rattle.shade.specs.declared.sample.CanvasSample.{CanvasSample}
+use Rattle.shade.specs.Canvas.{IsCanvasDrawnAt}
+use Rattle.shade.proofs.Resolved.{some_samples}
+use Rattle.raster.specs.declared.tile.Tile.{Tile}
+use Rattle.raster.specs.Drawing.{IsInSquare, LiesIn}
+use Rattle.raster.specs.Samples.{IsSampleOf}
+use Rattle.raster.proofs.Bits.{is_one, is_set}
+use Rattle.canvas.specs.declared.way.Way.{Way}
+use Rattle.canvas.specs.declared.way.Way.TheVariants.{Pair}
+use Rattle.canvas.specs.Hidden.{ReplacesColours}
+use Rattle.canvas.specs.Layout.{block_in_tile, pixel_in_block, in_list, place_by, place_in_tile, sample_place, mask_of as mask_in, masks_in, own_plane, stored_in_tile, way_in_tile, HasMasks, AreReplaced, KeepsOtherSamples}
+use Rattle.canvas.proofs.Places.{middle_sample}
+use Rattle.canvas.proofs.TilePlanes.{cases_eq}
+use Rattle.canvas.proofs.Ways.{pair_not_cleared}
+use Rattle.painting.specs.declared.masks.Masks.{Masks}
+use Rattle.painting.specs.Parts.{mask_of, number_of, AllowsTile, IsInWords, IsInBlock, IsKeptAt, HasNoMasks, KeepsPlanesBut, DrawsPlane, TilePaints}
+use Rattle.painting.proofs.BlocksAlike.{drawn_alike}
+use Rattle.painting.proofs.Joined.{tile_same, tile_joined}
+use Rattle.painting.proofs.OnePlane.{allowed_all, no_masks_at, place_apart, same_places}
+use Rattle.painting.proofs.Tiles.{in_block, of_block}
+
+-- ---- the planes of a pair
+pub no_masks_first : (count : SampleCount) (xs : List BlockSamples) (k : ℕ) → 4 ≤ count_of count → HasNoMasks count xs (place_by count Pair k 0)
+no_masks_first count xs k some = no_masks_at count xs Pair k 0 (some_samples count) pair_not_cleared (λ pair e. omega (arith, e, some))
+
+pub no_masks_second : (count : SampleCount) (xs : List BlockSamples) (k : ℕ) → 4 ≤ count_of count → HasNoMasks count xs (place_by count Pair k (count_of count / 2))
+no_masks_second count xs k some = no_masks_at count xs Pair k (count_of count / 2) (middle_sample count) pair_not_cleared (λ pair e. omega (arith, e, some))
+
+pair_place : (count : SampleCount) (xs : List BlockSamples) (i j s k : ℕ) → block_in_tile i j ≡ k → way_in_tile xs k ≡ Pair
+    → place_in_tile count (in_list xs) i j s ≡ place_by count Pair k (own_plane count Pair (masks_in count (in_list xs) k) (pixel_in_block i j) s)
+pair_place count xs i j s k here pair =
+    ap (λ m. sample_place count (way_in_tile xs m) (in_list xs) m (pixel_in_block i j) s) here
+    ∙ ap (λ (way : Way). sample_place count way (in_list xs) k (pixel_in_block i j) s) pair
+
+with_bit : (count : SampleCount) (masks : BlockSamples) (p s : ℕ) → bit_at (mask_in masks s) p ≡ 1 → own_plane count Pair masks p s ≡ count_of count / 2
+with_bit count masks p s e = ap (λ b. if b == 1 then count_of count / 2 else 0) e
+
+without_bit : (count : SampleCount) (masks : BlockSamples) (p s : ℕ) → bit_at (mask_in masks s) p ≢ 1 → own_plane count Pair masks p s ≡ 0
+without_bit count masks p s other = elim (eqb_tells (bit_at (mask_in masks s) p) 1) [
+  | inl same ↦ absurd (other same.1)
+  | inr clear ↦ ap (λ b. if b then count_of count / 2 else 0) clear.0
+]
+
+-- ---- a block of the tile
+module _ (tile : Tile) (side : tile.side ≡ T64) (bx by : ℕ) (block : LiesIn tile bx by 8) (row column s : ℕ) (h : IsSampleOf tile row column s) where
+  pub square_of : block_in_tile column row ≡ number_of tile bx by → IsInSquare tile bx by 8 row column s
+  square_of here =
+      let right = rw side at block.right in
+      let bottom = rw side at block.bottom in
+      of_block tile side bx by row column s h block.left (omega (arith, right)) block.top (omega (arith, bottom)) here
+
+-- its samples in the masks of all samples of a pixel are those that are drawn
+module _ (t : Placed) (tile : Tile) (bx by : ℕ) (block : LiesIn tile bx by 8) (masks : Masks) (k : ℕ) (allows : AllowsTile t.state tile) (words : List ℕ)
+    (are : (s : ℕ) → s < count_of tile.count → slice_index words s ≡ mask_of masks k (by - tile.by) s) (old new : List BlockSamples) where
+  word_is : (row column s : ℕ) → IsSampleOf tile row column s → IsInSquare tile bx by 8 row column s → slice_index words s ≡ mask_of masks k (row / 8) s
+  word_is row column s h q =
+      let low = block.top in
+      let line : by - tile.by ≡ row / 8 = omega (arith, q.top, q.bottom, low) in
+      are s h.is_sample ∙ ap (λ r. mask_of masks k r s) line
+
+  pub words_painted : TilePaints t tile (IsInWords tile bx by words) old new → TilePaints t tile (IsInBlock t.state tile bx by masks k) old new
+  words_painted paints =
+      tile_same t tile (IsInWords tile bx by words) (IsInBlock t.state tile bx by masks k) old new paints
+      (λ row column s h p. record {
+        square = p.square;
+        in_words = subst (λ w. bit_at w (pixel_in_block column row) ≡ 1) (sym (word_is row column s h p.square)) (is_one (mask_of masks k (row / 8) s) (pixel_in_block column row) p.in_masks);
+      })
+      (λ row column s h p. record {
+        square = p.square;
+        in_masks = is_set (mask_of masks k (row / 8) s) (pixel_in_block column row) (subst (λ w. bit_at w (pixel_in_block column row) ≡ 1) (word_is row column s h p.square) p.in_words);
+        allowed = allowed_all t.state tile allows row column s h;
+      })
+
+-- ---- drawn in the second plane, which has the samples in the masks
+module _ (t : Placed) (tile : Tile) (side : tile.side ≡ T64) (bx by : ℕ) (block : LiesIn tile bx by 8) (words : List ℕ) (mid new : List BlockSamples) (some : 4 ≤ count_of tile.count)
+    (pair : way_in_tile mid (number_of tile bx by) ≡ Pair) (has : HasMasks tile.count (number_of tile bx by) words mid)
+    (paints : TilePaints t tile (IsKeptAt tile.count mid (place_by tile.count Pair (number_of tile bx by) (count_of tile.count / 2))) mid new) where
+  abbrev number : ℕ
+  number = number_of tile bx by
+
+  second_in : (row column s : ℕ) → IsSampleOf tile row column s → IsKeptAt tile.count mid (place_by tile.count Pair number (count_of tile.count / 2)) row column s → block_in_tile column row ≡ number → IsInWords tile bx by words row column s
+  second_in row column s h at here =
+      let marks = masks_in tile.count (in_list mid) number in
+      let p : ℕ = pixel_in_block column row in
+      let place = sym (pair_place tile.count mid column row s number here pair) ∙ at in
+      record {
+        square = square_of tile side bx by block row column s h here;
+        in_words = elim (cases_eq (bit_at (slice_index words s) p) 1) [
+          | inl set ↦ set
+          | inr clear ↦
+              let zero = without_bit tile.count marks p s (λ e. clear (ap (λ w. bit_at w p) (sym (has s h.is_sample)) ∙ e)) in
+              absurd (omega (arith, place, zero, some))
+        ];
+      }
+
+  pub pair_painted : TilePaints t tile (IsInWords tile bx by words) mid new
+  pair_painted =
+      tile_same t tile (IsKeptAt tile.count mid (place_by tile.count Pair number (count_of tile.count / 2))) (IsInWords tile bx by words) mid new paints
+      (λ row column s h p.
+      let p_in : ℕ = pixel_in_block column row in
+      pair_place tile.count mid column row s number (in_block tile side bx by row column s h p.square) pair
+      ∙ ap (place_by tile.count Pair number)
+      (with_bit tile.count (masks_in tile.count (in_list mid) number) p_in s (ap (λ w. bit_at w p_in) (has s h.is_sample) ∙ p.in_words)))
+      (λ row column s h at. elim (cases_eq (block_in_tile column row) number) [
+        | inl here ↦ second_in row column s h at here
+        | inr other ↦ absurd (place_apart tile.count mid Pair column row s number (count_of tile.count / 2) other h.is_sample (middle_sample tile.count) pair_not_cleared at)
+      ])
+
+-- ---- drawn in both planes
+module _ (t : Placed) (tile : Tile) (side : tile.side ≡ T64) (bx by : ℕ) (block : LiesIn tile bx by 8) (old mid new : List BlockSamples) (some : 4 ≤ count_of tile.count)
+    (pair : way_in_tile old (number_of tile bx by) ≡ Pair) (others : KeepsPlanesBut (place_by tile.count Pair (number_of tile bx by) 0) old mid)
+    (first : TilePaints t tile (IsKeptAt tile.count old (place_by tile.count Pair (number_of tile bx by) 0)) old mid)
+    (second : TilePaints t tile (IsKeptAt tile.count mid (place_by tile.count Pair (number_of tile bx by) (count_of tile.count / 2))) mid new) where
+  abbrev its : ℕ
+  its = number_of tile bx by
+
+  same_mid : (i j s : ℕ) → place_in_tile tile.count (in_list mid) i j s ≡ place_in_tile tile.count (in_list old) i j s
+  same_mid = same_places tile.count (place_by tile.count Pair its 0) old mid (omega arith) others (no_masks_first tile.count old its some)
+
+  pub both_painted : TilePaints t tile (IsInSquare tile bx by 8) old new
+  both_painted =
+      tile_joined t tile (IsKeptAt tile.count old (place_by tile.count Pair its 0)) (IsKeptAt tile.count mid (place_by tile.count Pair its (count_of tile.count / 2))) (IsInSquare tile bx by 8) old mid new first second
+      (λ row column s h p q. let same = same_mid column row s in omega (arith, p, q, same, some))
+      (λ row column s h q.
+      let marks = masks_in tile.count (in_list old) its in
+      let p : ℕ = pixel_in_block column row in
+      let place = pair_place tile.count old column row s its (in_block tile side bx by row column s h q) pair in
+      elim (cases_eq (bit_at (mask_in marks s) p) 1) [
+        | inl set ↦ inr (same_mid column row s ∙ place ∙ ap (place_by tile.count Pair its) (with_bit tile.count marks p s set))
+        | inr clear ↦ inl (place ∙ ap (place_by tile.count Pair its) (without_bit tile.count marks p s clear))
+      ])
+      (λ row column s h at. elim (cases_eq (block_in_tile column row) its) [
+        | inl here ↦ square_of tile side bx by block row column s h here
+        | inr other ↦ absurd (place_apart tile.count old Pair column row s its 0 other h.is_sample (some_samples tile.count) pair_not_cleared at)
+      ])
+      (λ row column s h at. elim (cases_eq (block_in_tile column row) its) [
+        | inl here ↦ square_of tile side bx by block row column s h here
+        | inr other ↦ absurd (place_apart tile.count mid Pair column row s its (count_of tile.count / 2) other h.is_sample (middle_sample tile.count) pair_not_cleared at)
+      ])
+
+-- ---- stored in place of the samples in the masks
+module _ (t : Placed) (tile : Tile) (side : tile.side ≡ T64) (bx by : ℕ) (block : LiesIn tile bx by 8) (words : List ℕ) (plane : BlockSamples) (old new : List BlockSamples)
+    (pair : way_in_tile old (number_of tile bx by) ≡ Pair) (replaces : ReplacesColours t.state tile.count)
+    (same : ((in_list old (place_by tile.count Pair (number_of tile bx by) 0)).z ≡ (in_list old (place_by tile.count Pair (number_of tile bx by) (count_of tile.count / 2))).z)
+    × ((in_list old (place_by tile.count Pair (number_of tile bx by) 0)).alpha ≡ (in_list old (place_by tile.count Pair (number_of tile bx by) (count_of tile.count / 2))).alpha))
+    (drawn : DrawsPlane t (in_list old (place_by tile.count Pair (number_of tile bx by) 0)) plane)
+    (made : AreReplaced tile.count (number_of tile bx by) words plane old new) (others : KeepsOtherSamples tile.count (number_of tile bx by) old new) where
+  abbrev this : ℕ
+  this = number_of tile bx by
+
+  abbrev first_plane : BlockSamples
+  first_plane = in_list old (place_by tile.count Pair this 0)
+
+  abbrev second_plane : BlockSamples
+  second_plane = in_list old (place_by tile.count Pair this (count_of tile.count / 2))
+
+  module _ (row column s : ℕ) (h : IsSampleOf tile row column s) where
+    abbrev pixel : ℕ
+    pixel = pixel_in_block column row
+
+    on_screen : (8 * tile.bx + column < 4096) × (8 * tile.by + row < 4096)
+    on_screen =
+        let across = rw side at tile.column.aligned in
+        let down = rw side at tile.row.aligned in
+        let wide = rw side at h.wide in
+        let high = rw side at h.high in
+        (omega (arith, across, tile.column.on_screen, wide), omega (arith, down, tile.row.on_screen, high))
+
+    -- the stored sample is that of one of the two planes
+    drawn_over : block_in_tile column row ≡ this → IsCanvasDrawnAt t (sample_position (8 * tile.bx + column) (8 * tile.by + row) s tile.count) (stored_in_tile tile.count old column row s) (stored_at plane pixel)
+    drawn_over here =
+        let marks = masks_in tile.count (in_list old) this in
+        let position = sample_position (8 * tile.bx + column) (8 * tile.by + row) s tile.count in
+        let over_first = drawn tile.count (8 * tile.bx + column) (8 * tile.by + row) s pixel on_screen.0 on_screen.1 (omega arith) in
+        let over_second = drawn_alike t tile.count position (stored_at first_plane pixel) (stored_at second_plane pixel) (stored_at plane pixel) replaces
+        (ap (λ (z : List ℕ). slice_index z pixel) (sym same.0)) (ap (λ (alpha : List ℕ). slice_index alpha pixel) (sym same.1)) over_first in
+        let place = pair_place tile.count old column row s this here pair in
+        elim (cases_eq (bit_at (mask_in marks s) pixel) 1) [
+          | inl set ↦ subst (λ (n : ℕ). IsCanvasDrawnAt t position (stored_at (in_list old n) pixel) (stored_at plane pixel)) (sym (place ∙ ap (place_by tile.count Pair this) (with_bit tile.count marks pixel s set))) over_second
+          | inr clear ↦ subst (λ (n : ℕ). IsCanvasDrawnAt t position (stored_at (in_list old n) pixel) (stored_at plane pixel)) (sym (place ∙ ap (place_by tile.count Pair this) (without_bit tile.count marks pixel s clear))) over_first
+        ]
+
+    in_words_is : IsInWords tile bx by words row column s
+        → IsCanvasDrawnAt t (sample_position (8 * tile.bx + column) (8 * tile.by + row) s tile.count) (stored_in_tile tile.count old column row s) (stored_in_tile tile.count new column row s)
+    in_words_is p =
+        let here = in_block tile side bx by row column s h p.square in
+        let new_is : stored_in_tile tile.count new column row s ≡ stored_at plane pixel =
+        made column row s h.is_sample here ∙ ap (λ b. if b == 1 then stored_at plane pixel else stored_in_tile tile.count old column row s) p.in_words in
+        subst (λ (y : CanvasSample). IsCanvasDrawnAt t (sample_position (8 * tile.bx + column) (8 * tile.by + row) s tile.count) (stored_in_tile tile.count old column row s) y) (sym new_is) (drawn_over here)
+
+    not_in_words : ¬ IsInWords tile bx by words row column s → stored_in_tile tile.count new column row s ≡ stored_in_tile tile.count old column row s
+    not_in_words missed =
+        elim (cases_eq (block_in_tile column row) this) [
+          | inr apart ↦ others column row s h.is_sample apart
+          | inl here ↦ elim (eqb_tells (bit_at (slice_index words s) pixel) 1) [
+            | inl set ↦ absurd (missed (record { square = square_of tile side bx by block row column s h here; in_words = set.1 }))
+            | inr clear ↦ made column row s h.is_sample here ∙ ap (λ b. if b then stored_at plane pixel else stored_in_tile tile.count old column row s) clear.0
+          ]
+        ]
+
+  pub replaced_painted : TilePaints t tile (IsInWords tile bx by words) old new
+  replaced_painted = record { met = λ row column s h p. in_words_is row column s h p; missed = λ row column s h other. not_in_words row column s h other }
