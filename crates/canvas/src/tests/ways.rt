@@ -1,7 +1,8 @@
 //! Tiles whose blocks are kept in each way, compared with those whose blocks all have planes of their own.
 use super::{CLEAR, CLEAR_ALPHA, Numbers, cleared, piece, stored, untouched, view};
 use crate::{
-    Canvas, Format, TileRows, fill_block, fill_tile, is_cleared, make_single, single_block,
+    Canvas, Format, TileRows, fill_block, fill_tile, is_cleared, make_single, pair_block,
+    replace_samples, second_place, single_block,
 };
 use grid::SampleCount;
 use lanes::BlockSamples;
@@ -13,6 +14,36 @@ use std::test::Fail;
 /// A canvas of one tile.
 fn tile(rt: &impl Abort, count: SampleCount) -> Canvas {
     Canvas::new(64, 64, count).expect(rt, "1 to 4096 pixels a side")
+}
+
+/// Makes blocks 30 to 33 pairs, of a cleared and of a single block, if a pixel has four samples or more. Of the masks for
+/// one pair and the next one part has all bits of the other, or both together have all.
+fn in_pairs(
+    rt: &impl Abort,
+    count: SampleCount,
+    plane: &BlockSamples,
+    samples: &mut [BlockSamples],
+) {
+    let some = [0x00ff_1234_5678_9abc; 16];
+    let more = [0x0fff_1234_5678_9abf; 16];
+    let rest = [0xffff_edcb_a987_6543; 16];
+    let apart = [1; 16];
+    let has_pairs = count.count() >= 4;
+    assert!(rt; samples.len() == 1 + 65 * count.count() as usize);
+    assert!(rt; single_block(count, 31, samples));
+    for k in 30..34 {
+        assert!(rt; replace_samples(count, k, &some, plane, samples) == has_pairs);
+    }
+    let other = samples[1];
+    assert!(rt; replace_samples(count, 32, &more, &other, samples) == has_pairs);
+    assert!(rt; replace_samples(count, 33, &rest, &other, samples) == has_pairs);
+    assert!(rt; !replace_samples(count, 30, &apart, &other, samples));
+    assert!(rt; pair_block(count, 35, &some, samples) == has_pairs);
+    assert!(rt; !pair_block(count, 30, &some, samples));
+    if has_pairs {
+        let place = second_place(count, 35);
+        samples[place] = *plane;
+    }
 }
 
 /// The planes of the tile, cleared, with blocks 3 and 12 in one plane each and block 20 in planes of its own.
@@ -31,6 +62,7 @@ fn in_each_way(rt: &impl Abort, alloc: Global, canvas: &Canvas) -> Result<Vec<Bl
     };
     make_single(count, 12, &BlockSamples::filled(other, 200), &mut samples);
     fill_block(count, 20, &mut samples);
+    in_pairs(rt, count, &BlockSamples::filled(other, 100), &mut samples);
     assert!(rt; single_block(count, 12, &mut samples));
     assert!(rt; !single_block(count, 20, &mut samples));
     assert!(rt; !is_cleared(&samples));
