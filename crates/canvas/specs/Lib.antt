@@ -11,16 +11,30 @@
 --   HasPixel: Pixel (i, j) is in the picture, and in a tile of the tile rows from `first` to before `end`.
 --   HasTile: These tile rows have a tile in a column and a row of tiles.
 --   block_in_tile: The number of the block of pixel (i, j) among the 64 of its tile, row by row.
+--   pixel_in_block: The number of pixel (i, j) among the 64 of its block, row by row.
 --   way_of: The way in which block k of a tile keeps its samples, by the tile's first plane.
---   place_by: The index of the plane of sample s of block k among those of its tile, if the block keeps its samples in this way.
---   place_in_tile: The index of the plane of sample s of pixel (i, j) among those of its tile, whose first plane this is.
+--   place_by: The index of own plane n of block k among the planes of its tile, if the block keeps its samples in this way.
+--   mask_of: The mask of sample index s, 64 bits that a plane has in place of depths: bit p says in which plane of a pair pixel p has the sample.
+--   own_plane: Which of the own planes of a block has sample s of pixel p.
+--   masks_place: The index of the plane of the masks of block k among those of its tile, if the block is a pair: the last of its own planes.
+--   masks_in: The masks of block k of a tile with these planes.
+--   sample_place: The index of the plane of sample s of pixel p of block k among those of its tile, if the block keeps its samples in this way.
+--   place_in_tile: The index of the plane of sample s of pixel (i, j) among those of its tile.
 --   sample_in: Sample s of pixel (i, j), by the planes of its tile.
 --   plane_of: Plane k of the tile of pixel (i, j), among those of the tile rows from `first` on.
 --   stored: Sample s of pixel (i, j), as it is stored.
+--   in_list: The planes of a tile by their index.
 --   stored_in_tile: Sample s of the pixel in a column and a row of a tile, as it is stored in the tile's planes.
 --   way_in_tile: The way in which block k of a tile keeps its samples, by the tile's planes.
+--   way_in_row: The way in which the block of pixel (i, j) keeps its samples, by the planes of its tile row.
 --   IsSameTile: Each sample of the tile is unchanged.
+--   KeepsOtherSamples: Each sample of the tile that is not one of block k is unchanged.
 --   KeepsOtherWays: All blocks of the tile but block k keep their samples in the way in which they did.
+--   chosen: Where the mask has a bit, the first sample, else the second.
+--   AreOwnBy: Each sample of block k, which kept them in this way before, is now in its own plane.
+--   KeepsOtherPlanes: All planes of the tile but the own ones of block k are unchanged.
+--   HasMasks: The masks of block k of a tile, which is a pair, are these.
+--   AreReplaced: Of block k sample s of a pixel is that of this plane where mask s has the pixel's bit, else it is unchanged.
 --
 -- Drawing.antt
 --   AreCleared: Each sample of the tile rows from `first` to before `end` is this one.
@@ -55,6 +69,7 @@
 --   AreBytesOfColour: The bytes have this colour and this alpha in the format.
 --   IsAlphaOfPixel: The alpha of pixel (i, j), resolved from the pixel's samples, in planes from tile row `first` on.
 --   IsAlphaIn: The alpha of pixel (i, j), resolved from the pixel's samples, in the planes of its tile.
+--   IsMeanOf: The colour and the alpha of a sample are resolved from these samples.
 --   IsPixelOf: The bytes of pixel (i, j) in the format.
 --   IsPixelIn: The bytes of pixel (i, j) in the format, by the planes of its tile.
 --   IsTilePixel: The bytes of the pixel in a row and a column of a tile, in the format.

@@ -175,6 +175,9 @@ fn paint_planes(
         paint_single(triangle, tile, bx, by, samples);
         return true;
     }
+    if paint_some(triangle, tile, bx, by, masks, k, samples) {
+        return true;
+    }
     paint_both(triangle, tile, bx, by, samples)
 }
 
