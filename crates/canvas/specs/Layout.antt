@@ -82,7 +82,7 @@ place_by count Single k n = 1 + (k + 1) * count_of count
 place_by count Pair k n = 1 + (k + 1) * count_of count + n
 place_by count Own k n = 1 + (k + 1) * count_of count + n
 
--- The mask of sample index s, 64 bits that a plane has in place of depths: bit p says in which plane of a pair pixel p has the sample.
+-- The mask of sample index s, 64 bits in place of depths: bit p says in which plane of a pair pixel p has the sample.
 abbrev pub mask_of : BlockSamples → ℕ → ℕ
 mask_of masks s =
     slice_index masks.z (4 * s) + 65536 * slice_index masks.z (4 * s + 1) + 4294967296 * slice_index masks.z (4 * s + 2) + 281474976710656 * slice_index masks.z (4 * s + 3)
@@ -94,7 +94,7 @@ own_plane count Single masks p s = s
 own_plane count Pair masks p s = if bit_at (mask_of masks s) p == 1 then count_of count / 2 else 0
 own_plane count Own masks p s = s
 
--- The index of the plane of the masks of block k among those of its tile, if the block is a pair: the last of its own planes.
+-- The index of the plane with the masks of block k among those of its tile, if it is a pair: the last of its own planes.
 abbrev pub masks_place : SampleCount → ℕ → ℕ
 masks_place count k = 1 + (k + 1) * count_of count + (count_of count - 1)
 
@@ -102,7 +102,7 @@ masks_place count k = 1 + (k + 1) * count_of count + (count_of count - 1)
 abbrev pub masks_in : SampleCount → (ℕ → BlockSamples) → ℕ → BlockSamples
 masks_in count planes k = planes (masks_place count k)
 
--- The index of the plane of sample s of pixel p of block k among those of its tile, if the block keeps its samples in this way.
+-- The index of the plane of sample s of pixel p of block k among those of its tile, if it keeps its samples in this way.
 abbrev pub sample_place : SampleCount → Way → (ℕ → BlockSamples) → ℕ → ℕ → ℕ → ℕ
 sample_place count way planes k p s = place_by count way k (own_plane count way (masks_in count planes k) p s)
 

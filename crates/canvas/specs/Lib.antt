@@ -14,11 +14,11 @@
 --   pixel_in_block: The number of pixel (i, j) among the 64 of its block, row by row.
 --   way_of: The way in which block k of a tile keeps its samples, by the tile's first plane.
 --   place_by: The index of own plane n of block k among the planes of its tile, if the block keeps its samples in this way.
---   mask_of: The mask of sample index s, 64 bits that a plane has in place of depths: bit p says in which plane of a pair pixel p has the sample.
+--   mask_of: The mask of sample index s, 64 bits in place of depths: bit p says in which plane of a pair pixel p has the sample.
 --   own_plane: Which of the own planes of a block has sample s of pixel p.
---   masks_place: The index of the plane of the masks of block k among those of its tile, if the block is a pair: the last of its own planes.
+--   masks_place: The index of the plane with the masks of block k among those of its tile, if it is a pair: the last of its own planes.
 --   masks_in: The masks of block k of a tile with these planes.
---   sample_place: The index of the plane of sample s of pixel p of block k among those of its tile, if the block keeps its samples in this way.
+--   sample_place: The index of the plane of sample s of pixel p of block k among those of its tile, if it keeps its samples in this way.
 --   place_in_tile: The index of the plane of sample s of pixel (i, j) among those of its tile.
 --   sample_in: Sample s of pixel (i, j), by the planes of its tile.
 --   plane_of: Plane k of the tile of pixel (i, j), among those of the tile rows from `first` on.
