@@ -8,12 +8,13 @@ ghost use Rattle.canvas.specs.Layout.{mask_of as the_mask, chosen};
 use grid::SampleCount;
 use lanes::BlockSamples;
 
-/// Whether blocks with this many samples a pixel are kept as pairs: these need three planes.
+/// Whether blocks with this many samples a pixel are kept as pairs: a pair needs three planes, which save nothing
+/// where four are enough.
 #[inline]
 pub fn has_pairs(count: SampleCount) -> bool
     ensures { IsTrue result → 4 ≤ count_of count }
 {
-    count.count() >= 4
+    count.count() >= 8
 }
 
 /// The mask of sample index `s` of those that a plane has in place of depths.

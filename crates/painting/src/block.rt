@@ -12,7 +12,7 @@ use crate::number::number_of;
 use crate::pair::{paint_as_pair, paint_both, replace_in_pair};
 use crate::plane::paint_plane;
 use crate::replaced::has_one_plane;
-use canvas::{Way, fill_block, place_by};
+use canvas::{Way, fill_block, has_pairs, place_by};
 use lanes::{BlockSamples, Interpolants};
 use planes::Corrections;
 use raster::{Tile, draw_masks};
@@ -136,6 +136,9 @@ fn paint_some(
         (IsInBlock triangle.now.state tile.now bx by masks.now k) samples.old samples.new }
     ensures unchanged { result ≡ false → samples.new ≡ samples.old }
 {
+    if !has_pairs(tile.count) {
+        return false;
+    }
     let words = masks.words(k, (by - tile.by) as usize);
     if paint_as_pair(triangle, tile, bx, by, &words, samples) {
         return true;
