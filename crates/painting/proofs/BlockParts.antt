@@ -9,7 +9,7 @@ use Rattle.raster.specs.Drawing.{IsChosen, IsInPart}
 use Rattle.raster.proofs.BlockDrawn.{part_at_most}
 use Rattle.canvas.specs.Layout.{stored_in_tile}
 use Rattle.painting.specs.declared.masks.Masks.{Masks}
-use Rattle.painting.specs.Parts.{mask_of, IsInBlock, TilePaints}
+use Rattle.painting.specs.Parts.{block_mask, IsInBlock, TilePaints}
 use Rattle.painting.proofs.Columns.{none_set}
 use Rattle.painting.proofs.Joined.{tile_same, tile_joined}
 use Rattle.painting.proofs.SampleParts.{all_parts, part_end}
@@ -56,7 +56,7 @@ module _ (t : Placed) (tile : Tile) (P : ℕ → ℕ → ℕ → Type 0) where
       (λ row column s h p. p.1)
 
 -- ---- in a block, by the words of a part
-module _ (t : Placed) (tile : Tile) (bx by : ℕ) (masks : Masks) (k part : ℕ) (words : List ℕ) (low : tile.by ≤ by) (is : (s : ℕ) → s < 4 → slice_index words s ≡ mask_of masks k (by - tile.by) (4 * part + s)) where
+module _ (t : Placed) (tile : Tile) (bx by : ℕ) (masks : Masks) (k part : ℕ) (words : List ℕ) (low : tile.by ≤ by) (is : (s : ℕ) → s < 4 → slice_index words s ≡ block_mask masks k (by - tile.by) (4 * part + s)) where
   abbrev P : ℕ → ℕ → ℕ → Type 0
   P row column s = IsInBlock t.state tile bx by masks k row column s
 
@@ -66,11 +66,11 @@ module _ (t : Placed) (tile : Tile) (bx by : ℕ) (masks : Masks) (k part : ℕ)
   small_part : (s : ℕ) → s < 4 * part + 4 → 4 * part ≤ s → s - 4 * part < 4
   small_part s h l = omega (arith, h, l)
 
-  same_word : (row s : ℕ) → row / 8 ≡ by - tile.by → 4 * part ≤ s → s < 4 * part + 4 → slice_index words (s - 4 * part) ≡ mask_of masks k (row / 8) s
+  same_word : (row s : ℕ) → row / 8 ≡ by - tile.by → 4 * part ≤ s → s < 4 * part + 4 → slice_index words (s - 4 * part) ≡ block_mask masks k (row / 8) s
   same_word row s line from below =
       is (s - 4 * part) (omega (arith, below, from))
-      ∙ ap (mask_of masks k (by - tile.by)) (let at : 4 * part + (s - 4 * part) ≡ s = omega (arith, from) in at)
-      ∙ ap (λ r. mask_of masks k r s) (sym line)
+      ∙ ap (block_mask masks k (by - tile.by)) (let at : 4 * part + (s - 4 * part) ≡ s = omega (arith, from) in at)
+      ∙ ap (λ r. block_mask masks k r s) (sym line)
 
   in_block : (row column s : ℕ) → Q row column s → IsInPart tile.count (4 * part) s × P row column s
   in_block row column s q =

@@ -8,7 +8,7 @@ use Rattle.shade.specs.declared.placed.Placed.{Placed}
 use Rattle.raster.specs.declared.tile.Tile.{Tile}
 use Rattle.raster.proofs.Bits.{is_one}
 use Rattle.painting.specs.declared.masks.Masks.{Masks}
-use Rattle.painting.specs.Parts.{mask_of, IsInBlock, IsInColumn, TilePaints}
+use Rattle.painting.specs.Parts.{block_mask, IsInBlock, IsInColumn, TilePaints}
 use Rattle.painting.proofs.Joined.{tile_same, tile_joined}
 
 -- no bit of zero is set
@@ -52,7 +52,7 @@ module _ (t : Placed) (tile : Tile) (bx n : ℕ) (masks : Masks) (k : ℕ) where
       (λ row column s h q. after_here row column s q)
 
   -- a block of which no bit is set
-  pub one_block_skipped : (old new : List BlockSamples) → ((s : ℕ) → s < count_of tile.count → mask_of masks k n s ≡ 0) → TilePaints t tile Before old new → TilePaints t tile After old new
+  pub one_block_skipped : (old new : List BlockSamples) → ((s : ℕ) → s < count_of tile.count → block_mask masks k n s ≡ 0) → TilePaints t tile Before old new → TilePaints t tile After old new
   one_block_skipped old new zeros before =
       tile_same t tile Before After old new before
       (λ row column s h r.
@@ -60,6 +60,6 @@ module _ (t : Placed) (tile : Tile) (bx n : ℕ) (masks : Masks) (k : ℕ) where
         | inl less ↦ before_after row column s less r
         | inr more ↦
             let in_row : row / 8 ≡ n = omega (arith, more, r.before) in
-            absurd (none_set (8 * (row % 8) + column % 8) (subst (λ w. IsBitSet w (8 * (row % 8) + column % 8)) (ap (λ b. mask_of masks k b s) in_row ∙ zeros s h.is_sample) r.in_masks))
+            absurd (none_set (8 * (row % 8) + column % 8) (subst (λ w. IsBitSet w (8 * (row % 8) + column % 8)) (ap (λ b. block_mask masks k b s) in_row ∙ zeros s h.is_sample) r.in_masks))
       ])
       (λ row column s h p. after_before row column s p)

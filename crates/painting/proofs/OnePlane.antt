@@ -26,7 +26,7 @@ use Rattle.canvas.proofs.TilePlanes.{cases_eq, apart, same_place_by}
 use Rattle.canvas.proofs.Ways.{single_not_cleared}
 use Rattle.grid.specs.declared.sample_count.SampleCount.{SampleCount}
 use Rattle.painting.specs.declared.masks.Masks.{Masks}
-use Rattle.painting.specs.Parts.{mask_of, number_of, IsAlikeOverScreen, AllowsTile, IsAllowed, IsInBlock, IsKeptAt, HasNoMasks, KeepsPlanesBut, DrawsPlane, TilePaints, DrawsAlike, KeepsOtherBlocks}
+use Rattle.painting.specs.Parts.{block_mask, number_in_tile, IsAlikeOverScreen, AllowsTile, IsAllowed, IsInBlock, IsKeptAt, HasNoMasks, KeepsPlanesBut, DrawsPlane, TilePaints, DrawsAlike, KeepsOtherBlocks}
 use Rattle.painting.proofs.Joined.{tile_same}
 use Rattle.painting.proofs.Tiles.{in_block, of_block}
 
@@ -167,22 +167,22 @@ no_masks_at count xs way k n l own here m small pair e =
       | inr other ↦ apart count Own way m k (count_of count - 1) n other (last_sample count) l own e
     ]
 
-module _ (t : Placed) (tile : Tile) (side : tile.side ≡ T64) (bx by : ℕ) (block : LiesIn tile bx by 8) (xs after : List BlockSamples) (single : way_in_tile xs (number_of tile bx by) ≡ Single)
-    (paints : TilePaints t tile (IsKeptAt tile.count xs (place_by tile.count Single (number_of tile bx by) 0)) xs after) where
+module _ (t : Placed) (tile : Tile) (side : tile.side ≡ T64) (bx by : ℕ) (block : LiesIn tile bx by 8) (xs after : List BlockSamples) (single : way_in_tile xs (number_in_tile tile bx by) ≡ Single)
+    (paints : TilePaints t tile (IsKeptAt tile.count xs (place_by tile.count Single (number_in_tile tile bx by) 0)) xs after) where
   pub single_painted : TilePaints t tile (IsInSquare tile bx by 8) xs after
   single_painted =
       let left = block.left in
       let right = rw side at block.right in
       let top = block.top in
       let bottom = rw side at block.bottom in
-      tile_same t tile (IsKeptAt tile.count xs (place_by tile.count Single (number_of tile bx by) 0)) (IsInSquare tile bx by 8) xs after paints
+      tile_same t tile (IsKeptAt tile.count xs (place_by tile.count Single (number_in_tile tile bx by) 0)) (IsInSquare tile bx by 8) xs after paints
       (λ row column s h q.
       let here = in_block tile side bx by row column s h q in
       ap (λ m. sample_place tile.count (way_in_tile xs m) (in_list xs) m (pixel_in_block column row) s) here
-      ∙ ap (λ (way : Way). sample_place tile.count way (in_list xs) (number_of tile bx by) (pixel_in_block column row) s) single)
-      (λ row column s h at. elim (cases_eq (block_in_tile column row) (number_of tile bx by)) [
+      ∙ ap (λ (way : Way). sample_place tile.count way (in_list xs) (number_in_tile tile bx by) (pixel_in_block column row) s) single)
+      (λ row column s h at. elim (cases_eq (block_in_tile column row) (number_in_tile tile bx by)) [
         | inl here ↦ of_block tile side bx by row column s h left (omega (arith, right)) top (omega (arith, bottom)) here
-        | inr other ↦ absurd (place_apart tile.count xs Single column row s (number_of tile bx by) 0 other h.is_sample (some_samples tile.count) single_not_cleared at)
+        | inr other ↦ absurd (place_apart tile.count xs Single column row s (number_in_tile tile bx by) 0 other h.is_sample (some_samples tile.count) single_not_cleared at)
       ])
 
 -- ---- of a tile all of whose blocks are kept as the one to which it was cleared
@@ -196,8 +196,8 @@ module _ (t : Placed) (tile : Tile) (xs after : List BlockSamples) (cleared : (k
 
 -- ---- of a block all of whose bits are set
 module _ (t : Placed) (tile : Tile) (side : tile.side ≡ T64) (bx by : ℕ) (block : LiesIn tile bx by 8) (masks : Masks) (k : ℕ) (allows : AllowsTile t.state tile)
-    (full : (s bit : ℕ) → s < count_of tile.count → bit < 64 → IsBitSet (mask_of masks k (by - tile.by) s) bit) (old mid new : List BlockSamples)
-    (alike : DrawsAlike t tile.count old mid) (others : KeepsOtherBlocks (number_of tile bx by) tile.count old mid) (paints : TilePaints t tile (IsInSquare tile bx by 8) mid new) where
+    (full : (s bit : ℕ) → s < count_of tile.count → bit < 64 → IsBitSet (block_mask masks k (by - tile.by) s) bit) (old mid new : List BlockSamples)
+    (alike : DrawsAlike t tile.count old mid) (others : KeepsOtherBlocks (number_in_tile tile bx by) tile.count old mid) (paints : TilePaints t tile (IsInSquare tile bx by 8) mid new) where
   module _ (row column s : ℕ) (h : IsSampleOf tile row column s) where
     in_full : IsInSquare tile bx by 8 row column s → IsInBlock t.state tile bx by masks k row column s
     in_full q =
@@ -205,11 +205,11 @@ module _ (t : Placed) (tile : Tile) (side : tile.side ≡ T64) (bx by : ℕ) (bl
         let line : by - tile.by ≡ row / 8 = omega (arith, q.top, q.bottom, low) in
         record {
           square = q;
-          in_masks = subst (λ r. IsBitSet (mask_of masks k r s) (8 * (row % 8) + column % 8)) line (full s (8 * (row % 8) + column % 8) h.is_sample (omega arith));
+          in_masks = subst (λ r. IsBitSet (block_mask masks k r s) (8 * (row % 8) + column % 8)) line (full s (8 * (row % 8) + column % 8) h.is_sample (omega arith));
           allowed = allowed_all t.state tile allows row column s h;
         }
 
-    in_number : block_in_tile column row ≡ number_of tile bx by → IsInSquare tile bx by 8 row column s
+    in_number : block_in_tile column row ≡ number_in_tile tile bx by → IsInSquare tile bx by 8 row column s
     in_number here =
         let right = rw side at block.right in
         let bottom = rw side at block.bottom in

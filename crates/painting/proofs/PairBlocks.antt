@@ -24,7 +24,7 @@ use Rattle.canvas.proofs.Places.{middle_sample}
 use Rattle.canvas.proofs.TilePlanes.{cases_eq}
 use Rattle.canvas.proofs.Ways.{pair_not_cleared}
 use Rattle.painting.specs.declared.masks.Masks.{Masks}
-use Rattle.painting.specs.Parts.{mask_of, number_of, AllowsTile, IsInWords, IsInBlock, IsKeptAt, HasNoMasks, KeepsPlanesBut, DrawsPlane, TilePaints}
+use Rattle.painting.specs.Parts.{block_mask, number_in_tile, AllowsTile, IsInWords, IsInBlock, IsKeptAt, HasNoMasks, KeepsPlanesBut, DrawsPlane, TilePaints}
 use Rattle.painting.proofs.BlocksAlike.{drawn_alike}
 use Rattle.painting.proofs.Joined.{tile_same, tile_joined}
 use Rattle.painting.proofs.OnePlane.{allowed_all, no_masks_at, place_apart, same_places}
@@ -54,7 +54,7 @@ without_bit count masks p s other = elim (eqb_tells (bit_at (mask_in masks s) p)
 
 -- ---- a block of the tile
 module _ (tile : Tile) (side : tile.side ≡ T64) (bx by : ℕ) (block : LiesIn tile bx by 8) (row column s : ℕ) (h : IsSampleOf tile row column s) where
-  pub square_of : block_in_tile column row ≡ number_of tile bx by → IsInSquare tile bx by 8 row column s
+  pub square_of : block_in_tile column row ≡ number_in_tile tile bx by → IsInSquare tile bx by 8 row column s
   square_of here =
       let right = rw side at block.right in
       let bottom = rw side at block.bottom in
@@ -62,32 +62,32 @@ module _ (tile : Tile) (side : tile.side ≡ T64) (bx by : ℕ) (block : LiesIn 
 
 -- its samples in the masks of all samples of a pixel are those that are drawn
 module _ (t : Placed) (tile : Tile) (bx by : ℕ) (block : LiesIn tile bx by 8) (masks : Masks) (k : ℕ) (allows : AllowsTile t.state tile) (words : List ℕ)
-    (are : (s : ℕ) → s < count_of tile.count → slice_index words s ≡ mask_of masks k (by - tile.by) s) (old new : List BlockSamples) where
-  word_is : (row column s : ℕ) → IsSampleOf tile row column s → IsInSquare tile bx by 8 row column s → slice_index words s ≡ mask_of masks k (row / 8) s
+    (are : (s : ℕ) → s < count_of tile.count → slice_index words s ≡ block_mask masks k (by - tile.by) s) (old new : List BlockSamples) where
+  word_is : (row column s : ℕ) → IsSampleOf tile row column s → IsInSquare tile bx by 8 row column s → slice_index words s ≡ block_mask masks k (row / 8) s
   word_is row column s h q =
       let low = block.top in
       let line : by - tile.by ≡ row / 8 = omega (arith, q.top, q.bottom, low) in
-      are s h.is_sample ∙ ap (λ r. mask_of masks k r s) line
+      are s h.is_sample ∙ ap (λ r. block_mask masks k r s) line
 
   pub words_painted : TilePaints t tile (IsInWords tile bx by words) old new → TilePaints t tile (IsInBlock t.state tile bx by masks k) old new
   words_painted paints =
       tile_same t tile (IsInWords tile bx by words) (IsInBlock t.state tile bx by masks k) old new paints
       (λ row column s h p. record {
         square = p.square;
-        in_words = subst (λ w. bit_at w (pixel_in_block column row) ≡ 1) (sym (word_is row column s h p.square)) (is_one (mask_of masks k (row / 8) s) (pixel_in_block column row) p.in_masks);
+        in_words = subst (λ w. bit_at w (pixel_in_block column row) ≡ 1) (sym (word_is row column s h p.square)) (is_one (block_mask masks k (row / 8) s) (pixel_in_block column row) p.in_masks);
       })
       (λ row column s h p. record {
         square = p.square;
-        in_masks = is_set (mask_of masks k (row / 8) s) (pixel_in_block column row) (subst (λ w. bit_at w (pixel_in_block column row) ≡ 1) (word_is row column s h p.square) p.in_words);
+        in_masks = is_set (block_mask masks k (row / 8) s) (pixel_in_block column row) (subst (λ w. bit_at w (pixel_in_block column row) ≡ 1) (word_is row column s h p.square) p.in_words);
         allowed = allowed_all t.state tile allows row column s h;
       })
 
 -- ---- drawn in the second plane, which has the samples in the masks
 module _ (t : Placed) (tile : Tile) (side : tile.side ≡ T64) (bx by : ℕ) (block : LiesIn tile bx by 8) (words : List ℕ) (mid new : List BlockSamples) (some : 4 ≤ count_of tile.count)
-    (pair : way_in_tile mid (number_of tile bx by) ≡ Pair) (has : HasMasks tile.count (number_of tile bx by) words mid)
-    (paints : TilePaints t tile (IsKeptAt tile.count mid (place_by tile.count Pair (number_of tile bx by) (count_of tile.count / 2))) mid new) where
+    (pair : way_in_tile mid (number_in_tile tile bx by) ≡ Pair) (has : HasMasks tile.count (number_in_tile tile bx by) words mid)
+    (paints : TilePaints t tile (IsKeptAt tile.count mid (place_by tile.count Pair (number_in_tile tile bx by) (count_of tile.count / 2))) mid new) where
   abbrev number : ℕ
-  number = number_of tile bx by
+  number = number_in_tile tile bx by
 
   second_in : (row column s : ℕ) → IsSampleOf tile row column s → IsKeptAt tile.count mid (place_by tile.count Pair number (count_of tile.count / 2)) row column s → block_in_tile column row ≡ number → IsInWords tile bx by words row column s
   second_in row column s h at here =
@@ -119,11 +119,11 @@ module _ (t : Placed) (tile : Tile) (side : tile.side ≡ T64) (bx by : ℕ) (bl
 
 -- ---- drawn in both planes
 module _ (t : Placed) (tile : Tile) (side : tile.side ≡ T64) (bx by : ℕ) (block : LiesIn tile bx by 8) (old mid new : List BlockSamples) (some : 4 ≤ count_of tile.count)
-    (pair : way_in_tile old (number_of tile bx by) ≡ Pair) (others : KeepsPlanesBut (place_by tile.count Pair (number_of tile bx by) 0) old mid)
-    (first : TilePaints t tile (IsKeptAt tile.count old (place_by tile.count Pair (number_of tile bx by) 0)) old mid)
-    (second : TilePaints t tile (IsKeptAt tile.count mid (place_by tile.count Pair (number_of tile bx by) (count_of tile.count / 2))) mid new) where
+    (pair : way_in_tile old (number_in_tile tile bx by) ≡ Pair) (others : KeepsPlanesBut (place_by tile.count Pair (number_in_tile tile bx by) 0) old mid)
+    (first : TilePaints t tile (IsKeptAt tile.count old (place_by tile.count Pair (number_in_tile tile bx by) 0)) old mid)
+    (second : TilePaints t tile (IsKeptAt tile.count mid (place_by tile.count Pair (number_in_tile tile bx by) (count_of tile.count / 2))) mid new) where
   abbrev its : ℕ
-  its = number_of tile bx by
+  its = number_in_tile tile bx by
 
   same_mid : (i j s : ℕ) → place_in_tile tile.count (in_list mid) i j s ≡ place_in_tile tile.count (in_list old) i j s
   same_mid = same_places tile.count (place_by tile.count Pair its 0) old mid (omega arith) others (no_masks_first tile.count old its some)
@@ -151,13 +151,13 @@ module _ (t : Placed) (tile : Tile) (side : tile.side ≡ T64) (bx by : ℕ) (bl
 
 -- ---- stored in place of the samples in the masks
 module _ (t : Placed) (tile : Tile) (side : tile.side ≡ T64) (bx by : ℕ) (block : LiesIn tile bx by 8) (words : List ℕ) (plane : BlockSamples) (old new : List BlockSamples)
-    (pair : way_in_tile old (number_of tile bx by) ≡ Pair) (replaces : ReplacesColours t.state tile.count)
-    (same : ((in_list old (place_by tile.count Pair (number_of tile bx by) 0)).z ≡ (in_list old (place_by tile.count Pair (number_of tile bx by) (count_of tile.count / 2))).z)
-    × ((in_list old (place_by tile.count Pair (number_of tile bx by) 0)).alpha ≡ (in_list old (place_by tile.count Pair (number_of tile bx by) (count_of tile.count / 2))).alpha))
-    (drawn : DrawsPlane t (in_list old (place_by tile.count Pair (number_of tile bx by) 0)) plane)
-    (made : AreReplaced tile.count (number_of tile bx by) words plane old new) (others : KeepsOtherSamples tile.count (number_of tile bx by) old new) where
+    (pair : way_in_tile old (number_in_tile tile bx by) ≡ Pair) (replaces : ReplacesColours t.state tile.count)
+    (same : ((in_list old (place_by tile.count Pair (number_in_tile tile bx by) 0)).z ≡ (in_list old (place_by tile.count Pair (number_in_tile tile bx by) (count_of tile.count / 2))).z)
+    × ((in_list old (place_by tile.count Pair (number_in_tile tile bx by) 0)).alpha ≡ (in_list old (place_by tile.count Pair (number_in_tile tile bx by) (count_of tile.count / 2))).alpha))
+    (drawn : DrawsPlane t (in_list old (place_by tile.count Pair (number_in_tile tile bx by) 0)) plane)
+    (made : AreReplaced tile.count (number_in_tile tile bx by) words plane old new) (others : KeepsOtherSamples tile.count (number_in_tile tile bx by) old new) where
   abbrev this : ℕ
-  this = number_of tile bx by
+  this = number_in_tile tile bx by
 
   abbrev first_plane : BlockSamples
   first_plane = in_list old (place_by tile.count Pair this 0)

@@ -26,7 +26,7 @@ use Rattle.canvas.proofs.Places.{part_within}
 use Rattle.painting.specs.declared.masks.Masks.{Masks}
 use Rattle.painting.specs.declared.polygon.Polygon.{Polygon}
 use Rattle.painting.specs.Painting.{IsInScissor, shape_of}
-use Rattle.painting.specs.Parts.{over_screen, mask_at, AreMasksOf, IsFlagged, MeetsHere, RowsPaint}
+use Rattle.painting.specs.Parts.{over_screen, mask_at, AreMasksOfRow, IsFlagged, MeetsHere, RowsPaint}
 use Rattle.painting.proofs.Joined.{rows_same}
 use Rattle.painting.proofs.SampleParts.{part_end}
 
@@ -138,7 +138,7 @@ module _ (polygon : Polygon) (origin : Origin) (c : Canvas) (row first many : �
 
 -- ---- all masks
 module _ (polygon : Polygon) (origin : Origin) (c : Canvas) (row first many : ℕ) (masks : Masks) (columns : masks.columns ≡ many) (inside : first + many ≤ 8 * columns_of c) (in_picture : row < 64)
-    (are : AreMasksOf polygon origin c row first many masks.flags.now) where
+    (are : AreMasksOfRow polygon origin c row first many masks.flags.now) where
   module _ (i j s : ℕ) (h : IsStoredIn c row (row + 1) i j s) (left : first ≤ i / 8) (right : i / 8 < first + many) where
     thin : i < 4096
     thin = let wide = c.width_fits in omega (arith, inside, right, wide)

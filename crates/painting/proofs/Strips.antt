@@ -16,7 +16,7 @@ use Rattle.canvas.specs.Layout.{IsStoredIn, planes_of_tile, stored, stored_in_ti
 use Rattle.canvas.proofs.Cut.{put}
 use Rattle.canvas.proofs.Places.{tile_of, tile_put, tile_kept}
 use Rattle.painting.specs.declared.masks.Masks.{Masks}
-use Rattle.painting.specs.Parts.{mask_of, IsInColumn, IsFlagged, TilePaints, RowsPaint}
+use Rattle.painting.specs.Parts.{block_mask, IsInColumn, IsFlagged, TilePaints, RowsPaint}
 use Rattle.painting.proofs.Joined.{rows_joined}
 
 -- ---- a tile of the row
@@ -119,7 +119,7 @@ module _ (t : Placed) (c : Canvas) (row first k : ℕ) (masks : Masks) (tile : T
             left = omega (arith, column, l);
             right = omega (arith, column, p.right);
             before = omega arith;
-            in_masks = rw same_bit (subst (λ b. IsBitSet (mask_of masks b (j % 64 / 8) s) bit) block p.in_masks);
+            in_masks = rw same_bit (subst (λ b. IsBitSet (block_mask masks b (j % 64 / 8) s) bit) block p.in_masks);
             allowed = rw (column, line) p.allowed;
           },
         )
@@ -132,7 +132,7 @@ module _ (t : Placed) (c : Canvas) (row first k : ℕ) (masks : Masks) (tile : T
         record {
           left = omega (arith, column, p.left);
           right = omega (arith, column, p.right);
-          in_masks = subst (λ b. IsBitSet (mask_of masks b (j % 64 / 8) s) bit) (sym block) (rw same_bit at p.in_masks);
+          in_masks = subst (λ b. IsBitSet (block_mask masks b (j % 64 / 8) s) bit) (sym block) (rw same_bit at p.in_masks);
           allowed = rw (column, line) at p.allowed;
         }
 

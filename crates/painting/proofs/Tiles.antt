@@ -20,7 +20,7 @@ use Rattle.canvas.proofs.DrawnTiles.{own_put, mark_put}
 use Rattle.canvas.proofs.Places.{none, last_sample, within_block}
 use Rattle.canvas.proofs.TilePlanes.{by_way, by_any_way, own_place, within_own, same_own_plane, same_mask}
 use Rattle.canvas.proofs.Ways.{cleared_not_pair, single_not_pair, own_not_pair}
-use Rattle.painting.specs.Parts.{number_of, TilePaints}
+use Rattle.painting.specs.Parts.{number_in_tile, TilePaints}
 
 -- ---- where the samples of a block are
 module _ (tile : Tile) (side : tile.side ≡ T64) (bx by row column s : ℕ) (h : IsSampleOf tile row column s) where
@@ -30,10 +30,10 @@ module _ (tile : Tile) (side : tile.side ≡ T64) (bx by row column s : ℕ) (h 
   wide_is : column < 64
   wide_is = let below = h.wide in rw side at below
 
-  pub in_block : IsInSquare tile bx by 8 row column s → block_in_tile column row ≡ number_of tile bx by
+  pub in_block : IsInSquare tile bx by 8 row column s → block_in_tile column row ≡ number_in_tile tile bx by
   in_block q = let down = high_is in let across = wide_is in omega (arith, down, across, q.left, q.right, q.top, q.bottom)
 
-  pub of_block : tile.bx ≤ bx → bx < tile.bx + 8 → tile.by ≤ by → by < tile.by + 8 → block_in_tile column row ≡ number_of tile bx by → IsInSquare tile bx by 8 row column s
+  pub of_block : tile.bx ≤ bx → bx < tile.bx + 8 → tile.by ≤ by → by < tile.by + 8 → block_in_tile column row ≡ number_in_tile tile bx by → IsInSquare tile bx by 8 row column s
   of_block l r t b e =
       let down = high_is in
       let across = wide_is in
@@ -54,15 +54,15 @@ way_cases P a b c d Own = d
 
 -- ---- drawn in the planes of a block
 module _ (t : Placed) (tile : Tile) (side : tile.side ≡ T64) (bx by from : ℕ) (masks : List ℕ) (old part : List BlockSamples) (n a : ℕ) (many : a + n ≡ planes_of_tile tile.count) (at : a ≡ 1 + count_of tile.count)
-    (fits : a + n ≤ length old) (whole : length part ≡ n) (own : way_in_tile old (number_of tile bx by) ≡ Own) (draws : DrawsMasks t tile bx by from masks (take n (drop a old)) part) where
+    (fits : a + n ≤ length old) (whole : length part ≡ n) (own : way_in_tile old (number_in_tile tile bx by) ≡ Own) (draws : DrawsMasks t tile bx by from masks (take n (drop a old)) part) where
   abbrev new : List BlockSamples
   new = put old part a n
 
   same_state : slice_index_or new 0 none ≡ slice_index_or old 0 none
   same_state = mark_put old part n a fits whole (omega (arith, at))
 
-  pub still_own : way_in_tile new (number_of tile bx by) ≡ Own
-  still_own = ap (λ (state : BlockSamples). way_of state (number_of tile bx by)) same_state ∙ own
+  pub still_own : way_in_tile new (number_in_tile tile bx by) ≡ Own
+  still_own = ap (λ (state : BlockSamples). way_of state (number_in_tile tile bx by)) same_state ∙ own
 
   module _ (row column s : ℕ) (h : IsSampleOf tile row column s) where
     abbrev block : ℕ

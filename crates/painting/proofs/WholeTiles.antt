@@ -9,13 +9,13 @@ use Rattle.canvas.specs.declared.canvas.Canvas.{Canvas}
 use Rattle.canvas.specs.Layout.{IsStoredIn, planes_of_tile}
 use Rattle.canvas.proofs.Cut.{put}
 use Rattle.painting.specs.declared.masks.Masks.{Masks}
-use Rattle.painting.specs.Parts.{mask_of, IsAllowed, IsFlagged, TilePaints, RowsPaint}
+use Rattle.painting.specs.Parts.{block_mask, IsAllowed, IsFlagged, TilePaints, RowsPaint}
 use Rattle.painting.proofs.Joined.{rows_joined}
 use Rattle.painting.proofs.Strips.{IsTileAt, tile_in_row}
 
 -- ---- eight columns of blocks more
 module _ (t : Placed) (c : Canvas) (row first k : ℕ) (masks : Masks) (tile : Tile) (is : IsTileAt c ((first + k) / 8) row tile) (begins : (first + k) % 8 ≡ 0)
-    (full : (column r s bit : ℕ) → k ≤ column → column < k + 8 → r < 8 → s < count_of c.count → bit < 64 → IsBitSet (mask_of masks column r s) bit) where
+    (full : (column r s bit : ℕ) → k ≤ column → column < k + 8 → r < 8 → s < count_of c.count → bit < 64 → IsBitSet (block_mask masks column r s) bit) where
   abbrev Before : ℕ → ℕ → ℕ → Type 0
   Before i j s = IsFlagged t.state first k masks i j s
 

@@ -25,10 +25,10 @@
 --   RowsPaint: The triangle is drawn at those samples of the tile rows that are in this part, and the others are unchanged.
 --   flag_columns_of: How many columns of flags the canvas needs.
 --   mask_at: The mask of samples s of the block in a column and a row of blocks.
---   mask_of: That mask among the masks of a tile row.
+--   block_mask: That mask among the masks of a tile row.
 --   IsAllowed: The state lets the sample of the tile be drawn.
 --   AllowsTile: The state lets each sample of the tile be drawn.
---   number_of: The number of block (bx, by) among the 64 of its tile, row by row.
+--   number_in_tile: The number of block (bx, by) among the 64 of its tile, row by row.
 --   IsKeptAt: The sample is kept in the plane of this index among those of the tile.
 --   HasNoMasks: The plane of this index among those of the tile is not that of a pair's masks.
 --   KeepsPlanesBut: All planes of the tile but the one of this index are unchanged.
@@ -38,7 +38,7 @@
 --   IsInColumn: The sample is in the first n rows of blocks of column `bx` of blocks and is drawn there.
 --   IsFlagged: The sample is in the first n columns of blocks, from column `first` on, and is drawn there.
 --   MeetsHere: The polygon meets sample s of pixel (i, j) of the canvas.
---   AreMasksOf: The flags are the masks of the samples of a tile row that the polygon covers.
+--   AreMasksOfRow: The flags are the masks of the samples of a tile row that the polygon covers.
 --   HoldsSamples: Each sample of the canvas that lies in the box is in a column of blocks and a tile row of the window.
 --
 -- Batches.antt

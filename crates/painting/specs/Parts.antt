@@ -114,8 +114,8 @@ abbrev pub mask_at : List (List ℕ) → ℕ → ℕ → ℕ → ℕ → ℕ
 mask_at flags many column row s = slice_index (row_of flags (s / 4 * many + column)) (4 * row + s % 4)
 
 -- That mask among the masks of a tile row.
-abbrev pub mask_of : Masks → ℕ → ℕ → ℕ → ℕ
-mask_of masks column row s = mask_at masks.flags.now masks.columns column row s
+abbrev pub block_mask : Masks → ℕ → ℕ → ℕ → ℕ
+block_mask masks column row s = mask_at masks.flags.now masks.columns column row s
 
 -- The state lets the sample of the tile be drawn.
 abbrev pub IsAllowed : State → Tile → ℕ → ℕ → ℕ → Type 0
@@ -128,8 +128,8 @@ pub record AllowsTile (state : State) (tile : Tile) : Type 0 where
   pub in_mask : (s : ℕ) → s < count_of tile.count → state.sample_mask / 2 ^ s % 2 ≡ 1
 
 -- The number of block (bx, by) among the 64 of its tile, row by row.
-abbrev pub number_of : Tile → ℕ → ℕ → ℕ
-number_of tile bx by = (by - tile.by) * 8 + (bx - tile.bx)
+abbrev pub number_in_tile : Tile → ℕ → ℕ → ℕ
+number_in_tile tile bx by = (by - tile.by) * 8 + (bx - tile.bx)
 
 -- The sample is kept in the plane of this index among those of the tile.
 abbrev pub IsKeptAt : SampleCount → List BlockSamples → ℕ → ℕ → ℕ → ℕ → Type 0
@@ -151,7 +151,7 @@ DrawsPlane t old new =
 -- The sample is in block (bx, by) and is drawn there. Its bit is set in column k of the masks, and the state lets it be drawn.
 pub record IsInBlock (state : State) (tile : Tile) (bx by : ℕ) (masks : Masks) (k : ℕ) (row column s : ℕ) : Type 0 where
   pub square : IsInSquare tile bx by 8 row column s
-  pub in_masks : IsBitSet (mask_of masks k (row / 8) s) (8 * (row % 8) + column % 8)
+  pub in_masks : IsBitSet (block_mask masks k (row / 8) s) (8 * (row % 8) + column % 8)
   pub allowed : IsAllowed state tile row column s
 
 -- The sample is in block (bx, by), and its bit is set in the mask of its index.
@@ -165,7 +165,7 @@ pub record IsInColumn (state : State) (tile : Tile) (bx n : ℕ) (masks : Masks)
   pub left : 8 * bx ≤ 8 * tile.bx + column
   pub right : 8 * tile.bx + column < 8 * bx + 8
   pub before : row < 8 * n
-  pub in_masks : IsBitSet (mask_of masks k (row / 8) s) (8 * (row % 8) + column % 8)
+  pub in_masks : IsBitSet (block_mask masks k (row / 8) s) (8 * (row % 8) + column % 8)
   pub allowed : IsAllowed state tile row column s
 
 -- The sample is in the first n columns of blocks, from column `first` on, and is drawn there. Its bit is set in the masks, and the state
@@ -173,7 +173,7 @@ pub record IsInColumn (state : State) (tile : Tile) (bx n : ℕ) (masks : Masks)
 pub record IsFlagged (state : State) (first n : ℕ) (masks : Masks) (i j s : ℕ) : Type 0 where
   pub left : 8 * first ≤ i
   pub right : i < 8 * (first + n)
-  pub in_masks : IsBitSet (mask_of masks (i / 8 - first) (j % 64 / 8) s) (8 * (j % 8) + i % 8)
+  pub in_masks : IsBitSet (block_mask masks (i / 8 - first) (j % 64 / 8) s) (8 * (j % 8) + i % 8)
   pub allowed : Allows state i j s
 
 -- The polygon meets sample s of pixel (i, j) of the canvas.
@@ -182,8 +182,8 @@ MeetsHere polygon origin count i j s = MeetsSample (shape_of polygon) count (pos
 
 -- The flags are the masks of the samples of a tile row that the polygon covers. There are `many` columns of blocks, from column `first`
 -- on.
-abbrev pub AreMasksOf : Polygon → Origin → Canvas → ℕ → ℕ → ℕ → List (List ℕ) → Type 0
-AreMasksOf polygon origin c row first many flags =
+abbrev pub AreMasksOfRow : Polygon → Origin → Canvas → ℕ → ℕ → ℕ → List (List ℕ) → Type 0
+AreMasksOfRow polygon origin c row first many flags =
     (i j s : ℕ) → IsStoredIn c row (row + 1) i j s → first ≤ i / 8 → i / 8 < first + many
     → (IsBitSet (mask_at flags many (i / 8 - first) (j % 64 / 8) s) (8 * (j % 8) + i % 8) ↔ PolygonCovers polygon.rule (shape_of polygon).rings (screen_sample (pos i +ℤ origin.x) (pos j +ℤ origin.y) s c.count))
 

@@ -5,7 +5,7 @@ ghost use Rattle.grid.specs.declared.pixels.TileSide.TheVariants.{T64};
 ghost use Rattle.raster.specs.Drawing.{LiesIn, IsChosen, IsInSquare};
 ghost use Rattle.canvas.specs.declared.way.Way.TheVariants.{Own, Single};
 ghost use Rattle.canvas.specs.Layout.{planes_of_tile, way_in_tile};
-ghost use Rattle.painting.specs.Parts.{CoversScreen, IsAlikeOverScreen, AllowsTile, number_of as number_in_tile, IsInBlock, TilePaints};
+ghost use Rattle.painting.specs.Parts.{CoversScreen, IsAlikeOverScreen, AllowsTile, number_in_tile, IsInBlock, TilePaints};
 
 use crate::masks::{Masks, has_some};
 use crate::number::number_of;

@@ -44,7 +44,7 @@ fn are_full(words: &[u64; 4], samples: u32) -> bool
 }
 
 impl Masks<'_> {
-    ghost use Rattle.painting.specs.Parts.{mask_of};
+    ghost use Rattle.painting.specs.Parts.{block_mask};
 
     /// The masks of the samples of a part, of the block in a column and a row of blocks.
     #[inline(always)]
@@ -52,7 +52,7 @@ impl Masks<'_> {
         requires column { column < self.now.columns }
         requires row { row < 8 }
         requires part { part < parts_of self.now.count }
-        ensures { (s : ℕ) → s < 4 → slice_index result s ≡ mask_of self.now column row (4 * part + s) }
+        ensures { (s : ℕ) → s < 4 → slice_index result s ≡ block_mask self.now column row (4 * part + s) }
     {
         let words = &self.flags[part as usize * self.columns + column];
         let at = 4 * row;
@@ -64,7 +64,7 @@ impl Masks<'_> {
     pub(crate) fn has_some(&self, column: usize, row: usize) -> bool
         requires column { column < self.now.columns }
         requires row { row < 8 }
-        ensures { result ≡ false → (s : ℕ) → s < count_of self.now.count → mask_of self.now column row s ≡ 0 }
+        ensures { result ≡ false → (s : ℕ) → s < count_of self.now.count → block_mask self.now column row s ≡ 0 }
     {
         for part in 0..self.count.parts() {
             if has_some(&self.part(column, row, part)) {
@@ -80,7 +80,7 @@ impl Masks<'_> {
         requires column { column < self.now.columns }
         requires row { row < 8 }
         ensures { IsTrue result → (s k : ℕ) → s < count_of self.now.count → k < 64 →
-            IsBitSet (mask_of self.now column row s) k }
+            IsBitSet (block_mask self.now column row s) k }
     {
         for part in 0..self.count.parts() {
             if !are_full(&self.part(column, row, part), self.count.part_size()) {
@@ -94,7 +94,7 @@ impl Masks<'_> {
     pub(crate) fn words(&self, column: usize, row: usize) -> [u64; 16]
         requires column { column < self.now.columns }
         requires row { row < 8 }
-        ensures { (s : ℕ) → s < count_of self.now.count → slice_index result s ≡ mask_of self.now column row s }
+        ensures { (s : ℕ) → s < count_of self.now.count → slice_index result s ≡ block_mask self.now column row s }
     {
         let mut words = [0; 16];
         for s in 0..self.count.count() {

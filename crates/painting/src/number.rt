@@ -2,7 +2,7 @@
 ghost use Rattle.std.specs.Prelude.{◌≡◌, ◌<◌};
 ghost use Rattle.grid.specs.declared.pixels.TileSide.TheVariants.{T64};
 ghost use Rattle.raster.specs.Drawing.{LiesIn};
-ghost use Rattle.painting.specs.Parts.{number_of as number_in_tile};
+ghost use Rattle.painting.specs.Parts.{number_in_tile};
 
 use raster::Tile;
 

@@ -6,7 +6,7 @@ ghost use Rattle.polygons.specs.declared.rule.Rule.TheVariants.{NonZero};
 ghost use Rattle.polygons.specs.Cells.{AreZeros};
 ghost use Rattle.polygons.specs.Runs.{AreRunsOf};
 ghost use Rattle.painting.specs.Painting.{IsOriginInBand};
-ghost use Rattle.painting.specs.Parts.{over_screen, AreMasksOf, MeetsHere, RowsPaint};
+ghost use Rattle.painting.specs.Parts.{over_screen, AreMasksOfRow, MeetsHere, RowsPaint};
 
 use crate::masks::Masks;
 use crate::polygon::Polygon;
@@ -55,7 +55,7 @@ fn cover_row(
     requires flags { AreZeros flags.old }
     requires counters { AreZeros counters.old }
     requires counted { polygon.now.rule ≡ NonZero → length counters.old ≡ many }
-    ensures masks { AreMasksOf polygon.now origin.now canvas.now row first many flags.new }
+    ensures masks { AreMasksOfRow polygon.now origin.now canvas.now row first many flags.new }
     ensures counters { AreZeros counters.new }
 {
     for part in 0..canvas.count.parts() {

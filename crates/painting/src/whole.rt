@@ -5,7 +5,7 @@ ghost use Rattle.grid.specs.Samples.{count_of};
 ghost use Rattle.grid.specs.declared.pixels.TileSide.TheVariants.{T64};
 ghost use Rattle.canvas.specs.declared.way.Way.TheVariants.{Cleared};
 ghost use Rattle.canvas.specs.Layout.{planes_of_tile, way_in_tile};
-ghost use Rattle.painting.specs.Parts.{mask_of, CoversScreen, IsAlikeOverScreen, AllowsTile, IsAllowed, TilePaints};
+ghost use Rattle.painting.specs.Parts.{block_mask, CoversScreen, IsAlikeOverScreen, AllowsTile, IsAllowed, TilePaints};
 
 use crate::allowed::allows_tile;
 use crate::masks::Masks;
@@ -18,7 +18,7 @@ use raster::Tile;
 fn are_full_columns(masks: &Masks<'_>, k: usize) -> bool
     requires { k + 8 ≤ masks.now.columns }
     ensures { IsTrue result → (column row s bit : ℕ) → k ≤ column → column < k + 8 → row < 8 →
-        s < count_of masks.now.count → bit < 64 → IsBitSet (mask_of masks.now column row s) bit }
+        s < count_of masks.now.count → bit < 64 → IsBitSet (block_mask masks.now column row s) bit }
 {
     for column in k..k + 8 {
         for row in 0..8 {
@@ -45,7 +45,7 @@ pub(crate) fn is_whole(
     ensures allows { IsTrue result → AllowsTile triangle.now.state tile.now }
     ensures cleared { IsTrue result → (block : ℕ) → block < 64 → way_in_tile samples.now block ≡ Cleared }
     ensures full { IsTrue result → (column row s bit : ℕ) → k ≤ column → column < k + 8 → row < 8 →
-        s < count_of masks.now.count → bit < 64 → IsBitSet (mask_of masks.now column row s) bit }
+        s < count_of masks.now.count → bit < 64 → IsBitSet (block_mask masks.now column row s) bit }
 {
     if bx % 8 != 0 || masks.columns < 8 {
         return false;

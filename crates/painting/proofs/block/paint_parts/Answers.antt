@@ -2,7 +2,7 @@ use Rattle.std.proofs.Common.{◌≡◌, arith, sym, subst, ◌+◌, ◌≤◌, 
 use Rattle.canvas.specs.declared.way.Way.TheVariants.{Own}
 use Rattle.canvas.specs.Layout.{way_in_tile}
 use Rattle.lanes.specs.declared.block_samples.BlockSamples.{BlockSamples}
-use Rattle.painting.specs.Parts.{number_of, IsInBlock, TilePaints}
+use Rattle.painting.specs.Parts.{number_in_tile, IsInBlock, TilePaints}
 use Rattle.painting.proofs.BlockParts.{OfParts, no_part, block_part_more, block_part_skipped, every_part}
 use Rattle.painting.proofs.SampleParts.{is_part}
 use Rattle.painting.proofs.block.paint_parts.Goals as goal
@@ -31,7 +31,7 @@ loop-part-preserved c =
     let mid = c.loop-part.samples in
     let words = c.part-words.result in
     let low : tile.by ≤ c.args.by = c.requires.block.top in
-    let AreOwn = λ (xs : List BlockSamples). way_in_tile xs (number_of tile c.args.bx c.args.by) ≡ Own in
+    let AreOwn = λ (xs : List BlockSamples). way_in_tile xs (number_in_tile tile c.args.bx c.args.by) ≡ Own in
     let Painted = λ (xs : List BlockSamples). TilePaints t tile (OfParts (IsInBlock t.state tile c.args.bx c.args.by masks c.args.k) (part + 1)) old xs in
     elim c.if-has_some.branch [
       | then-has_some w ↦ record {

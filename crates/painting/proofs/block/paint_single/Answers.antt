@@ -1,7 +1,7 @@
 use Rattle.std.proofs.Common.{◌≡◌, ◌∙◌, ap, subst, sym}
 use Rattle.canvas.specs.declared.way.Way.TheVariants.{Single}
 use Rattle.canvas.specs.Layout.{place_by}
-use Rattle.painting.specs.Parts.{number_of, HasNoMasks, IsKeptAt, TilePaints}
+use Rattle.painting.specs.Parts.{number_in_tile, HasNoMasks, IsKeptAt, TilePaints}
 use Rattle.painting.proofs.OnePlane.{no_masks_at, single_painted}
 use Rattle.canvas.proofs.Ways.{single_not_cleared, single_not_pair}
 use Rattle.shade.proofs.Resolved.{some_samples}
@@ -11,7 +11,7 @@ pub paint_plane-requires-clause-masks : goal.paint_plane-requires-clause-masks
 paint_plane-requires-clause-masks c =
     let count = c.args.tile.now.count in
     let old = c.args.samples.now in
-    let number = number_of c.args.tile.now c.args.bx c.args.by in
+    let number = number_in_tile c.args.tile.now c.args.bx c.args.by in
     let at : c.place_by-place.result ≡ place_by count Single number 0 = c.place_by-place.ensures.value ∙ ap (λ k. place_by count Single k 0) c.number_of-number.ensures.value in
     subst (HasNoMasks count old) (sym at)
     (no_masks_at count old Single number 0 (some_samples count) single_not_cleared (λ pair. absurd (single_not_pair (sym c.requires.single ∙ pair))))
@@ -22,7 +22,7 @@ returns c =
     let tile = c.args.tile.now in
     let old = c.args.samples.now in
     let new = c.paint_plane.new.samples in
-    let number = number_of tile c.args.bx c.args.by in
+    let number = number_in_tile tile c.args.bx c.args.by in
     let at : c.place_by-place.result ≡ place_by tile.count Single number 0 = c.place_by-place.ensures.value ∙ ap (λ k. place_by tile.count Single k 0) c.number_of-number.ensures.value in
     single_painted t tile c.requires.side c.args.bx c.args.by c.requires.block old new c.requires.single
     (subst (λ q. TilePaints t tile (IsKeptAt tile.count old q) old new) at c.paint_plane.ensures.painted)

@@ -2,7 +2,7 @@ use Rattle.std.proofs.Common.{rules, ◌≡◌, ◌∙◌, sym, subst, ap, ◌/�
 use Rattle.grid.specs.Samples.{count_of}
 use Rattle.canvas.specs.declared.way.Way.TheVariants.{Pair}
 use Rattle.canvas.specs.Layout.{place_by, way_in_tile}
-use Rattle.painting.specs.Parts.{number_of, HasNoMasks, IsKeptAt, KeepsPlanesBut, TilePaints}
+use Rattle.painting.specs.Parts.{number_in_tile, HasNoMasks, IsKeptAt, KeepsPlanesBut, TilePaints}
 use Rattle.painting.proofs.PairBlocks.{no_masks_first, no_masks_second, both_painted}
 use Rattle.painting.proofs.pair.paint_both.Goals as goal
 
@@ -22,7 +22,7 @@ pub returns-clause-painted : goal.returns-clause-painted
 returns-clause-painted c true_is =
     let t = c.args.triangle.now in
     let tile = c.args.tile.now in
-    let number = number_of tile c.args.bx c.args.by in
+    let number = number_in_tile tile c.args.bx c.args.by in
     let old = c.args.samples.now in
     let mid = c.paint_plane.new.samples in
     let new = c.paint_plane-2.new.samples in

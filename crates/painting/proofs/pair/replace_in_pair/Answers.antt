@@ -4,7 +4,7 @@ use Rattle.shade.specs.declared.placed.Placed.{Placed}
 use Rattle.canvas.specs.declared.way.Way.TheVariants.{Pair}
 use Rattle.canvas.specs.Hidden.{ReplacesColours}
 use Rattle.canvas.specs.Layout.{place_by, in_list, way_in_tile, AreReplaced, KeepsOtherSamples}
-use Rattle.painting.specs.Parts.{number_of, DrawsPlane}
+use Rattle.painting.specs.Parts.{number_in_tile, DrawsPlane}
 use Rattle.painting.proofs.PairBlocks.{replaced_painted}
 use Rattle.painting.proofs.pair.replace_in_pair.Goals as goal
 
@@ -13,7 +13,7 @@ returns-clause-painted c true_is =
     let t = c.args.triangle.now in
     let tile = c.args.tile.now in
     let count = tile.count in
-    let number = number_of tile c.args.bx c.args.by in
+    let number = number_in_tile tile c.args.bx c.args.by in
     let old = c.args.samples.now in
     let new = c.replace_samples.new.samples in
     let words = c.args.words.now in

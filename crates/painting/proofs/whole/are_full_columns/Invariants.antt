@@ -1,11 +1,11 @@
 use Rattle.std.proofs.Common.{ℕ, ◌<◌, ◌≤◌, IsBitSet}
 use Rattle.grid.specs.Samples.{count_of}
-use Rattle.painting.specs.Parts.{mask_of}
+use Rattle.painting.specs.Parts.{block_mask}
 use Rattle.painting.proofs.whole.are_full_columns.Given as goal
 
 abbrev pub invariant-loop-column : goal.invariant-loop-column
 invariant-loop-column l =
-    (column row s bit : ℕ) → l.k ≤ column → column < l.column → row < 8 → s < count_of l.masks.count → bit < 64 → IsBitSet (mask_of l.masks column row s) bit
+    (column row s bit : ℕ) → l.k ≤ column → column < l.column → row < 8 → s < count_of l.masks.count → bit < 64 → IsBitSet (block_mask l.masks column row s) bit
 
 abbrev pub invariant-loop-row : goal.invariant-loop-row
-invariant-loop-row l = (row s bit : ℕ) → row < l.row → s < count_of l.masks.count → bit < 64 → IsBitSet (mask_of l.masks l.column row s) bit
+invariant-loop-row l = (row s bit : ℕ) → row < l.row → s < count_of l.masks.count → bit < 64 → IsBitSet (block_mask l.masks l.column row s) bit
