@@ -26,8 +26,9 @@ use Rattle.canvas.proofs.TilePlanes.{cases_eq, apart, same_place_by}
 use Rattle.canvas.proofs.Ways.{single_not_cleared}
 use Rattle.grid.specs.declared.sample_count.SampleCount.{SampleCount}
 use Rattle.painting.specs.declared.masks.Masks.{Masks}
-use Rattle.painting.specs.Parts.{block_mask, number_in_tile, IsAlikeOverScreen, AllowsTile, IsAllowed, IsInBlock, IsKeptAt, HasNoMasks, KeepsPlanesBut, DrawsPlane, TilePaints, DrawsAlike, KeepsOtherBlocks}
+use Rattle.painting.specs.Parts.{block_mask, number_in_tile, AllowsTile, IsAllowed, IsInBlock, IsKeptAt, HasNoMasks, KeepsPlanesBut, DrawsPlane, TilePaints, DrawsAlike, KeepsOtherBlocks}
 use Rattle.painting.proofs.Joined.{tile_same}
+use Rattle.painting.proofs.Screen.{IsAlikeOverScreen}
 use Rattle.painting.proofs.Tiles.{in_block, of_block}
 
 -- the state lets each sample of the tile be drawn

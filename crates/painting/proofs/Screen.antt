@@ -1,5 +1,5 @@
 -- The triangle that covers the screen, and what it makes of a sample.
-use Rattle.std.proofs.Common.{◌≡◌, ◌∙◌, inl, inr, refl, sym, ap, subst, arith, Bool, false, true, ℕ, ◌+◌, ◌*◌, ◌<◌, slice_index, ℤ, pos, negsuc, ◌-ℤ◌, ◌*ℤ◌, ◌<ℤ◌}
+use Rattle.std.proofs.Common.{◌≡◌, ◌∙◌, inl, inr, refl, sym, ap, subst, arith, Bool, false, true, ℕ, ◌+◌, ◌*◌, ◌<◌, List, slice_index, ℤ, pos, negsuc, ◌-ℤ◌, ◌*ℤ◌, ◌<ℤ◌}
 use Rattle.std.specs.Prelude.{if◌then◌else◌, slice_index_or}
 use Rattle.std.proofs.lemmas.Bool.Decides.{eqb_tells}
 use Rattle.std.proofs.lemmas.Int.{ints}
@@ -8,6 +8,7 @@ use Rattle.grid.specs.Position.{Position}
 use Rattle.grid.specs.Samples.{offsets_x, offsets_y, sample_position}
 use Rattle.grid.specs.Triangle.{Covers}
 use Rattle.grid.specs.declared.sample_count.SampleCount.{SampleCount}
+use Rattle.grid.specs.declared.triangle.Tri.{Tri}
 use Rattle.grid.proofs.Sign.{mul_positive}
 use Rattle.shade.specs.declared.equation.Equation.{Equation}
 use Rattle.shade.specs.declared.equation.BlendOperation.{BlendOperation}
@@ -15,21 +16,22 @@ use Rattle.shade.specs.declared.factor.BlendFactor.{BlendFactor}
 use Rattle.shade.specs.declared.factor.BlendFactor.TheVariants.{Zero, One, SourceColour, InverseSourceColour, SourceAlpha, InverseSourceAlpha, StoredAlpha, InverseStoredAlpha, StoredColour, InverseStoredColour, SourceAlphaSaturated, Constant, InverseConstant}
 use Rattle.shade.specs.declared.operands.Channel.TheVariants.{Colour}
 use Rattle.shade.specs.declared.operands.Operands.{Operands}
+use Rattle.shade.specs.declared.placed.Placed.{Placed}
 use Rattle.shade.specs.declared.sample.Merge.{Merge}
 use Rattle.shade.specs.Blend.{factor, IsBlended, IsCombined}
 use Rattle.shade.specs.Merging.{operands_of, IsWritten, IsChannelMerged}
 use Rattle.shade.specs.declared.sample.CanvasSample.{CanvasSample}
 use Rattle.shade.specs.declared.sample.Shaded.{Shaded}
 use Rattle.shade.specs.Canvas.{IsCanvasApplied}
-use Rattle.shade.specs.Placed.{channel, IsFragmentAt}
+use Rattle.shade.specs.Placed.{channel, rgba_of, IsFragmentAt}
 use Rattle.shade.specs.Canvas.{IsCanvasDrawnAt}
 use Rattle.shade.proofs.Drawn.{fragment-unique}
-use Rattle.canvas.proofs.Flat.{flat_value}
+use Rattle.canvas.proofs.Flat.{flat_value, IsFlat}
 use Rattle.canvas.specs.declared.window.Origin.{Origin}
 use Rattle.polygons.proofs.Samples.{offset_x, offset_y}
 use Rattle.painting.specs.declared.polygon.Polygon.{Polygon}
 use Rattle.painting.specs.Painting.{fragment_of, shape_of}
-use Rattle.painting.specs.Parts.{opaque_factor, factor_by, equation_by, merge_by, over_screen, CoversScreen, IsAlikeOverScreen}
+use Rattle.painting.specs.Parts.{opaque_factor, factor_by, equation_by, merge_by, over_screen, CoversScreen, FillsScreen}
 
 abbrev a : Position
 a = record { x = negsuc 0; y = negsuc 0 }
@@ -82,22 +84,29 @@ covers_point x y h l =
       edge_ca = inl (inside (side c a (point x y)) (side c a b) (omega (arith, ints)) area_ca);
     }
 
-pub covers_screen : (polygon : Polygon) (origin : Origin) → CoversScreen (over_screen polygon origin)
-covers_screen polygon origin count i j s h l =
+pub covers_screen : (t : Placed) → FillsScreen t → CoversScreen t
+covers_screen t fills count i j s h l =
     let across = offset_x count s in
     let down = offset_y count s in
-    covers_point (256 * i + slice_index (offsets_x count) s) (256 * j + slice_index (offsets_y count) s) (omega arith) (omega arith)
+    subst (λ (tri : Tri). Covers tri.a tri.b tri.c (sample_position i j s count)) (sym fills.tri)
+    (covers_point (256 * i + slice_index (offsets_x count) s) (256 * j + slice_index (offsets_y count) s) (omega arith) (omega arith))
+
+pub fills_screen : (polygon : Polygon) (origin : Origin) → FillsScreen (over_screen polygon origin)
+fills_screen polygon origin = record { tri = refl; z = (refl, refl); rgba = (refl, refl) }
 
 -- the fragment is the same at each sample that is covered
-fragment_there : (polygon : Polygon) (origin : Origin) (p : Position) → Covers a b c p → IsFragmentAt (over_screen polygon origin) p (fragment_of (shape_of polygon))
-fragment_there polygon origin p h =
-    let t = over_screen polygon origin in
+abbrev fragment : Placed → Shaded
+fragment t = let c = rgba_of t 0 in record { r = slice_index c 0; g = slice_index c 1; b = slice_index c 2; a = slice_index c 3; z = slice_index t.z 0 }
+
+fragment_there : (t : Placed) → FillsScreen t → (p : Position) → Covers t.tri.a t.tri.b t.tri.c p → IsFragmentAt t p (fragment t)
+fragment_there t fills p h =
+    let flat : (k : ℕ) → IsFlat (channel t k) (slice_index (rgba_of t 0) k) = λ k. record { first = refl; second = ap (λ (c : List ℕ). slice_index c k) fills.rgba.0; third = ap (λ (c : List ℕ). slice_index c k) fills.rgba.1 } in
     record {
-      depth = flat_value t p t.z polygon.z (record { first = refl; second = refl; third = refl }) h;
-      red = flat_value t p (channel t 0) (slice_index polygon.rgba 0) (record { first = refl; second = refl; third = refl }) h;
-      green = flat_value t p (channel t 1) (slice_index polygon.rgba 1) (record { first = refl; second = refl; third = refl }) h;
-      blue = flat_value t p (channel t 2) (slice_index polygon.rgba 2) (record { first = refl; second = refl; third = refl }) h;
-      alpha = flat_value t p (channel t 3) (slice_index polygon.rgba 3) (record { first = refl; second = refl; third = refl }) h;
+      depth = flat_value t p t.z (slice_index t.z 0) (record { first = refl; second = fills.z.0; third = fills.z.1 }) h;
+      red = flat_value t p (channel t 0) _ (flat 0) h;
+      green = flat_value t p (channel t 1) _ (flat 1) h;
+      blue = flat_value t p (channel t 2) _ (flat 2) h;
+      alpha = flat_value t p (channel t 3) _ (flat 3) h;
     }
 
 -- ---- by the equation for its alpha
@@ -154,13 +163,19 @@ pub applied : (polygon : Polygon) (origin : Origin) (count : SampleCount) (i j s
 applied polygon origin count i j s old new h l drawn =
     let t = over_screen polygon origin in
     let p = sample_position i j s count in
-    let same = fragment-unique t p drawn.0 (fragment_of (shape_of polygon)) drawn.1 (fragment_there polygon origin p (covers_screen polygon origin count i j s h l)) in
+    let fills = fills_screen polygon origin in
+    let same = fragment-unique t p drawn.0 (fragment_of (shape_of polygon)) drawn.1 (fragment_there t fills p (covers_screen t fills count i j s h l)) in
     by_alpha polygon.state.merge (fragment_of (shape_of polygon)) old new (subst (λ (f : Shaded). IsCanvasApplied t.state.merge f old new) same drawn.2)
 
-pub alike_over_screen : (polygon : Polygon) (origin : Origin) → IsAlikeOverScreen (over_screen polygon origin)
-alike_over_screen polygon origin m n i j r k l s old new hi hj hk hl drawn =
-    let t = over_screen polygon origin in
+-- the triangle makes the same of a sample wherever on the screen it lies, and however many a pixel has
+abbrev pub IsAlikeOverScreen : Placed → Type 0
+IsAlikeOverScreen t =
+    (m n : SampleCount) (i j r k l s : ℕ) (old new : CanvasSample) → i < 4096 → j < 4096 → k < 4096 → l < 4096
+    → IsCanvasDrawnAt t (sample_position i j r m) old new → IsCanvasDrawnAt t (sample_position k l s n) old new
+
+pub alike_over_screen : (t : Placed) → FillsScreen t → IsAlikeOverScreen t
+alike_over_screen t fills m n i j r k l s old new hi hj hk hl drawn =
     let p = sample_position i j r m in
-    let same = fragment-unique t p drawn.0 (fragment_of (shape_of polygon)) drawn.1 (fragment_there polygon origin p (covers_screen polygon origin m i j r hi hj)) in
-    let there : IsCanvasApplied t.state.merge (fragment_of (shape_of polygon)) old new = subst (λ (f : Shaded). IsCanvasApplied t.state.merge f old new) same drawn.2 in
-    (fragment_of (shape_of polygon), fragment_there polygon origin (sample_position k l s n) (covers_screen polygon origin n k l s hk hl), there)
+    let same = fragment-unique t p drawn.0 (fragment t) drawn.1 (fragment_there t fills p (covers_screen t fills m i j r hi hj)) in
+    let there : IsCanvasApplied t.state.merge (fragment t) old new = subst (λ (f : Shaded). IsCanvasApplied t.state.merge f old new) same drawn.2 in
+    (fragment t, fragment_there t fills (sample_position k l s n) (covers_screen t fills n k l s hk hl), there)

@@ -18,7 +18,7 @@
 --   merge_by: How the samples of a polygon are merged, by an equation for its alpha.
 --   over_screen: A triangle that covers the screen, in the colour, at the depth and in the state of the polygon.
 --   CoversScreen: The triangle covers each sample of the screen, which is 4096 by 4096 pixels.
---   IsAlikeOverScreen: The triangle makes the same of a sample wherever on the screen it lies, and however many a pixel has.
+--   FillsScreen: The triangle covers the screen, in one colour and at one depth.
 --   TilePaints: The triangle is drawn at those samples of the tile that are in this part, and the others are unchanged.
 --   DrawsAlike: What the triangle makes of a sample of the tile's new planes, it makes of that of its old planes too.
 --   KeepsOtherBlocks: The samples of all blocks of the tile but block k are unchanged.

@@ -14,6 +14,7 @@ use Rattle.shade.specs.declared.sample.CanvasSample.{CanvasSample}
 use Rattle.shade.specs.declared.sample.Merge.{Merge}
 use Rattle.shade.specs.declared.state.State.{State}
 use Rattle.shade.specs.Canvas.{IsCanvasDrawnAt}
+use Rattle.shade.specs.Placed.{rgba_of}
 use Rattle.lanes.specs.declared.block_samples.BlockSamples.{BlockSamples}
 use Rattle.polygons.specs.declared.extent.Extent.{Extent}
 use Rattle.polygons.specs.ManyRows.{row_of}
@@ -77,11 +78,11 @@ over_screen polygon origin = record {
 abbrev pub CoversScreen : Placed → Type 0
 CoversScreen t = (count : SampleCount) (i j s : ℕ) → i < 4096 → j < 4096 → Covers t.tri.a t.tri.b t.tri.c (sample_position i j s count)
 
--- The triangle makes the same of a sample wherever on the screen it lies, and however many a pixel has.
-abbrev pub IsAlikeOverScreen : Placed → Type 0
-IsAlikeOverScreen t =
-    (m n : SampleCount) (i j r k l s : ℕ) (old new : CanvasSample) → i < 4096 → j < 4096 → k < 4096 → l < 4096
-    → IsCanvasDrawnAt t (sample_position i j r m) old new → IsCanvasDrawnAt t (sample_position k l s n) old new
+-- The triangle covers the screen, in one colour and at one depth.
+pub record FillsScreen (t : Placed) : Type 0 where
+  pub tri : t.tri ≡ record { a = record { x = negsuc 0; y = negsuc 0 }; b = record { x = pos 8388607; y = negsuc 0 }; c = record { x = negsuc 0; y = pos 8388607 } }
+  pub z : (slice_index t.z 1 ≡ slice_index t.z 0) × (slice_index t.z 2 ≡ slice_index t.z 0)
+  pub rgba : (rgba_of t 1 ≡ rgba_of t 0) × (rgba_of t 2 ≡ rgba_of t 0)
 
 -- The triangle is drawn at those samples of the tile that are in this part, and the others are unchanged.
 pub record TilePaints (t : Placed) (tile : Tile) (part : ℕ → ℕ → ℕ → Type 0) (old new : List BlockSamples) : Type 0 where

@@ -1,214 +1,110 @@
 //! The samples of a block.
 ghost use Rattle.std.specs.Prelude.{◌≡◌, ◌<◌, false, length, IsTrue};
 ghost use Rattle.grid.specs.Samples.{IsPart};
-ghost use Rattle.grid.specs.declared.pixels.TileSide.TheVariants.{T64};
-ghost use Rattle.raster.specs.Drawing.{LiesIn, IsChosen, IsInSquare};
+ghost use Rattle.raster.specs.Drawing.{IsChosen, IsInSquare};
 ghost use Rattle.canvas.specs.declared.way.Way.TheVariants.{Own, Single};
 ghost use Rattle.canvas.specs.Layout.{planes_of_tile, way_in_tile};
-ghost use Rattle.painting.specs.Parts.{CoversScreen, IsAlikeOverScreen, AllowsTile, number_in_tile, IsInBlock, TilePaints};
+ghost use Rattle.painting.specs.Parts.{number_in_tile, IsInBlock, TilePaints};
 
+use crate::covered_block::CoveredBlock;
 use crate::masks::{Masks, has_some};
-use crate::number::number_of;
-use crate::pair::{paint_as_pair, paint_both, replace_in_pair};
-use crate::plane::paint_plane;
-use crate::replaced::has_one_plane;
 use canvas::{Way, fill_block, has_pairs, place_by};
-use lanes::{BlockSamples, Interpolants};
+use lanes::BlockSamples;
 use planes::Corrections;
-use raster::{Tile, draw_masks};
+use raster::draw_masks;
 
-/// Draws a triangle that covers the screen at those samples of block (bx, by) of the tile that are in the masks, of the
-/// part that begins with sample `from`. The block has its own planes. `whole` says that the state lets all samples of
-/// the tile be drawn.
-#[inline]
-fn paint_part(
-    triangle: &Interpolants,
-    tile: &Tile,
-    bx: u32,
-    by: u32,
-    from: u32,
-    masks: &[u64; 4],
-    whole: bool,
-    samples: &mut [BlockSamples],
-)
-    requires side { tile.now.side ≡ T64 }
-    requires block { LiesIn tile.now bx by 8 }
-    requires part { IsPart tile.now.count from }
-    requires covers { CoversScreen triangle.now }
-    requires whole { IsTrue whole → AllowsTile triangle.now.state tile.now }
-    requires samples { length samples.old ≡ planes_of_tile tile.now.count }
-    requires own { way_in_tile samples.old (number_in_tile tile.now bx by) ≡ Own }
-    ensures own { way_in_tile samples.new (number_in_tile tile.now bx by) ≡ Own }
-    ensures painted { TilePaints triangle.now tile.now
-        (IsChosen triangle.now.state tile.now bx by from masks.now) samples.old samples.new }
-{
-    let own = 1 + tile.count.count() as usize;
-    let mut corrections = Corrections::none();
-    draw_masks(
-        triangle,
-        tile,
-        tile.count,
-        bx,
-        by,
-        from,
-        masks,
-        whole,
-        &mut samples[own..],
-        &mut corrections,
-    );
-}
+impl CoveredBlock<'_> {
+    /// Draws the triangle at those samples of the block that are in the masks, of the part that begins with sample
+    /// `from`. The block has its own planes.
+    #[inline]
+    fn paint_part(&self, from: u32, masks: &[u64; 4], samples: &mut [BlockSamples])
+        requires part { IsPart self.now.tile.now.count from }
+        requires samples { length samples.old ≡ planes_of_tile self.now.tile.now.count }
+        requires own { way_in_tile samples.old (number_in_tile self.now.tile.now self.now.bx self.now.by) ≡ Own }
+        ensures own { way_in_tile samples.new (number_in_tile self.now.tile.now self.now.bx self.now.by) ≡ Own }
+        ensures painted { let b = self.now in TilePaints b.triangle.now b.tile.now
+            (IsChosen b.triangle.now.state b.tile.now b.bx b.by from masks.now) samples.old samples.new }
+    {
+        let own = 1 + self.tile.count.count() as usize;
+        let mut corrections = Corrections::none();
+        draw_masks(
+            self.triangle,
+            self.tile,
+            self.tile.count,
+            self.bx,
+            self.by,
+            from,
+            masks,
+            self.whole,
+            &mut samples[own..],
+            &mut corrections,
+        );
+    }
 
-/// Draws a triangle that covers the screen at those samples of block (bx, by) of the tile whose bits are set, in column
-/// `k` of the masks, each in its own plane.
-fn paint_parts(
-    triangle: &Interpolants,
-    tile: &Tile,
-    bx: u32,
-    by: u32,
-    masks: &Masks<'_>,
-    k: usize,
-    whole: bool,
-    samples: &mut [BlockSamples],
-)
-    requires side { tile.now.side ≡ T64 }
-    requires count { masks.now.count ≡ tile.now.count }
-    requires block { LiesIn tile.now bx by 8 }
-    requires column { k < masks.now.columns }
-    requires covers { CoversScreen triangle.now }
-    requires whole { IsTrue whole → AllowsTile triangle.now.state tile.now }
-    requires samples { length samples.old ≡ planes_of_tile tile.now.count }
-    ensures { TilePaints triangle.now tile.now (IsInBlock triangle.now.state tile.now bx by masks.now k) samples.old
-        samples.new }
-{
-    fill_block(tile.count, number_of(tile, bx, by), samples);
-    for part in 0..tile.count.parts() {
-        let words = masks.part(k, (by - tile.by) as usize, part);
-        if has_some(&words) {
-            paint_part(triangle, tile, bx, by, 4 * part, &words, whole, samples);
+    /// Draws the triangle at those samples of the block whose bits are set, in column `k` of the masks, each in its own
+    /// plane.
+    fn paint_parts(&self, masks: &Masks<'_>, k: usize, samples: &mut [BlockSamples])
+        requires count { masks.now.count ≡ self.now.tile.now.count }
+        requires column { k < masks.now.columns }
+        requires samples { length samples.old ≡ planes_of_tile self.now.tile.now.count }
+        ensures { let b = self.now in TilePaints b.triangle.now b.tile.now
+            (IsInBlock b.triangle.now.state b.tile.now b.bx b.by masks.now k) samples.old samples.new }
+    {
+        fill_block(self.tile.count, self.number(), samples);
+        for part in 0..self.tile.count.parts() {
+            let words = masks.part(k, (self.by - self.tile.by) as usize, part);
+            if has_some(&words) {
+                self.paint_part(4 * part, &words, samples);
+            }
         }
     }
-}
 
-/// Draws a triangle that covers the screen, in one colour and at one depth, at all samples of block (bx, by) of the
-/// tile, for which one plane stands.
-fn paint_single(
-    triangle: &Interpolants,
-    tile: &Tile,
-    bx: u32,
-    by: u32,
-    samples: &mut [BlockSamples],
-)
-    requires side { tile.now.side ≡ T64 }
-    requires block { LiesIn tile.now bx by 8 }
-    requires covers { CoversScreen triangle.now }
-    requires alike { IsAlikeOverScreen triangle.now }
-    requires whole { AllowsTile triangle.now.state tile.now }
-    requires samples { length samples.old ≡ planes_of_tile tile.now.count }
-    requires single { way_in_tile samples.old (number_in_tile tile.now bx by) ≡ Single }
-    ensures { TilePaints triangle.now tile.now (IsInSquare tile.now bx by 8) samples.old samples.new }
-{
-    let number = number_of(tile, bx, by);
-    let place = place_by(tile.count, Way::Single, number, 0);
-    paint_plane(triangle, tile, bx, by, place, samples);
-}
+    /// Draws the triangle at all samples of the block, for which one plane stands.
+    fn paint_single(&self, samples: &mut [BlockSamples])
+        requires whole { IsTrue self.now.whole }
+        requires samples { length samples.old ≡ planes_of_tile self.now.tile.now.count }
+        requires single { way_in_tile samples.old (number_in_tile self.now.tile.now self.now.bx self.now.by) ≡ Single }
+        ensures { let b = self.now in TilePaints b.triangle.now b.tile.now (IsInSquare b.tile.now b.bx b.by 8)
+            samples.old samples.new }
+    {
+        let place = place_by(self.tile.count, Way::Single, self.number(), 0);
+        self.paint_plane(place, samples);
+    }
 
-/// Draws a triangle that covers the screen, in one colour and at one depth, at those samples of block (bx, by) of the
-/// tile whose bits are set, in column `k` of the masks, if the block can be a pair. Returns whether it was drawn; else
-/// all planes are unchanged.
-fn paint_some(
-    triangle: &Interpolants,
-    tile: &Tile,
-    bx: u32,
-    by: u32,
-    masks: &Masks<'_>,
-    k: usize,
-    samples: &mut [BlockSamples],
-) -> bool
-    requires side { tile.now.side ≡ T64 }
-    requires count { masks.now.count ≡ tile.now.count }
-    requires block { LiesIn tile.now bx by 8 }
-    requires column { k < masks.now.columns }
-    requires covers { CoversScreen triangle.now }
-    requires alike { IsAlikeOverScreen triangle.now }
-    requires whole { AllowsTile triangle.now.state tile.now }
-    requires samples { length samples.old ≡ planes_of_tile tile.now.count }
-    ensures painted { IsTrue result → TilePaints triangle.now tile.now
-        (IsInBlock triangle.now.state tile.now bx by masks.now k) samples.old samples.new }
-    ensures unchanged { result ≡ false → samples.new ≡ samples.old }
-{
-    if !has_pairs(tile.count) {
-        return false;
+    /// Draws the triangle at those samples of the block whose bits are set, in column `k` of the masks, if that needs no
+    /// planes for each sample. Returns whether it was drawn; else all planes are unchanged.
+    fn paint_planes(&self, masks: &Masks<'_>, k: usize, samples: &mut [BlockSamples]) -> bool
+        requires count { masks.now.count ≡ self.now.tile.now.count }
+        requires column { k < masks.now.columns }
+        requires whole { IsTrue self.now.whole }
+        requires samples { length samples.old ≡ planes_of_tile self.now.tile.now.count }
+        ensures painted { let b = self.now in IsTrue result → TilePaints b.triangle.now b.tile.now
+            (IsInBlock b.triangle.now.state b.tile.now b.bx b.by masks.now k) samples.old samples.new }
+        ensures unchanged { result ≡ false → samples.new ≡ samples.old }
+    {
+        let row = (self.by - self.tile.by) as usize;
+        let full = masks.is_full(k, row);
+        if full && self.has_one_plane(samples) {
+            self.paint_single(samples);
+            return true;
+        }
+        if has_pairs(self.tile.count) && self.paint_as_pair(&masks.words(k, row), samples) {
+            return true;
+        }
+        full && self.paint_both(samples)
     }
-    let words = masks.words(k, (by - tile.by) as usize);
-    if paint_as_pair(triangle, tile, bx, by, &words, samples) {
-        return true;
-    }
-    replace_in_pair(triangle, tile, bx, by, &words, samples)
-}
 
-/// Draws a triangle that covers the screen, in one colour and at one depth, at those samples of block (bx, by) of the
-/// tile whose bits are set, in column `k` of the masks, if that needs no planes for each sample. Returns whether it was
-/// drawn; else all planes are unchanged.
-fn paint_planes(
-    triangle: &Interpolants,
-    tile: &Tile,
-    bx: u32,
-    by: u32,
-    masks: &Masks<'_>,
-    k: usize,
-    samples: &mut [BlockSamples],
-) -> bool
-    requires side { tile.now.side ≡ T64 }
-    requires count { masks.now.count ≡ tile.now.count }
-    requires block { LiesIn tile.now bx by 8 }
-    requires column { k < masks.now.columns }
-    requires covers { CoversScreen triangle.now }
-    requires alike { IsAlikeOverScreen triangle.now }
-    requires whole { AllowsTile triangle.now.state tile.now }
-    requires samples { length samples.old ≡ planes_of_tile tile.now.count }
-    ensures painted { IsTrue result → TilePaints triangle.now tile.now
-        (IsInBlock triangle.now.state tile.now bx by masks.now k) samples.old samples.new }
-    ensures unchanged { result ≡ false → samples.new ≡ samples.old }
-{
-    let row = (by - tile.by) as usize;
-    if !masks.is_full(k, row) {
-        return paint_some(triangle, tile, bx, by, masks, k, samples);
-    }
-    if has_one_plane(triangle, tile, number_of(tile, bx, by), samples) {
-        paint_single(triangle, tile, bx, by, samples);
-        return true;
-    }
-    if paint_some(triangle, tile, bx, by, masks, k, samples) {
-        return true;
-    }
-    paint_both(triangle, tile, bx, by, samples)
-}
-
-/// Draws a triangle that covers the screen, in one colour and at one depth, at those samples of block (bx, by) of the
-/// tile whose bits are set, in column `k` of the masks. `whole` says that the state lets all samples of the tile be
-/// drawn. A block that can be kept in one plane or two is.
-pub(crate) fn paint_block(
-    triangle: &Interpolants,
-    tile: &Tile,
-    bx: u32,
-    by: u32,
-    masks: &Masks<'_>,
-    k: usize,
-    whole: bool,
-    samples: &mut [BlockSamples],
-)
-    requires side { tile.now.side ≡ T64 }
-    requires count { masks.now.count ≡ tile.now.count }
-    requires block { LiesIn tile.now bx by 8 }
-    requires column { k < masks.now.columns }
-    requires covers { CoversScreen triangle.now }
-    requires alike { IsAlikeOverScreen triangle.now }
-    requires whole { IsTrue whole → AllowsTile triangle.now.state tile.now }
-    requires samples { length samples.old ≡ planes_of_tile tile.now.count }
-    ensures { TilePaints triangle.now tile.now (IsInBlock triangle.now.state tile.now bx by masks.now k) samples.old
-        samples.new }
-{
-    if !whole || !paint_planes(triangle, tile, bx, by, masks, k, samples) {
-        paint_parts(triangle, tile, bx, by, masks, k, whole, samples);
+    /// Draws the triangle at those samples of the block whose bits are set, in column `k` of the masks. A block that can
+    /// be kept in one plane or two is.
+    pub(crate) fn paint_block(&self, masks: &Masks<'_>, k: usize, samples: &mut [BlockSamples])
+        requires count { masks.now.count ≡ self.now.tile.now.count }
+        requires column { k < masks.now.columns }
+        requires samples { length samples.old ≡ planes_of_tile self.now.tile.now.count }
+        ensures { let b = self.now in TilePaints b.triangle.now b.tile.now
+            (IsInBlock b.triangle.now.state b.tile.now b.bx b.by masks.now k) samples.old samples.new }
+    {
+        if !self.whole || !self.paint_planes(masks, k, samples) {
+            self.paint_parts(masks, k, samples);
+        }
     }
 }

@@ -2,10 +2,10 @@
 ghost use Rattle.std.specs.Prelude.{◌≡◌, ◌+◌, ◌<◌, ◌≤◌, length};
 ghost use Rattle.grid.specs.declared.pixels.TileSide.TheVariants.{T64};
 ghost use Rattle.canvas.specs.Layout.{planes_of_tile};
-ghost use Rattle.painting.specs.Parts.{CoversScreen, IsAlikeOverScreen, IsInColumn, TilePaints};
+ghost use Rattle.painting.specs.Parts.{FillsScreen, IsInColumn, TilePaints};
 
 use crate::allowed::allows_tile;
-use crate::block::paint_block;
+use crate::covered_block::CoveredBlock;
 use crate::masks::Masks;
 use lanes::{BlockSamples, Interpolants};
 use raster::Tile;
@@ -25,8 +25,7 @@ pub(crate) fn paint_column(
     requires left { tile.now.bx ≤ bx }
     requires right { bx + 1 ≤ tile.now.bx + 8 }
     requires column { k < masks.now.columns }
-    requires covers { CoversScreen triangle.now }
-    requires alike { IsAlikeOverScreen triangle.now }
+    requires fills { FillsScreen triangle.now }
     requires samples { length samples.old ≡ planes_of_tile tile.now.count }
     ensures { TilePaints triangle.now tile.now (IsInColumn triangle.now.state tile.now bx 8 masks.now k) samples.old
         samples.new }
@@ -34,7 +33,14 @@ pub(crate) fn paint_column(
     let whole = allows_tile(&triangle.placed().state, tile);
     for row in 0..8u32 {
         if masks.has_some(k, row as usize) {
-            paint_block(triangle, tile, bx, tile.by + row, masks, k, whole, samples);
+            let block = CoveredBlock {
+                triangle,
+                tile,
+                bx,
+                by: tile.by + row,
+                whole,
+            };
+            block.paint_block(masks, k, samples);
         }
     }
 }

@@ -1,7 +1,7 @@
 //! The samples of a tile row, in columns of blocks.
 ghost use Rattle.std.specs.Prelude.{◌≡◌, ◌+◌, ◌*◌, ◌<◌, ◌≤◌, length};
 ghost use Rattle.canvas.specs.Layout.{columns_of, rows_of, planes_of_row};
-ghost use Rattle.painting.specs.Parts.{CoversScreen, IsAlikeOverScreen, IsFlagged, RowsPaint};
+ghost use Rattle.painting.specs.Parts.{FillsScreen, IsFlagged, RowsPaint};
 
 use crate::column::paint_column;
 use crate::masks::Masks;
@@ -23,8 +23,7 @@ pub(crate) fn paint_strip(
     requires row { row < rows_of canvas.now }
     requires count { masks.now.count ≡ canvas.now.count }
     requires columns { first + masks.now.columns ≤ 8 * columns_of canvas.now }
-    requires covers { CoversScreen triangle.now }
-    requires alike { IsAlikeOverScreen triangle.now }
+    requires fills { FillsScreen triangle.now }
     requires samples { length samples.old ≡ planes_of_row canvas.now }
     ensures { RowsPaint triangle.now canvas.now row (row + 1)
         (IsFlagged triangle.now.state first masks.now.columns masks.now) samples.old samples.new }

@@ -5,11 +5,11 @@ ghost use Rattle.grid.specs.Samples.{count_of};
 ghost use Rattle.grid.specs.declared.pixels.TileSide.TheVariants.{T64};
 ghost use Rattle.canvas.specs.declared.way.Way.TheVariants.{Cleared};
 ghost use Rattle.canvas.specs.Layout.{planes_of_tile, way_in_tile};
-ghost use Rattle.painting.specs.Parts.{block_mask, CoversScreen, IsAlikeOverScreen, AllowsTile, IsAllowed, TilePaints};
+ghost use Rattle.painting.specs.Parts.{block_mask, FillsScreen, AllowsTile, IsAllowed, TilePaints};
 
 use crate::allowed::allows_tile;
+use crate::covered_block::CoveredBlock;
 use crate::masks::Masks;
-use crate::plane::paint_plane;
 use canvas::{Way, is_cleared, place_by};
 use lanes::{BlockSamples, Interpolants};
 use raster::Tile;
@@ -63,13 +63,19 @@ pub(crate) fn is_whole(
 /// are as it was cleared: in the plane that stands for them.
 pub(crate) fn paint_whole(triangle: &Interpolants, tile: &Tile, samples: &mut [BlockSamples])
     requires side { tile.now.side ≡ T64 }
-    requires covers { CoversScreen triangle.now }
-    requires alike { IsAlikeOverScreen triangle.now }
+    requires fills { FillsScreen triangle.now }
     requires allows { AllowsTile triangle.now.state tile.now }
     requires cleared { (block : ℕ) → block < 64 → way_in_tile samples.old block ≡ Cleared }
     requires samples { length samples.old ≡ planes_of_tile tile.now.count }
     ensures { TilePaints triangle.now tile.now (IsAllowed triangle.now.state tile.now) samples.old samples.new }
 {
     let place = place_by(tile.count, Way::Cleared, 0, 0);
-    paint_plane(triangle, tile, tile.bx, tile.by, place, samples);
+    let first = CoveredBlock {
+        triangle,
+        tile,
+        bx: tile.bx,
+        by: tile.by,
+        whole: true,
+    };
+    first.paint_plane(place, samples);
 }

@@ -1,15 +1,10 @@
-use Rattle.std.proofs.Common.{arith, sym, subst, ◌+◌, List, IsTrue}
-use Rattle.shade.specs.declared.placed.Placed.{Placed}
+use Rattle.std.proofs.Common.{arith, sym, subst, ◌+◌, List}
 use Rattle.lanes.specs.declared.block_samples.BlockSamples.{BlockSamples}
-use Rattle.painting.specs.Parts.{AllowsTile, IsInColumn, TilePaints}
+use Rattle.painting.specs.Parts.{IsInColumn, TilePaints}
 use Rattle.painting.proofs.Columns.{one_block_more, one_block_skipped}
 use Rattle.painting.proofs.Joined.{tile_none}
 use Rattle.painting.proofs.column.paint_column.Goals as goal
 use Rattle.painting.proofs.column.paint_column.Goals.{then-has_some, else-has_some}
-
-pub paint_block-requires-clause-whole : goal.paint_block-requires-clause-whole
-paint_block-requires-clause-whole c =
-    subst (λ (t : Placed). IsTrue c.allows_tile-whole.result → AllowsTile t.state c.args.tile.now) c.placed.ensures c.allows_tile-whole.ensures
 
 pub loop-row-init : goal.loop-row-init
 loop-row-init c =

@@ -1,15 +1,12 @@
 use Rattle.std.proofs.Common.{refl, sym, subst, arith, ◌+◌}
 use Rattle.shade.specs.declared.placed.Placed.{Placed}
-use Rattle.painting.specs.Parts.{CoversScreen, IsAlikeOverScreen, MeetsHere, RowsPaint}
+use Rattle.painting.specs.Parts.{FillsScreen, MeetsHere, RowsPaint}
 use Rattle.painting.proofs.RowMasks.{all_met}
-use Rattle.painting.proofs.Screen.{covers_screen, alike_over_screen}
+use Rattle.painting.proofs.Screen.{fills_screen}
 use Rattle.painting.proofs.row.paint_row.Goals as goal
 
-pub paint_strip-requires-clause-covers : goal.paint_strip-requires-clause-covers
-paint_strip-requires-clause-covers c = subst (λ (t : Placed). CoversScreen t) (sym c.requires.triangle) (covers_screen c.args.polygon.now c.args.origin.now)
-
-pub paint_strip-requires-clause-alike : goal.paint_strip-requires-clause-alike
-paint_strip-requires-clause-alike c = subst (λ (t : Placed). IsAlikeOverScreen t) (sym c.requires.triangle) (alike_over_screen c.args.polygon.now c.args.origin.now)
+pub paint_strip-requires-clause-fills : goal.paint_strip-requires-clause-fills
+paint_strip-requires-clause-fills c = subst (λ (t : Placed). FillsScreen t) (sym c.requires.triangle) (fills_screen c.args.polygon.now c.args.origin.now)
 
 pub returns-clause-painted : goal.returns-clause-painted
 returns-clause-painted c =

@@ -1,11 +1,8 @@
-use Rattle.std.proofs.Common.{subst, sym, ◌∙◌, arith}
+use Rattle.std.proofs.Common.{subst, sym, ◌∙◌}
 use Rattle.canvas.proofs.Ways.{cleared_not_pair}
 use Rattle.painting.specs.Parts.{IsKeptAt, TilePaints}
 use Rattle.painting.proofs.OnePlane.{whole_painted}
 use Rattle.painting.proofs.whole.paint_whole.Goals as goal
-
-pub paint_plane-requires-clause-block : goal.paint_plane-requires-clause-block
-paint_plane-requires-clause-block c = record { left = omega arith; right = rw c.requires.side (omega arith); top = omega arith; bottom = rw c.requires.side (omega arith) }
 
 pub paint_plane-requires-clause-masks : goal.paint_plane-requires-clause-masks
 paint_plane-requires-clause-masks c k small pair = absurd (cleared_not_pair (sym (c.requires.cleared k small) ∙ pair))

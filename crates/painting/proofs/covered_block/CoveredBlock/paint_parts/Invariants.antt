@@ -3,10 +3,10 @@ use Rattle.canvas.specs.declared.way.Way.TheVariants.{Own}
 use Rattle.canvas.specs.Layout.{way_in_tile}
 use Rattle.painting.specs.Parts.{number_in_tile, IsInBlock, TilePaints}
 use Rattle.painting.proofs.BlockParts.{OfParts}
-use Rattle.painting.proofs.block.paint_parts.Given as goal
+use Rattle.painting.proofs.covered_block.CoveredBlock.paint_parts.Given as goal
 
 abbrev pub invariant-loop-part : goal.invariant-loop-part
 invariant-loop-part l = record {
-  own : way_in_tile l.samples (number_in_tile l.tile l.bx l.by) ≡ Own;
-  painted : TilePaints l.triangle l.tile (OfParts (IsInBlock l.triangle.state l.tile l.bx l.by l.masks l.k) l.part) l.fn.samples l.samples;
+  own : way_in_tile l.samples (number_in_tile l.self.tile.now l.self.bx l.self.by) ≡ Own;
+  painted : TilePaints l.self.triangle.now l.self.tile.now (OfParts (IsInBlock l.self.triangle.now.state l.self.tile.now l.self.bx l.self.by l.masks l.k) l.part) l.fn.samples l.samples;
 }

@@ -5,24 +5,24 @@ use Rattle.painting.specs.Parts.{number_in_tile, HasNoMasks, IsKeptAt, TilePaint
 use Rattle.painting.proofs.OnePlane.{no_masks_at, single_painted}
 use Rattle.canvas.proofs.Ways.{single_not_cleared, single_not_pair}
 use Rattle.shade.proofs.Resolved.{some_samples}
-use Rattle.painting.proofs.block.paint_single.Goals as goal
+use Rattle.painting.proofs.covered_block.CoveredBlock.paint_single.Goals as goal
 
 pub paint_plane-requires-clause-masks : goal.paint_plane-requires-clause-masks
 paint_plane-requires-clause-masks c =
-    let count = c.args.tile.now.count in
+    let count = c.args.self.now.tile.now.count in
     let old = c.args.samples.now in
-    let number = number_in_tile c.args.tile.now c.args.bx c.args.by in
-    let at : c.place_by-place.result ≡ place_by count Single number 0 = c.place_by-place.ensures.value ∙ ap (λ k. place_by count Single k 0) c.number_of-number.ensures.value in
+    let number = number_in_tile c.args.self.now.tile.now c.args.self.now.bx c.args.self.now.by in
+    let at : c.place_by-place.result ≡ place_by count Single number 0 = c.place_by-place.ensures.value ∙ ap (λ k. place_by count Single k 0) c.number.ensures.value in
     subst (HasNoMasks count old) (sym at)
     (no_masks_at count old Single number 0 (some_samples count) single_not_cleared (λ pair. absurd (single_not_pair (sym c.requires.single ∙ pair))))
 
 pub returns : goal.returns
 returns c =
-    let t = c.args.triangle.now in
-    let tile = c.args.tile.now in
+    let t = c.args.self.now.triangle.now in
+    let tile = c.args.self.now.tile.now in
     let old = c.args.samples.now in
     let new = c.paint_plane.new.samples in
-    let number = number_in_tile tile c.args.bx c.args.by in
-    let at : c.place_by-place.result ≡ place_by tile.count Single number 0 = c.place_by-place.ensures.value ∙ ap (λ k. place_by tile.count Single k 0) c.number_of-number.ensures.value in
-    single_painted t tile c.requires.side c.args.bx c.args.by c.requires.block old new c.requires.single
+    let number = number_in_tile tile c.args.self.now.bx c.args.self.now.by in
+    let at : c.place_by-place.result ≡ place_by tile.count Single number 0 = c.place_by-place.ensures.value ∙ ap (λ k. place_by tile.count Single k 0) c.number.ensures.value in
+    single_painted t tile c.args.self.now.side c.args.self.now.bx c.args.self.now.by c.args.self.now.block old new c.requires.single
     (subst (λ q. TilePaints t tile (IsKeptAt tile.count old q) old new) at c.paint_plane.ensures.painted)

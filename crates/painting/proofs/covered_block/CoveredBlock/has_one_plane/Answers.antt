@@ -8,13 +8,13 @@ use Rattle.canvas.specs.Hidden.{ReplacesColours}
 use Rattle.canvas.specs.Layout.{way_in_tile}
 use Rattle.painting.specs.Parts.{DrawsAlike}
 use Rattle.painting.proofs.BlocksAlike.{replaced_alike}
-use Rattle.painting.proofs.replaced.has_one_plane.Goals as goal
+use Rattle.painting.proofs.covered_block.CoveredBlock.has_one_plane.Goals as goal
 
 pub returns-clause-alike : goal.returns-clause-alike
 returns-clause-alike c single =
-    let t = c.args.triangle.now in
-    let count = c.args.tile.now.count in
-    let k = c.args.k in
+    let t = c.args.self.now.triangle.now in
+    let count = c.args.self.now.tile.now.count in
+    let k = c.number-k.result in
     let old = c.args.samples.now in
     let mid = c.single_block.new.samples in
     let new = c.make_single.new.samples in
@@ -27,6 +27,6 @@ returns-clause-alike c single =
     let taken = length-take n (drop first mid) in
     let dropped = length-drop first mid in
     let fits : first + n ≤ length mid = search rules in
-    let depths = c.have_same_depths.ensures (search rules) in
+    let depths = c.are_alike.ensures (search rules) in
     let all = replaced_alike t count k first n mid new replaces own c.place_by-first.ensures.value many (λ s h. depths s (omega (arith, h, taken, dropped, fits))) c.make_single.ensures.made c.make_single.ensures.others in
     subst (λ (xs : List BlockSamples). DrawsAlike t count xs new) same all
