@@ -90,39 +90,6 @@ pub fn pair_block(
     true
 }
 
-/// Stores the samples of a plane in place of those of block `k` that are in the masks, as `replace_samples` does, if
-/// the block is a pair.
-fn replace_in_pair(
-    count: SampleCount,
-    k: usize,
-    masks: &[u64; 16],
-    plane: &BlockSamples,
-    samples: &mut [BlockSamples],
-) -> bool
-    requires some { 4 ≤ count_of count }
-    requires block { k < 64 }
-    requires pair { way_in_tile samples.old k ≡ AsPair }
-    requires samples { length samples.old ≡ planes_of_tile count }
-    ensures replaced { IsTrue result → AreReplaced count k masks.now plane.now samples.old samples.new }
-    ensures unchanged { result ≡ false → samples.new ≡ samples.old }
-    ensures ways { KeepsOtherWays k samples.old samples.new }
-    ensures others { KeepsOtherSamples count k samples.old samples.new }
-{
-    let stored = samples[place_by(count, Way::Pair, k, count.count() - 1)];
-    if are_in(count, &stored, masks) {
-        let first = samples[place_by(count, Way::Pair, k, 0)];
-        make_pair(count, k, masks, &first, plane, samples);
-        return true;
-    }
-    if are_all(count, &stored, masks) {
-        let rest = without(count, &stored, masks);
-        let second = samples[second_place(count, k)];
-        make_pair(count, k, &rest, plane, &second, samples);
-        return true;
-    }
-    false
-}
-
 /// Stores the samples of a plane in place of those of block `k` of a tile that are in the masks: sample `s` of a pixel
 /// whose bit is set in `masks[s]`. Returns whether that was done without planes for each sample; else all planes are
 /// unchanged.
@@ -148,10 +115,22 @@ pub fn replace_samples(
     if !has_pairs(count) || way == Way::Own {
         return false;
     }
-    if way == Way::Pair {
-        return replace_in_pair(count, k, masks, plane, samples);
+    if way != Way::Pair {
+        let first = samples[place_by(count, way, k, 0)];
+        make_pair(count, k, masks, &first, plane, samples);
+        return true;
     }
-    let first = samples[place_by(count, way, k, 0)];
-    make_pair(count, k, masks, &first, plane, samples);
-    true
+    let stored = samples[place_by(count, Way::Pair, k, count.count() - 1)];
+    if are_in(count, &stored, masks) {
+        let first = samples[place_by(count, Way::Pair, k, 0)];
+        make_pair(count, k, masks, &first, plane, samples);
+        return true;
+    }
+    if are_all(count, &stored, masks) {
+        let rest = without(count, &stored, masks);
+        let second = samples[second_place(count, k)];
+        make_pair(count, k, &rest, plane, &second, samples);
+        return true;
+    }
+    false
 }
