@@ -67,7 +67,8 @@ fn recolour(plane: &mut BlockSamples, k: usize, format: Format, alpha: bool, pix
     plane.alpha[k] = if alpha { alpha_of(format, pixel) } else { 255 };
 }
 
-/// Stores the colour of these bytes in place of those of some samples of pixel (i, j), each in its own plane of its tile.
+/// Stores the colour of these bytes in place of those of some samples of pixel (i, j), in the planes of its tile. If
+/// these are all samples and one plane stands for them, it goes on to do so; else each is stored in its own plane.
 #[inline(always)]
 fn store_samples(
     count: SampleCount,
@@ -89,43 +90,16 @@ fn store_samples(
         stored_in_tile count samples.new column row s ≡ stored_in_tile count samples.old column row s }
 {
     let block = block_in_tile(i, j);
-    fill_block(count, block, samples);
     let k = (8 * (j % 8) + i % 8) as usize;
+    if indices.are_all(count) && single_block(count, block, samples) {
+        let place = place_by(count, Way::Single, block, 0);
+        recolour(&mut samples[place], k, format, indices.alpha, pixel);
+        return;
+    }
+    fill_block(count, block, samples);
     for s in indices.first..indices.end {
         let place = place_by(count, Way::Own, block, s);
         recolour(&mut samples[place], k, format, indices.alpha, pixel);
-    }
-}
-
-/// Stores the colour of these bytes in place of those of some samples of pixel (i, j), in the planes of its tile. If
-/// these are all samples and one plane stands for them, it goes on to do so.
-#[inline(always)]
-fn store_pixel(
-    count: SampleCount,
-    i: u32,
-    j: u32,
-    indices: Indices,
-    pixel: &[u8],
-    format: Format,
-    samples: &mut [BlockSamples],
-)
-    requires indices { (indices.first ≤ indices.end) × (indices.end ≤ count_of count) }
-    requires bytes { length pixel.now ≡ pixel_bytes format }
-    requires samples { length samples.old ≡ planes_of_tile count }
-    ensures pixel { (s : ℕ) → IsIndexIn indices.first indices.end s →
-        stored_in_tile count samples.new i j s ≡
-        coloured format indices.alpha (λ k. slice_index pixel.now k) (stored_in_tile count samples.old i j s) }
-    ensures others { (column row s : ℕ) → s < count_of count →
-        ((column % 64 ≡ i % 64) → (row % 64 ≡ j % 64) → IsIndexIn indices.first indices.end s → ⊥) →
-        stored_in_tile count samples.new column row s ≡ stored_in_tile count samples.old column row s }
-{
-    let block = block_in_tile(i, j);
-    if indices.are_all(count) && single_block(count, block, samples) {
-        let k = (8 * (j % 8) + i % 8) as usize;
-        let place = place_by(count, Way::Single, block, 0);
-        recolour(&mut samples[place], k, format, indices.alpha, pixel);
-    } else {
-        store_samples(count, i, j, indices, pixel, format, samples);
     }
 }
 
@@ -153,7 +127,7 @@ impl Canvas {
         for i in 0..self.width {
             let from = (i / 64) as usize * each;
             let at = i as usize * unit;
-            store_pixel(
+            store_samples(
                 self.count,
                 i,
                 j,

@@ -27,8 +27,8 @@ loop-i-init c =
     let j : ℕ = c.args.j in
     no_change c.args.self.now (j / 64) (j / 64 + 1) (Before c.args.indices.first c.args.indices.end j 0) (in_colour c.args.format c.args.indices.alpha c.args.bytes.now) c.args.samples.now (λ i j s v. omega (arith, v.0))
 
-pub slice_bounds-store_pixel-end : goal.slice_bounds-store_pixel-end
-slice_bounds-store_pixel-end c =
+pub slice_bounds-store_samples-end : goal.slice_bounds-store_samples-end
+slice_bounds-store_samples-end c =
     let self = c.args.self.now in
     let each : ℕ = c.planes_of_tile-each.result in
     let column : ℕ = c.loop-i.i / 64 in
@@ -60,17 +60,17 @@ loop-i-preserved c =
     let first : ℕ = c.args.indices.first in
     let end : ℕ = c.args.indices.end in
     let pixel : ℕ → ℕ → ℕ → CanvasSample → CanvasSample = λ column row s sample. coloured format c.args.indices.alpha (λ k. slice_index (take n (drop at bytes)) k) sample in
-    let one : AreChanged self (j / 64) (j / 64 + 1) (At first end j i) pixel c.loop-i.samples (put c.loop-i.samples c.store_pixel.new.samples from part) =
-    one_tile_changed self c.loop-i.samples c.store_pixel.new.samples part from (omega (arith, room, many, start, c.requires.samples, c.loop-i.auto.samples)) (omega (arith, c.store_pixel.auto.samples, room, many, start, c.requires.samples, c.loop-i.auto.samples))
+    let one : AreChanged self (j / 64) (j / 64 + 1) (At first end j i) pixel c.loop-i.samples (put c.loop-i.samples c.store_samples.new.samples from part) =
+    one_tile_changed self c.loop-i.samples c.store_samples.new.samples part from (omega (arith, room, many, start, c.requires.samples, c.loop-i.auto.samples)) (omega (arith, c.store_samples.auto.samples, room, many, start, c.requires.samples, c.loop-i.auto.samples))
     (i / 64) (j / 64) (At first end j i) pixel many start
     (λ column row s v. (ap (λ m. m / 64) v.0, ap (λ m. m / 64) v.1))
     (λ column row s h e d v.
-    subst (λ column. stored_in_tile self.count c.store_pixel.new.samples column row s ≡ pixel column row s (stored_in_tile self.count (take part (drop from c.loop-i.samples)) column row s)) (sym v.0)
-    (subst (λ row. stored_in_tile self.count c.store_pixel.new.samples i row s ≡ pixel i row s (stored_in_tile self.count (take part (drop from c.loop-i.samples)) i row s)) (sym v.1) (c.store_pixel.ensures.pixel s v.2)))
-    (λ column row s h e d other. c.store_pixel.ensures.others column row s h (λ a b index. other (omega (arith, a, e), omega (arith, b, d), index))) in
+    subst (λ column. stored_in_tile self.count c.store_samples.new.samples column row s ≡ pixel column row s (stored_in_tile self.count (take part (drop from c.loop-i.samples)) column row s)) (sym v.0)
+    (subst (λ row. stored_in_tile self.count c.store_samples.new.samples i row s ≡ pixel i row s (stored_in_tile self.count (take part (drop from c.loop-i.samples)) i row s)) (sym v.1) (c.store_samples.ensures.pixel s v.2)))
+    (λ column row s h e d other. c.store_samples.ensures.others column row s h (λ a b index. other (omega (arith, a, e), omega (arith, b, d), index))) in
     joined_changes self (j / 64) (j / 64 + 1) (Before first end j i) (At first end j i) (Before first end j (i + 1))
     (in_colour format c.args.indices.alpha bytes) pixel (in_colour format c.args.indices.alpha bytes)
-    c.args.samples.now c.loop-i.samples (put c.loop-i.samples c.store_pixel.new.samples from part) c.loop-i.invariant one
+    c.args.samples.now c.loop-i.samples (put c.loop-i.samples c.store_samples.new.samples from part) c.loop-i.invariant one
     (λ column row s v w. omega (arith, v.0, w.0))
     (λ column row s r. elim (cases_lt column i) [ inl less ↦ inl (less, r.1, r.2) | inr more ↦ inr ((let same : column ≡ i = omega (arith, more, r.0) in same), r.1, r.2) ])
     (λ column row s v. ((let below : column < i + 1 = omega (arith, v.0) in below), v.1, v.2)) (λ column row s v. ((let below : column < i + 1 = omega (arith, v.0) in below), v.1, v.2))
