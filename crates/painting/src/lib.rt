@@ -5,6 +5,7 @@ mod allowed;
 mod batch;
 mod block;
 mod column;
+mod group;
 mod masks;
 mod number;
 mod pair;
