@@ -12,4 +12,5 @@ pub mod RowMasks
 pub mod WholeTiles
 pub mod TileRows
 pub mod Batches
+mod Groups
 pub mod Zeros

@@ -1,5 +1,5 @@
 -- Tile rows that are painted one after another, and the whole of what the polygon makes.
-use Rattle.std.proofs.Common.{◌≡◌, inl, inr, refl, sym, subst, ap, ◌∙◌, arith, ℕ, ◌+◌, ◌-◌, ◌*◌, ◌/◌, ◌<◌, ◌≤◌, List, [], ◌∷◌, length, take, drop, slice_index}
+use Rattle.std.proofs.Common.{◌≡◌, inl, inr, refl, sym, subst, ap, ◌∙◌, arith, ℕ, ◌+◌, ◌-◌, ◌*◌, ◌/◌, ◌<◌, ◌≤◌, List, [], ◌∷◌, length, take, drop, slice_index, pos, ◌+ℤ◌}
 use Rattle.std.proofs.lemmas.Bool.{cases_lt}
 use Rattle.std.proofs.lemmas.List.{get_or-take, get_or_past, length-take}
 use Rattle.grid.specs.Samples.{sample_position}
@@ -19,35 +19,81 @@ use Rattle.canvas.proofs.Cut.{put, put_here, put_elsewhere}
 use Rattle.canvas.proofs.Places.{row_of as in_row, row_put, row_kept}
 use Rattle.painting.specs.declared.polygon.Polygon.{Polygon}
 use Rattle.painting.specs.declared.window.Window.{Window}
-use Rattle.painting.specs.Painting.{ArePainted, shape_of}
-use Rattle.painting.specs.Parts.{over_screen, MeetsHere, RowsPaint, HoldsSamples}
+use Rattle.painting.specs.Painting.{ArePainted, MeetsSample, PaintAll, Shape, shape_of}
+use Rattle.painting.specs.Parts.{over_screen, LiesInRows, MeetsHere, RowsPaint, HoldsSamples}
 use Rattle.painting.proofs.Joined.{rows_joined}
 use Rattle.painting.proofs.Screen.{applied}
 use Rattle.painting.proofs.Strips.{cases_eq}
 
 -- ---- one tile row of several
+module _ (c : Canvas) (first end row : ℕ) (from : first ≤ row) (mid part : List BlockSamples) (n a : ℕ) (room : a + n ≤ length mid) (long : length part ≡ n) (many : n ≡ planes_of_row c)
+    (at : a ≡ (row - first) * planes_of_row c) (i j s : ℕ) (h : IsStoredIn c first end i j s) where
+  here : j / 64 ≡ row → IsStoredIn c row (row + 1) i j s
+  here same = record { column = h.column; from = omega (arith, same); below = omega (arith, same); is_sample = h.is_sample }
+
+  old_is : j / 64 ≡ row → stored c row (take n (drop a mid)) i j s ≡ stored c first mid i j s
+  old_is same = in_row c i j s row first mid n a same many (at ∙ ap (λ k. (k - first) * planes_of_row c) (sym same)) h.column h.is_sample
+
+  new_is : j / 64 ≡ row → stored c row part i j s ≡ stored c first (put mid part a n) i j s
+  new_is same = sym (row_put c i j s mid part n a room long first row many at from h.from h.column h.is_sample same)
+
+  elsewhere : (j / 64 ≡ row → ⊥) → stored c first (put mid part a n) i j s ≡ stored c first mid i j s
+  elsewhere apart = row_kept c i j s mid part n a room long first row many at from h.from h.column h.is_sample apart
+
+-- the samples before tile row `next` are painted, and the others are unchanged
+pub record ArePaintedBefore (shapes : List Shape) (origin : Origin) (c : Canvas) (first end next : ℕ) (old new : List BlockSamples) : Type 0 where
+  pub done : (i j s : ℕ) → IsStoredIn c first end i j s → j / 64 < next → PaintAll shapes c.count (pos i +ℤ origin.x) (pos j +ℤ origin.y) s (stored c first old i j s) (stored c first new i j s)
+  pub left : (i j s : ℕ) → IsStoredIn c first end i j s → next ≤ j / 64 → stored c first new i j s ≡ stored c first old i j s
+
+pub no_rows : (shapes : List Shape) (origin : Origin) (c : Canvas) (first end : ℕ) (old : List BlockSamples) → ArePaintedBefore shapes origin c first end first old old
+no_rows shapes origin c first end old = record {
+  done = λ i j s h l. let k = h.from in absurd (omega (arith, k, l));
+  left = λ i j s h l. refl;
+}
+
+pub all_rows : (shapes : List Shape) (origin : Origin) (c : Canvas) (first end next : ℕ) (old new : List BlockSamples) → end ≤ next → ArePaintedBefore shapes origin c first end next old new → ArePainted shapes origin c first end old new
+all_rows shapes origin c first end next old new past v i j s h = v.done i j s h (let k = h.below in omega (arith, k, past))
+
+pub one_row_painted : (shapes : List Shape) (origin : Origin) (c : Canvas) (first end row : ℕ) (from : first ≤ row) (old mid part : List BlockSamples) (n a : ℕ) (room : a + n ≤ length mid) (long : length part ≡ n) (many : n ≡ planes_of_row c)
+    (at : a ≡ (row - first) * planes_of_row c) → ArePaintedBefore shapes origin c first end row old mid → ArePainted shapes origin c row (row + 1) (take n (drop a mid)) part → ArePaintedBefore shapes origin c first end (row + 1) old (put mid part a n)
+one_row_painted shapes origin c first end row from old mid part n a room long many at v one = record {
+  done = λ i j s h l. elim (cases_lt (j / 64) row) [
+    | inl less ↦
+        let apart : j / 64 ≡ row → ⊥ = λ e. omega (arith, e, less) in
+        subst (λ (x : CanvasSample). PaintAll shapes c.count (pos i +ℤ origin.x) (pos j +ℤ origin.y) s (stored c first old i j s) x) (sym (elsewhere c first end row from mid part n a room long many at i j s h apart)) (v.done i j s h less)
+    | inr more ↦
+        let same : j / 64 ≡ row = omega (arith, more, l) in
+        let was : stored c row (take n (drop a mid)) i j s ≡ stored c first old i j s = old_is c first end row from mid part n a room long many at i j s h same ∙ v.left i j s h more in
+        subst (λ (x : CanvasSample). PaintAll shapes c.count (pos i +ℤ origin.x) (pos j +ℤ origin.y) s x (stored c first (put mid part a n) i j s)) was
+        (subst (λ (y : CanvasSample). PaintAll shapes c.count (pos i +ℤ origin.x) (pos j +ℤ origin.y) s (stored c row (take n (drop a mid)) i j s) y) (new_is c first end row from mid part n a room long many at i j s h same)
+        (one i j s (here c first end row from mid part n a room long many at i j s h same)))
+  ];
+  left = λ i j s h l. elsewhere c first end row from mid part n a room long many at i j s h (λ e. omega (arith, e, l)) ∙ v.left i j s h (omega (arith, l));
+}
+
+-- a polygon that meets nothing in a tile row
+pub row_not_met : (shape : Shape) (origin : Origin) (c : Canvas) (row top bottom : ℕ) (old : List BlockSamples) → row < rows_of c → LiesInRows shape origin c top bottom → ((top ≤ row) × (row < bottom) → ⊥) → ArePainted (shape ∷ []) origin c row (row + 1) old old
+row_not_met shape origin c row top bottom old few lies apart i j s h =
+    let from = h.from in
+    let below = h.below in
+    let none : MeetsSample shape c.count (pos i +ℤ origin.x) (pos j +ℤ origin.y) s → ⊥ = λ m.
+    let inside = lies i j s (record { column = h.column; from = omega arith; below = omega (arith, few, below); is_sample = h.is_sample }) m in
+    apart (omega (arith, inside.0, below), omega (arith, inside.1, from)) in
+    (stored c row old i j s, record { met = λ m. absurd (none m); missed = λ n. refl }, refl)
+
 module _ (t : Placed) (c : Canvas) (first end row : ℕ) (from : first ≤ row) (Q : ℕ → ℕ → ℕ → Type 0) (mid part : List BlockSamples) (n a : ℕ) (room : a + n ≤ length mid) (long : length part ≡ n) (many : n ≡ planes_of_row c)
     (at : a ≡ (row - first) * planes_of_row c) (paints : RowsPaint t c row (row + 1) Q (take n (drop a mid)) part) where
   module _ (i j s : ℕ) (h : IsStoredIn c first end i j s) where
-    here : j / 64 ≡ row → IsStoredIn c row (row + 1) i j s
-    here same = record { column = h.column; from = omega (arith, same); below = omega (arith, same); is_sample = h.is_sample }
-
-    old_is : j / 64 ≡ row → stored c row (take n (drop a mid)) i j s ≡ stored c first mid i j s
-    old_is same = in_row c i j s row first mid n a same many (at ∙ ap (λ k. (k - first) * planes_of_row c) (sym same)) h.column h.is_sample
-
-    new_is : j / 64 ≡ row → stored c row part i j s ≡ stored c first (put mid part a n) i j s
-    new_is same = sym (row_put c i j s mid part n a room long first row many at from h.from h.column h.is_sample same)
-
     met : j / 64 ≡ row → Q i j s → IsCanvasDrawnAt t (sample_position i j s c.count) (stored c first mid i j s) (stored c first (put mid part a n) i j s)
     met same q =
-        subst (λ (x : CanvasSample). IsCanvasDrawnAt t (sample_position i j s c.count) x (stored c first (put mid part a n) i j s)) (old_is same)
-        (subst (λ (y : CanvasSample). IsCanvasDrawnAt t (sample_position i j s c.count) (stored c row (take n (drop a mid)) i j s) y) (new_is same) (paints.met i j s (here same) q))
+        subst (λ (x : CanvasSample). IsCanvasDrawnAt t (sample_position i j s c.count) x (stored c first (put mid part a n) i j s)) (old_is c first end row from mid part n a room long many at i j s h same)
+        (subst (λ (y : CanvasSample). IsCanvasDrawnAt t (sample_position i j s c.count) (stored c row (take n (drop a mid)) i j s) y) (new_is c first end row from mid part n a room long many at i j s h same) (paints.met i j s (here c first end row from mid part n a room long many at i j s h same) q))
 
     missed : ¬ ((j / 64 ≡ row) × Q i j s) → stored c first (put mid part a n) i j s ≡ stored c first mid i j s
     missed other =
         elim (cases_eq (j / 64) row) [
-          | inl same ↦ sym (new_is same) ∙ paints.missed i j s (here same) (λ q. other (same, q)) ∙ old_is same
-          | inr apart ↦ row_kept c i j s mid part n a room long first row many at from h.from h.column h.is_sample apart
+          | inl same ↦ sym (new_is c first end row from mid part n a room long many at i j s h same) ∙ paints.missed i j s (here c first end row from mid part n a room long many at i j s h same) (λ q. other (same, q)) ∙ old_is c first end row from mid part n a room long many at i j s h same
+          | inr apart ↦ elsewhere c first end row from mid part n a room long many at i j s h apart
         ]
 
   row_in_rows : RowsPaint t c first end (λ i j s. (j / 64 ≡ row) × Q i j s) mid (put mid part a n)

@@ -1,5 +1,5 @@
 -- Polygons in arrays, as they are drawn.
-use Rattle.std.specs.Prelude.{ℕ, ◌+◌, ◌≤◌, List, [], map, length, slice_index, slice_index_or, Option, None, Some}
+use Rattle.std.specs.Prelude.{ℕ, ◌+◌, ◌-◌, ◌≤◌, List, [], map, length, slice_index, slice_index_or, Option, None, Some}
 use Rattle.std.specs.List.{range_with_len}
 use Rattle.shade.specs.declared.state.State.{State}
 use Rattle.polygons.specs.declared.arrays.Polygons.{Polygons}
@@ -38,6 +38,10 @@ shape_in polygons style =
 -- The polygons as they are drawn, in their order.
 abbrev pub shapes_of : Polygons → Style → List Shape
 shapes_of polygons style = map (shape_in polygons style) (range_with_len 0 (length polygons.polygon_ends.now))
+
+-- The polygons from k to before `end` as they are drawn, in their order.
+abbrev pub shapes_between : Polygons → Style → ℕ → ℕ → List Shape
+shapes_between polygons style k end = map (shape_in polygons style) (range_with_len k (end - k))
 
 -- There is a colour for each of n polygons, or an id of 24 bits.
 abbrev pub HasColours : Option ℕ → List (List ℕ) → ℕ → Type 0

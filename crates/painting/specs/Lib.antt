@@ -52,3 +52,4 @@
 pub mod Painting
 pub mod Parts
 pub mod Batches
+pub mod Groups

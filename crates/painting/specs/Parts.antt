@@ -28,13 +28,13 @@ use Rattle.raster.specs.Samples.{IsSampleOf}
 use Rattle.canvas.specs.declared.canvas.Canvas.{Canvas}
 use Rattle.canvas.specs.declared.window.Origin.{Origin}
 use Rattle.canvas.specs.declared.way.Way.TheVariants.{Pair}
-use Rattle.canvas.specs.Layout.{IsStoredIn, block_in_tile, columns_of, in_list, masks_place, pixel_in_block, place_in_tile, stored, stored_in_tile, way_in_tile}
+use Rattle.canvas.specs.Layout.{IsStoredIn, block_in_tile, columns_of, in_list, masks_place, pixel_in_block, place_in_tile, rows_of, stored, stored_in_tile, way_in_tile}
 use Rattle.lanes.specs.Block.{stored_at}
 use Rattle.canvas.specs.Window.{moved_state}
 use Rattle.painting.specs.declared.masks.Masks.{Masks}
 use Rattle.painting.specs.declared.polygon.Polygon.{Polygon}
 use Rattle.painting.specs.declared.window.Window.{Window}
-use Rattle.painting.specs.Painting.{MeetsSample, shape_of}
+use Rattle.painting.specs.Painting.{MeetsSample, Shape, shape_of}
 
 -- A factor of colours that are opaque, without alpha: what is multiplied by alpha stays, and nothing is left beside it.
 abbrev pub opaque_factor : BlendFactor → BlendFactor
@@ -193,3 +193,8 @@ abbrev pub HoldsSamples : Window → Extent → Origin → Canvas → Type 0
 HoldsSamples w e origin c =
     (i j s : ℕ) → i / 64 < columns_of c → j < 4096 → IsInExtent e (screen_sample (pos i +ℤ origin.x) (pos j +ℤ origin.y) s c.count)
     → (w.left ≤ i / 8) × (i / 8 < w.right) × (w.top ≤ j / 64) × (j / 64 < w.bottom)
+
+-- Each sample of the canvas that the polygon meets lies in the tile rows from `top` to before `bottom`.
+abbrev pub LiesInRows : Shape → Origin → Canvas → ℕ → ℕ → Type 0
+LiesInRows shape origin c top bottom =
+    (i j s : ℕ) → IsStoredIn c 0 (rows_of c) i j s → MeetsSample shape c.count (pos i +ℤ origin.x) (pos j +ℤ origin.y) s → (top ≤ j / 64) × (j / 64 < bottom)

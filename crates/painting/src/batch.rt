@@ -7,8 +7,8 @@ ghost use Rattle.painting.specs.Batches.{HasColours, shape_in, shapes_of};
 ghost use Rattle.painting.specs.Painting.{ArePainted, IsOriginInBand, shape_of};
 ghost use Rattle.painting.specs.Parts.{flag_columns_of};
 
+use crate::group::Group;
 use crate::polygon::Polygon;
-use crate::rows::paint_rows;
 use canvas::{Origin, Piece, colour_of_id, replacing};
 use polygons::{Counters, Flags, Polygons, Rule, Runs};
 use shade::State;
@@ -40,7 +40,7 @@ fn depth_of(depths: &[u16], number: usize) -> u16
 
 impl Style<'_> {
     /// The polygon of this number as it is drawn.
-    fn polygon<'a>(&self, polygons: &Polygons<'a>, number: usize) -> Polygon<'a>
+    pub(crate) fn polygon<'a>(&self, polygons: &Polygons<'a>, number: usize) -> Polygon<'a>
         requires number { number < length polygons.now.polygon_ends.now }
         requires colours { HasColours self.now.ids self.now.colours.now (length polygons.now.polygon_ends.now) }
         ensures { shape_of result ≡ shape_in polygons.now self.now number }
@@ -87,16 +87,20 @@ pub fn draw_polygons(
     ensures counters { AreZeros counters.new }
 {
     let mut runs = Runs::none();
-    for number in 0..polygons.count() {
-        let polygon = style.polygon(polygons, number);
-        paint_rows(
+    let mut group = Group::none();
+    let mut first = 0;
+    while first < polygons.count() {
+        group.take(polygons, style, origin, &piece.rows.canvas, first);
+        group.paint(
             &piece.rows,
-            &polygon,
+            polygons,
+            style,
             origin,
             &mut runs,
             flags,
             counters,
             piece.planes,
         );
+        first = group.end;
     }
 }

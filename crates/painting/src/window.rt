@@ -34,6 +34,7 @@ impl Window {
     /// The window that holds the samples of the canvas in the box.
     pub(crate) fn of(extent: &Extent, origin: &Origin, canvas: &Canvas) -> Window
         ensures columns { result.right ≤ 8 * columns_of canvas.now }
+        ensures rows { (result.top ≤ 64) × (result.bottom ≤ 64) }
         ensures holds { HoldsSamples result extent.now origin.now canvas.now }
     {
         let (left, right) = blocks_with(extent.left, extent.right, origin.x);

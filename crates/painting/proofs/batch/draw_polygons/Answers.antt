@@ -1,31 +1,39 @@
-use Rattle.std.proofs.Common.{◌≡◌, subst, arith, [], ◌∷◌, map, length}
+use Rattle.std.proofs.Common.{◌≡◌, ◌∙◌, sym, ap, subst, arith, ℕ, ◌+◌, ◌-◌, ◌≤◌, map, length}
 use Rattle.std.specs.List.{range_with_len}
 use Rattle.canvas.specs.declared.tile_rows.TileRows.{TileRows}
-use Rattle.painting.specs.Batches.{shape_in}
-use Rattle.painting.specs.Painting.{Shape, ArePainted}
-use Rattle.painting.proofs.Batches.{painted_more}
+use Rattle.painting.specs.Batches.{shape_in, shapes_between}
+use Rattle.painting.specs.Painting.{ArePainted}
+use Rattle.painting.proofs.Batches.{painted_both}
 use Rattle.painting.proofs.batch.draw_polygons.Goals as goal
 
-pub loop-number-preserved : goal.loop-number-preserved
-loop-number-preserved c =
-    let v = c.loop-number.invariant in
+pub loop-first-preserved : goal.loop-first-preserved
+loop-first-preserved c =
+    let f = shape_in c.args.polygons.now c.args.style.now in
+    let v = c.loop-first.invariant in
     let rows = c.args.piece.now.rows in
     let origin = c.args.origin.now in
-    let mid = c.loop-number.piece.planes.now in
-    let new = c.paint_rows.new.samples in
-    let there = subst (λ (p : Shape). ArePainted (p ∷ []) origin c.loop-number.piece.rows.canvas c.loop-number.piece.rows.first c.loop-number.piece.rows.end mid new) c.polygon-polygon.ensures c.paint_rows.ensures.painted in
-    let shape = shape_in c.args.polygons.now c.args.style.now c.loop-number.number in
-    let one = subst (λ (r : TileRows). ArePainted (shape ∷ []) origin r.canvas r.first r.end mid new) v.rows there in
+    let first = c.loop-first.first in
+    let end = c.take.new.self.end in
+    let old = c.args.piece.now.planes.now in
+    let mid = c.loop-first.piece.planes.now in
+    let new = c.paint.new.samples in
+    let here : ArePainted (map f (range_with_len first (end - first))) origin c.loop-first.piece.rows.canvas c.loop-first.piece.rows.first c.loop-first.piece.rows.end mid new =
+    subst (λ (k : ℕ). ArePainted (map f (range_with_len k (end - k))) origin c.loop-first.piece.rows.canvas c.loop-first.piece.rows.first c.loop-first.piece.rows.end mid new) c.take.ensures.first c.paint.ensures.painted in
+    let there : ArePainted (map f (range_with_len first (end - first))) origin rows.canvas rows.first rows.end mid new =
+    subst (λ (r : TileRows). ArePainted (map f (range_with_len first (end - first))) origin r.canvas r.first r.end mid new) v.rows here in
+    let whole : first + (end - first) ≡ end = omega (arith, c.take.ensures.some) in
     record {
       rows = v.rows;
       same = v.same;
-      painted = painted_more (shape_in c.args.polygons.now c.args.style.now) c.loop-number.number origin rows.canvas rows.first rows.end c.args.piece.now.planes.now mid new v.painted one;
-      flags = c.paint_rows.ensures.flags;
-      counters = c.paint_rows.ensures.counters;
+      within = c.take.ensures.within;
+      painted = subst (λ (n : ℕ). ArePainted (map f (range_with_len 0 n)) origin rows.canvas rows.first rows.end old new) whole
+          (painted_both f first (end - first) origin rows.canvas rows.first rows.end old mid new v.painted there);
+      flags = c.paint.ensures.flags;
+      counters = c.paint.ensures.counters;
     }
 
 pub returns-clause-painted : goal.returns-clause-painted
 returns-clause-painted c =
     let rows = c.args.piece.now.rows in
-    let all : c.loop-number.number ≡ length c.args.polygons.now.polygon_ends.now = omega (arith, c.loop-number-test.false, c.loop-number.auto.number-end, c.count-number-end.ensures) in
-    subst (λ n. ArePainted (map (shape_in c.args.polygons.now c.args.style.now) (range_with_len 0 n)) c.args.origin.now rows.canvas rows.first rows.end c.args.piece.now.planes.now c.loop-number.piece.planes.now) all c.loop-number.invariant.painted
+    let all : c.loop-first.first ≡ length c.args.polygons.now.polygon_ends.now = omega (arith, c.loop-first-test.false, c.loop-first.invariant.within, c.count.ensures) in
+    subst (λ n. ArePainted (map (shape_in c.args.polygons.now c.args.style.now) (range_with_len 0 n)) c.args.origin.now rows.canvas rows.first rows.end c.args.piece.now.planes.now c.loop-first.piece.planes.now) all c.loop-first.invariant.painted
