@@ -12,6 +12,7 @@ pub mod PixelRows
 pub mod Arranged
 pub mod Pairs
 pub mod MaskBits
+pub mod MaskLanes
 pub mod PairMeans
 pub mod PixelColours
 pub mod Masks
