@@ -11,8 +11,8 @@ pub mod Units
 pub mod PixelRows
 pub mod Arranged
 pub mod Pairs
-pub mod MaskBits
 pub mod MaskLanes
+pub mod MaskBits
 pub mod PairMeans
 pub mod PixelColours
 pub mod Masks

@@ -1,8 +1,6 @@
 -- The bytes of pixels.
-use Rattle.std.proofs.Common.{◌≡◌, ◌∙◌, refl, [], ◌∷◌, ap, sym, subst, ℕ, ◌+◌, ◌*◌, ◌/◌, ◌%◌, ◌<◌, ◌≤◌, List, take, slice_index, get_or-take, arith}
+use Rattle.std.proofs.Common.{◌≡◌, ◌∙◌, refl, [], ◌∷◌, ap, sym, subst, ℕ, ◌+◌, ◌*◌, ◌/◌, ◌%◌, ◌<◌, List, slice_index, arith}
 use Rattle.std.specs.Prelude.{slice_index_or}
-use Rattle.std.proofs.Math.Nat.{mul_comm}
-use Rattle.std.proofs.lemmas.Nat.{mul-add-lt}
 use Rattle.grid.specs.Samples.{count_of}
 use Rattle.grid.specs.declared.pixels.TileSide.TheVariants.{T8}
 use Rattle.grid.specs.declared.sample_count.SampleCount.{SampleCount}
@@ -14,13 +12,13 @@ use Rattle.shade.specs.Resolve.{IsResolved}
 use Rattle.shade.proofs.Resolved.{resolved_same}
 use Rattle.raster.specs.declared.tile.Tile.{Tile}
 use Rattle.raster.specs.Samples.{place_of, stored as in_tile}
-use Rattle.raster.specs.Colours.{IsColourAt, IsAlphaAt, AreColoursAt, AreAlphasAt}
+use Rattle.raster.specs.Colours.{IsColourAt, IsAlphaAt}
 use Rattle.canvas.specs.declared.canvas.Canvas.{Canvas}
 use Rattle.canvas.specs.declared.format.Format.{Format}
 use Rattle.canvas.specs.Layout.{stored, stored_in_tile}
 use Rattle.canvas.specs.declared.format.Format.TheVariants.{Rgb8, Rgba8, Bgra8, Rgba8Straight, Bgra8Straight}
 use Rattle.canvas.specs.Pixels.{pixel_bytes, pixel_of, HasAlpha}
-use Rattle.canvas.specs.Colours.{IsColourOfPixel, IsColourIn, IsAlphaOfPixel, IsAlphaIn, IsPixelOf, IsPixelIn, IsTilePixel, IsSampleColour, IsMeanOf, AreBytesOfColour, AreArranged}
+use Rattle.canvas.specs.Colours.{IsColourOfPixel, IsColourIn, IsAlphaOfPixel, IsAlphaIn, IsPixelOf, IsPixelIn, IsTilePixel, IsSampleColour, IsMeanOf, AreBytesOfColour}
 use Rattle.canvas.proofs.Places.{none}
 
 -- ---- colours of the same samples
@@ -82,10 +80,6 @@ pub pixel_same : (c : Canvas) (first : ℕ) (samples : List BlockSamples) (forma
     → IsPixelOf c first samples format i j f → IsPixelOf c first samples format i j h
 pixel_same c first samples format i j f h same p = record { r = p.r; g = p.g; b = p.b; a = p.a; colour = p.colour; alpha = p.alpha; order = bytes_same format p.r p.g p.b p.a f h same p.order }
 
-pub tile_pixel_same : (tile : Tile) (samples : List BlockSamples) (format : Format) (row column : ℕ) (f h : ℕ → ℕ) → ((k : ℕ) → k < pixel_bytes format → h k ≡ f k)
-    → IsTilePixel tile samples format row column f → IsTilePixel tile samples format row column h
-tile_pixel_same tile samples format row column f h same p = record { r = p.r; g = p.g; b = p.b; a = p.a; colour = p.colour; alpha = p.alpha; order = bytes_same format p.r p.g p.b p.a f h same p.order }
-
 -- from raster's tile to the planes of a tile
 pub pixel_in_tile : (count : SampleCount) (i j : ℕ) (tile : Tile) (xs part : List BlockSamples) (row column : ℕ) (format : Format) (bytes : ℕ → ℕ) → tile.count ≡ count
     → ((s : ℕ) → s < count_of count → in_tile tile part row column s ≡ stored_in_tile count xs i j s)
@@ -106,24 +100,6 @@ pub pixel_in_rows : (c : Canvas) (i j first : ℕ) (xs part : List BlockSamples)
     → IsPixelOf c (j / 64) part format i j bytes → IsPixelOf c first xs format i j bytes
 pixel_in_rows c i j first xs part format bytes same p =
     record { r = p.r; g = p.g; b = p.b; a = p.a; colour = colour_in_rows c i j p.r p.g p.b first xs part same p.colour; alpha = λ has. alpha_in_rows c i j p.a first xs part same (p.alpha has); order = p.order }
-
--- the first of eight pixels
-pub first_pixels : (tile : Tile) (samples : List BlockSamples) (format : Format) (row column count : ℕ) (rgb alphas run : List ℕ) → count ≤ 8 → AreColoursAt tile samples row column rgb → (HasAlpha format → AreAlphasAt tile samples row column alphas)
-    → AreArranged format rgb alphas run
-    → (i : ℕ) → i < count → IsTilePixel tile samples format row (8 * column + i) (λ k. slice_index (take (count * pixel_bytes format) run) (i * pixel_bytes format + k))
-first_pixels tile samples format row column count rgb alphas run few colours resolved arranged i l = record {
-  r = slice_index rgb (3 * i);
-  g = slice_index rgb (3 * i + 1);
-  b = slice_index rgb (3 * i + 2);
-  a = slice_index alphas i;
-  colour = colours i (omega arith);
-  alpha = λ has. resolved has i (omega arith);
-  order = λ k small.
-      let inside : i * pixel_bytes format + k < count * pixel_bytes format =
-      (let below = mul-add-lt i (pixel_bytes format) k count l small in
-      omega (arith, below, mul_comm (pixel_bytes format) count)) in
-      get_or-take (count * pixel_bytes format) run (i * pixel_bytes format + k) 0 inside ∙ arranged i (omega arith) k small;
-}
 
 -- ---- the colour of one sample
 same_in_format : (format : Format) (r g b a a' n : ℕ) → (HasAlpha format → a ≡ a') → slice_index (pixel_of format r g b a) n ≡ slice_index (pixel_of format r g b a') n

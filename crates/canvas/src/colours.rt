@@ -8,7 +8,7 @@ ghost use Rattle.lanes.specs.Block.{stored_at};
 ghost use Rattle.canvas.specs.Layout.{columns_of, rows_of, planes_of_tile, planes_of_row, stored};
 ghost use Rattle.canvas.specs.Pixels.{pixel_bytes, IsLargeEnough};
 ghost use Rattle.canvas.specs.Entries.{FitEntries, IsEntriesMisfit};
-ghost use Rattle.canvas.specs.Colours.{IsPixelOf, IsPixelIn, IsTilePixel, IsSampleColour, AreResolved, AreColours};
+ghost use Rattle.canvas.specs.Colours.{IsPixelOf, IsPixelIn, IsTilePixel, IsSampleColour, AreBytesOfColour, AreResolved, AreColours};
 
 use crate::canvas::Canvas;
 use crate::format::{Format, arranged};
@@ -43,6 +43,28 @@ fn copy_first(run: u8x32, bytes: &mut [u8])
     }
 }
 
+/// Writes the first `count` of eight pixels in the format, by the first 24 bytes of `rgb`, which are their red, green and
+/// blue, and by the first eight of `alphas`.
+#[inline(always)]
+fn write_run(format: Format, rgb: u8x32, alphas: u8x32, count: u32, bytes: &mut [u8])
+    requires rgb { length rgb ≡ 32 }
+    requires alphas { length alphas ≡ 32 }
+    requires count { count ≤ 8 }
+    requires bytes { length bytes.old ≡ count * pixel_bytes format }
+    ensures { (i : ℕ) → i < count →
+        AreBytesOfColour format (slice_index rgb (3 * i)) (slice_index rgb (3 * i + 1)) (slice_index rgb (3 * i + 2))
+        (slice_index alphas i) (λ k. slice_index bytes.new (i * pixel_bytes format + k)) }
+{
+    // Each format by itself: a run that is chosen from several is put together byte by byte.
+    match format {
+        Format::Rgb8 => copy_first(arranged(Format::Rgb8, rgb, alphas), bytes),
+        Format::Rgba8 => copy_first(arranged(Format::Rgba8, rgb, alphas), bytes),
+        Format::Bgra8 => copy_first(arranged(Format::Bgra8, rgb, alphas), bytes),
+        Format::Rgba8Straight => copy_first(arranged(Format::Rgba8Straight, rgb, alphas), bytes),
+        Format::Bgra8Straight => copy_first(arranged(Format::Bgra8Straight, rgb, alphas), bytes),
+    }
+}
+
 /// Writes the first `count` of the eight pixels in a row of the tile and in a column of its blocks. `MORE` is as in
 /// `colours_by`.
 #[inline(always)]
@@ -66,24 +88,11 @@ fn resolve_run<const MORE: bool>(
         (λ k. slice_index bytes.new (i * pixel_bytes format + k)) }
 {
     let rgb = colours_by::<MORE>(tile, samples, row, column);
-    // Each format by itself: a run that is chosen from several is put together byte by byte.
     match format {
-        Format::Rgb8 => copy_first(arranged(Format::Rgb8, rgb, rgb), bytes),
-        Format::Rgba8 => {
+        Format::Rgb8 => write_run(Format::Rgb8, rgb, rgb, count, bytes),
+        _ => {
             let alphas = alphas_by::<MORE>(tile, samples, row, column);
-            copy_first(arranged(Format::Rgba8, rgb, alphas), bytes);
-        }
-        Format::Bgra8 => {
-            let alphas = alphas_by::<MORE>(tile, samples, row, column);
-            copy_first(arranged(Format::Bgra8, rgb, alphas), bytes);
-        }
-        Format::Rgba8Straight => {
-            let alphas = alphas_by::<MORE>(tile, samples, row, column);
-            copy_first(arranged(Format::Rgba8Straight, rgb, alphas), bytes);
-        }
-        Format::Bgra8Straight => {
-            let alphas = alphas_by::<MORE>(tile, samples, row, column);
-            copy_first(arranged(Format::Bgra8Straight, rgb, alphas), bytes);
+            write_run(format, rgb, alphas, count, bytes);
         }
     }
 }
@@ -151,8 +160,8 @@ impl Canvas {
                 );
             }
             Way::Pair => {
-                let means = means_of_pair(self.count, samples, number, j % 8);
-                resolve_plane(&[means], j % 8, format, count, bytes);
+                let (rgb, alphas) = means_of_pair(self.count, samples, number, j % 8);
+                write_run(format, rgb, alphas, count, bytes);
             }
             _ => {
                 let place = place_by(self.count, way, number, 0);

@@ -51,14 +51,14 @@ returns-in-Pair g c =
     let number : block_in_tile x j ≡ k = same_block c.args.block i j (omega (arith, l, c.requires.count)) ∙ sym c.block_in_tile-number.ensures.value in
     let was : way_in_tile xs (block_in_tile x j) ≡ Pair = ap (way_in_tile xs) number ∙ sym c.way_of-way.ensures ∙ c.in-Pair.is in
     let pixel : pixel_in_block x j ≡ 8 * (j % 8) + i = omega (arith, l, c.requires.count) in
-    pixel_of_means count xs c.args.format x j (λ s. stored_at (in_list xs (sample_place count Pair (in_list xs) k (8 * (j % 8) + i) s)) (8 * (j % 8) + i)) (stored_at c.means_of_pair-means.result (8 * (j % 8) + i)) _
+    pixel_of_means count xs c.args.format x j (λ s. stored_at (in_list xs (sample_place count Pair (in_list xs) k (8 * (j % 8) + i) s)) (8 * (j % 8) + i)) _ _
     (λ s h.
     sym
     (by_any_way count xs Pair x j s was
     ∙ ap (λ m. stored_at (in_list xs (sample_place count Pair (in_list xs) m (pixel_in_block x j) s)) (pixel_in_block x j)) number
     ∙ ap (λ p. stored_at (in_list xs (sample_place count Pair (in_list xs) k p s)) p) pixel))
-    (c.means_of_pair-means.ensures i (omega (arith, l, c.requires.count)))
-    (c.resolve_plane.ensures i l)
+    (c.means_of_pair.ensures.means i (omega (arith, l, c.requires.count)))
+    (c.write_run.ensures i l)
 
 pub returns-in_default : goal.returns-in_default
 returns-in_default g c =
@@ -81,4 +81,4 @@ returns-in_default g c =
     ∙ ap (λ p. stored_at (slice_index_or xs p none) (pixel_in_block x j)) (at s)
     ∙ ap (λ p. stored_at p (pixel_in_block x j)) (sym plane)
     ∙ ap (λ k. stored_at (slice_index_or (take n (drop place xs)) 0 none) k) pixel)
-    (c.resolve_plane-in_default.ensures i l)
+    (c.resolve_plane.ensures i l)
