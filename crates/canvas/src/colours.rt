@@ -17,9 +17,9 @@ use crate::pair_means::means_of_pair;
 use crate::place::{block_in_tile, place_by};
 use crate::view::View;
 use crate::way::{Way, way_of};
-use grid::{SampleCount, TileSide};
+use grid::SampleCount;
 use lanes::BlockSamples;
-use raster::{Tile, alphas_by, colours_by};
+use raster::{Tile, alphas_by, colours_by, eight_from, first_of_many, interleaved};
 use std::simd::prelude::*;
 
 /// Copies the first bytes of `run` to all of `bytes`. If this is inlined, the lengths of eight whole pixels are known,
@@ -100,23 +100,20 @@ fn resolve_run<const MORE: bool>(
 /// Writes the first `count` of the eight pixels in a row of a block, whose colours are those of the samples of one
 /// plane.
 #[inline(always)]
-fn resolve_plane(planes: &[BlockSamples], row: u32, format: Format, count: u32, bytes: &mut [u8])
-    requires planes { length planes.now ≡ 1 }
+fn resolve_plane(plane: &BlockSamples, row: u32, format: Format, count: u32, bytes: &mut [u8])
     requires row { row < 8 }
     requires count { count ≤ 8 }
     requires bytes { length bytes.old ≡ count * pixel_bytes format }
     ensures { (i : ℕ) → i < count →
-        IsSampleColour format (stored_at (slice_index_or planes.now 0 (record { z = []; r = []; g = []; b = []; alpha = [] })) (8 * row + i))
+        IsSampleColour format (stored_at plane.now (8 * row + i))
         (λ k. slice_index bytes.new (i * pixel_bytes format + k)) }
 {
-    // A block of one sample a pixel resolves to that sample.
-    let one = Tile {
-        bx: 0,
-        by: 0,
-        side: TileSide::T8,
-        count: SampleCount::One,
-    };
-    resolve_run::<false>(&one, planes, row, 0, format, count, bytes);
+    let at = 8 * row as usize;
+    let red = eight_from(&plane.r, at);
+    let green = eight_from(&plane.g, at);
+    let blue = eight_from(&plane.b, at);
+    let alphas = first_of_many(eight_from(&plane.alpha, at));
+    write_run(format, interleaved(red, green, blue), alphas, count, bytes);
 }
 
 impl Canvas {
@@ -165,7 +162,7 @@ impl Canvas {
             }
             _ => {
                 let place = place_by(self.count, way, number, 0);
-                resolve_plane(&samples[place..place + 1], j % 8, format, count, bytes);
+                resolve_plane(&samples[place], j % 8, format, count, bytes);
             }
         }
     }
@@ -245,10 +242,10 @@ impl Canvas {
             (λ k. slice_index bytes.new (i * pixel_bytes format + k)) }
     {
         match self.merged(samples, 8 * block, j, s) {
-            Some(plane) => resolve_plane(&[plane], j % 8, format, count, bytes),
+            Some(plane) => resolve_plane(&plane, j % 8, format, count, bytes),
             None => {
                 let place = self.place(samples, 8 * block, j, s);
-                resolve_plane(&samples[place..place + 1], j % 8, format, count, bytes);
+                resolve_plane(&samples[place], j % 8, format, count, bytes);
             }
         }
     }

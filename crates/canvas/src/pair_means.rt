@@ -12,7 +12,7 @@ use crate::place::place_by;
 use crate::way::Way;
 use grid::SampleCount;
 use lanes::{BlockSamples, means_of_sums};
-use raster::{first_of_many, interleaved};
+use raster::{eight_from, first_of_many, interleaved};
 use std::simd::prelude::*;
 
 /// The powers of the bits of a row of pixels among the sixteen that a mask has for two rows: 0 and 1, 2 and 3, and so on.
@@ -62,7 +62,7 @@ fn lanes_from(bytes: &[u8], at: usize) -> u16x8
     ensures each { (i : ℕ) → i < 8 → slice_index result i ≡ slice_index bytes.now (at + i) }
     ensures bytes { (i : ℕ) → i < 8 → slice_index result i ≤ 255 }
 {
-    u8x8::from_slice(&bytes[at..]).cast::<u16>()
+    eight_from(bytes, at).cast::<u16>()
 }
 
 /// The means of a channel of eight pixels, of which `bits` samples have `second` and the others `first`.

@@ -188,7 +188,7 @@ fn alphas_of_more(tile: &Tile, samples: &[BlockSamples], row: u32, column: u32) 
 
 /// Eight bytes from a place on.
 #[inline(always)]
-fn eight_from(bytes: &[u8], from: usize) -> u8x8
+pub fn eight_from(bytes: &[u8], from: usize) -> u8x8
     requires { from + 8 ≤ length bytes.now }
     ensures whole { length result ≡ 8 }
     ensures each { (i : ℕ) → i < 8 → slice_index result i ≡ slice_index bytes.now (from + i) }
