@@ -11,6 +11,7 @@ pub mod Units
 pub mod PixelRows
 pub mod Arranged
 pub mod Pairs
+pub mod MaskLanes
 pub mod MaskBits
 pub mod PairMeans
 pub mod PixelColours

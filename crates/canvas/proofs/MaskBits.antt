@@ -1,10 +1,15 @@
 -- The bits of masks of 64 pixels.
-use Rattle.std.proofs.Common.{◌≡◌, ◌≢◌, ◌∙◌, inl, inr, sym, ap, subst, ℕ, suc, ◌+◌, ◌-◌, ◌/◌, ◌%◌, ◌<◌, ◌^◌, min, max, List, length, slice_index, slice_set, bit_and, bit_or, w64, arith, ◌≤◌, refl}
+use Rattle.std.proofs.Common.{zero, ◌*◌, replicate, ◌≡◌, ◌≢◌, ◌∙◌, inl, inr, sym, ap, subst, ℕ, suc, ◌+◌, ◌-◌, ◌/◌, ◌%◌, ◌<◌, ◌^◌, min, max, List, length, slice_index, slice_set, bit_and, bit_or, w64, arith, ◌≤◌, refl}
 use Rattle.std.specs.Int.{bit_at}
 use Rattle.std.proofs.lemmas.Bool.{cases_lt}
-use Rattle.std.proofs.lemmas.List.{get_or-set_same, get_or-set_other, length-set}
+use Rattle.std.proofs.lemmas.List.{get_or-set_same, get_or-set_other}
 use Rattle.shade.specs.Resolve.{total}
-use Rattle.std.proofs.lemmas.Nat.{shr-shr}
+use Rattle.std.specs.Simd.Lanes.{zip2}
+use Rattle.lanes.specs.declared.block_samples.BlockSamples.{BlockSamples}
+use Rattle.lanes.proofs.Lanewise.{plus}
+use Rattle.lanes.proofs.Rows.{zipped, splat, itself}
+use Rattle.canvas.specs.Layout.{mask_of}
+use Rattle.canvas.proofs.MaskLanes.{bit_of_part}
 use Rattle.std.proofs.lemmas.Nat.Bits.{bit_at-zero, bit_at-lt, bit_at_and, bit_at_or, bit_at_not, bit_at_ones}
 
 abbrev pub full : ℕ
@@ -61,30 +66,44 @@ one_mask_more P xs s mask room before here =
     (λ t l. subst (P t) (sym (get_or-set_other xs s t mask 0 (λ e. omega (arith, e, l)))) (before t l))
     (subst (P s) (sym (get_or-set_same xs s mask 0 room)) here)
 
+-- ---- the four words of a mask
+-- bit r of word q
+pub bit_of_word : (masks : BlockSamples) (s q r : ℕ) → ((k : ℕ) → slice_index masks.z k < 65536) → q < 4 → r < 16 → bit_at (slice_index masks.z (4 * s + q)) r ≡ bit_at (mask_of masks s) (16 * q + r)
+bit_of_word masks s q r fits high l = ap (λ w. bit_at w r) (word q high) ∙ bit_of_part (mask_of masks s) (16 * q) 16 r l
+  where
+    word : (q : ℕ) → q < 4 → slice_index masks.z (4 * s + q) ≡ mask_of masks s / 2 ^ (16 * q) % 2 ^ 16
+    word zero h = let here : 4 * s + 0 ≡ 4 * s = omega arith in ap (λ k. slice_index masks.z k) here ∙ omega (arith, fits (4 * s), fits (4 * s + 1), fits (4 * s + 2), fits (4 * s + 3))
+    word (suc zero) h = omega (arith, fits (4 * s), fits (4 * s + 1), fits (4 * s + 2), fits (4 * s + 3))
+    word (suc (suc zero)) h = omega (arith, fits (4 * s), fits (4 * s + 1), fits (4 * s + 2), fits (4 * s + 3))
+    word (suc (suc (suc zero))) h = omega (arith, fits (4 * s), fits (4 * s + 1), fits (4 * s + 2), fits (4 * s + 3))
+    word (suc (suc (suc (suc q)))) h = absurd (omega (arith, h))
+
+-- bit i of a row
+pub bit_of_row : (masks : BlockSamples) (s row i : ℕ) → ((k : ℕ) → slice_index masks.z k < 65536) → row < 8 → i < 8 → bit_at (slice_index masks.z (4 * s + row / 2)) (8 * (row % 2) + i) ≡ bit_at (mask_of masks s) (8 * row + i)
+bit_of_row masks s row i fits high l =
+    let place : 16 * (row / 2) + (8 * (row % 2) + i) ≡ 8 * row + i = omega arith in
+    bit_of_word masks s (row / 2) (8 * (row % 2) + i) fits (omega (arith, high)) (omega (arith, l)) ∙ ap (bit_at (mask_of masks s)) place
+
 -- ---- sums of the bits of masks
--- the sums before i have a bit more
-pub record HaveBits (i mask : ℕ) (old new : List ℕ) : Type 0 where
-  pub long : length new ≡ 8
-  pub added : (m : ℕ) → m < i → slice_index new m ≡ slice_index old m + bit_at mask m
-  pub kept : (m : ℕ) → i ≤ m → slice_index new m ≡ slice_index old m
-
-pub one_bit_more : (i mask sum : ℕ) (old xs : List ℕ) → i < 8 → sum ≡ slice_index xs i + bit_at mask i → HaveBits i mask old xs → HaveBits (i + 1) mask old (slice_set xs i sum)
-one_bit_more i mask sum old xs small is before = record {
-  long = length-set xs i sum ∙ before.long;
-  added = one_mask_more (λ m x. x ≡ slice_index old m + bit_at mask m) xs i sum (omega (arith, small, before.long)) before.added (is ∙ ap (λ x. x + bit_at mask i) (before.kept i (omega arith)));
-  kept = λ m since. get_or-set_other xs i m sum 0 (λ e. omega (arith, e, since)) ∙ before.kept m (omega (arith, since));
-}
-
--- each sum is that of the bits of n masks
+-- each lane is the sum of the bits of n masks
 pub record AreBitSums (n at : ℕ) (mask : ℕ → ℕ) (sums : List ℕ) : Type 0 where
+  pub long : length sums ≡ 8
   pub each : (i : ℕ) → i < 8 → slice_index sums i ≡ total n (λ s. bit_at (mask s) (at + i))
   pub most : (i : ℕ) → i < 8 → slice_index sums i ≤ n
 
-pub one_mask_added : (n at : ℕ) (mask : ℕ → ℕ) (old new : List ℕ) → ((i : ℕ) → i < 8 → slice_index new i ≡ slice_index old i + bit_at (mask n / 2 ^ at) i) → AreBitSums n at mask old → AreBitSums (n + 1) at mask new
-one_mask_added n at mask old new is before = record {
-  each = λ i l. is i l ∙ ap (λ b. slice_index old i + b) (ap (λ x. x % 2) (shr-shr (mask n) at i)) ∙ ap (λ x. x + bit_at (mask n) (at + i)) (before.each i l) ∙ next n (λ s. bit_at (mask s) (at + i));
-  most = λ i l. (let low = bit_at-lt (mask n / 2 ^ at) i in let few = before.most i l in omega (arith, is i l, low, few));
-}
+pub no_mask_added : (at : ℕ) (mask : ℕ → ℕ) → AreBitSums 0 at mask (replicate 8 0)
+no_mask_added at mask = record { long = (splat 0).long; each = (splat 0).each; most = λ i l. omega (arith, (splat 0).each i l) }
+
+pub one_mask_added : (n at : ℕ) (mask : ℕ → ℕ) (sums bits : List ℕ) → n < 16 → length bits ≡ 8 → ((i : ℕ) → i < 8 → slice_index bits i ≡ bit_at (mask n) (at + i)) → AreBitSums n at mask sums → AreBitSums (n + 1) at mask (zip2 plus sums bits)
+one_mask_added n at mask sums bits few long is before =
+    let all = zipped plus sums bits _ _ (itself sums before.long) (itself bits long) in
+    let sum : (i : ℕ) → i < 8 → slice_index (zip2 plus sums bits) i ≡ slice_index sums i + bit_at (mask n) (at + i) =
+    λ i l. all.each i l ∙ ap (λ b. (slice_index sums i + b) % 65536) (is i l) ∙ (let low = bit_at-lt (mask n) (at + i) in let small = before.most i l in omega (arith, low, small, few)) in
+    record {
+      long = all.long;
+      each = λ i l. sum i l ∙ ap (λ x. x + bit_at (mask n) (at + i)) (before.each i l) ∙ next n (λ s. bit_at (mask s) (at + i));
+      most = λ i l. (let low = bit_at-lt (mask n) (at + i) in let small = before.most i l in omega (arith, sum i l, low, small));
+    }
   where
     next : (n : ℕ) (f : ℕ → ℕ) → total n f + f n ≡ total (n + 1) f
     next n f = let one : suc n ≡ n + 1 = omega arith in subst (λ m. total n f + f n ≡ total m f) one refl

@@ -1,14 +1,18 @@
 -- The means of pixels whose samples are of two kinds.
-use Rattle.std.proofs.Common.{◌≡◌, ◌∙◌, inl, inr, refl, ap, sym, subst, ℕ, zero, suc, ◌+◌, ◌-◌, ◌*◌, ◌/◌, ◌<◌, ◌≤◌, arith}
+use Rattle.std.proofs.Common.{◌≡◌, ◌∙◌, inl, inr, refl, ap, sym, subst, ℕ, zero, suc, ◌+◌, ◌-◌, ◌*◌, ◌/◌, ◌<◌, ◌≤◌, List, length, get_or, replicate, arith}
 use Rattle.std.specs.Prelude.{if◌then◌else◌}
 use Rattle.std.specs.Int.{bit_at}
 use Rattle.std.proofs.lemmas.Bool.Decides.{eqb_tells}
 use Rattle.std.proofs.lemmas.Nat.Bits.{bit_at-lt}
+use Rattle.std.specs.Simd.Lanes.{zip2}
+use Rattle.std.proofs.Math.Nat.{mul-le-mul_right}
+use Rattle.lanes.proofs.Lanewise.{plus, minus, times}
+use Rattle.lanes.proofs.Rows.{zipped, splat, itself}
 use Rattle.grid.specs.Samples.{count_of}
 use Rattle.grid.specs.declared.sample_count.SampleCount.{SampleCount}
 use Rattle.shade.specs.Resolve.{IsResolved, total}
 use Rattle.shade.specs.declared.sample.CanvasSample.{CanvasSample}
-use Rattle.shade.proofs.Resolved.{by_sum, resolved_same}
+use Rattle.shade.proofs.Resolved.{by_sum, few_samples, resolved_same}
 use Rattle.lanes.specs.declared.block_samples.BlockSamples.{BlockSamples}
 use Rattle.lanes.specs.Block.{stored_at}
 use Rattle.canvas.specs.declared.way.Way.TheVariants.{Pair}
@@ -55,6 +59,39 @@ module _ (g : CanvasSample → ℕ) (mask : ℕ → ℕ) (p : ℕ) (x y : Canvas
 
   pub mean_of_chosen : (count : SampleCount) → IsResolved count (λ s. g (chosen (mask s) p y x)) ((g x * (count_of count - bits (count_of count)) + g y * bits (count_of count) + count_of count / 2) / count_of count)
   mean_of_chosen count = by_sum count (λ s. g (chosen (mask s) p y x)) (g x * (count_of count - bits (count_of count)) + g y * bits (count_of count)) (count_of count) refl (sum_of_chosen (count_of count))
+
+-- ---- in lanes
+-- of n samples as many as `bits` have b, and the others a
+pub weighted_lane : (a b bits n : ℕ) → a ≤ 255 → b ≤ 255 → bits ≤ n → n ≤ 16 → (plus (times a (minus n bits)) (times b bits) ≡ a * (n - bits) + b * bits) × (a * (n - bits) + b * bits ≤ 255 * n)
+weighted_lane a b bits n small_a small_b few most =
+    let rest : minus n bits ≡ n - bits = omega (arith, few, most) in
+    let most_a : a * (n - bits) ≤ 255 * (n - bits) = mul-le-mul_right (n - bits) small_a in
+    let most_b : b * bits ≤ 255 * bits = mul-le-mul_right bits small_b in
+    let sum : a * (n - bits) + b * bits ≤ 255 * n = omega (arith, most_a, most_b, few) in
+    let exact : plus (times a (n - bits)) (times b bits) ≡ a * (n - bits) + b * bits = omega (arith, sum, most) in
+    (ap (λ r. plus (times a r) (times b bits)) rest ∙ exact, sum)
+
+-- eight weighted sums
+abbrev pub weighted : ℕ → List ℕ → List ℕ → List ℕ → List ℕ
+weighted n bits first second = zip2 plus (zip2 times first (zip2 minus (replicate 8 n) bits)) (zip2 times second bits)
+
+pub record AreWeighted (n : ℕ) (bits first second sums : List ℕ) : Type 0 where
+  pub long : length sums ≡ 8
+  pub each : (i : ℕ) → i < 8 → get_or sums i 0 ≡ get_or first i 0 * (n - get_or bits i 0) + get_or second i 0 * get_or bits i 0
+  pub most : (i : ℕ) → i < 8 → get_or sums i 0 ≤ 255 * n
+
+pub are_weighted : (count : SampleCount) (n : ℕ) (bits first second : List ℕ) → n ≡ count_of count → length bits ≡ 8 → length first ≡ 8 → length second ≡ 8
+    → ((i : ℕ) → i < 8 → get_or bits i 0 ≤ count_of count) → ((i : ℕ) → i < 8 → get_or first i 0 ≤ 255) → ((i : ℕ) → i < 8 → get_or second i 0 ≤ 255)
+    → AreWeighted n bits first second (weighted n bits first second)
+are_weighted count n bits first second is long_bits long_first long_second few small_first small_second =
+    let lanes = zipped plus _ _ _ _ (zipped times first _ _ _ (itself first long_first) (zipped minus (replicate 8 n) bits _ _ (splat n) (itself bits long_bits)))
+    (zipped times second bits _ _ (itself second long_second) (itself bits long_bits)) in
+    let lane = λ (i : ℕ) (l : i < 8). weighted_lane (get_or first i 0) (get_or second i 0) (get_or bits i 0) n (small_first i l) (small_second i l) (omega (arith, few i l, is)) (omega (arith, is, few_samples count)) in
+    record {
+      long = lanes.long;
+      each = λ i l. lanes.each i l ∙ (lane i l).0;
+      most = λ i l. omega (arith, lanes.each i l ∙ (lane i l).0, (lane i l).1);
+    }
 
 -- the channels of a pixel, of which so many samples are y and the others x
 pub record IsMeanBy (count : SampleCount) (bits : ℕ) (x y mean : CanvasSample) : Type 0 where

@@ -1,27 +1,20 @@
 -- The bytes of pixels.
-use Rattle.std.proofs.Common.{◌≡◌, ◌∙◌, refl, [], ◌∷◌, ap, sym, subst, ℕ, ◌+◌, ◌*◌, ◌/◌, ◌%◌, ◌<◌, ◌≤◌, List, take, slice_index, get_or-take, arith}
-use Rattle.std.specs.Prelude.{slice_index_or}
-use Rattle.std.proofs.Math.Nat.{mul_comm}
-use Rattle.std.proofs.lemmas.Nat.{mul-add-lt}
+use Rattle.std.proofs.Common.{◌≡◌, ◌∙◌, refl, ap, sym, subst, ℕ, ◌/◌, ◌<◌, List, arith}
 use Rattle.grid.specs.Samples.{count_of}
-use Rattle.grid.specs.declared.pixels.TileSide.TheVariants.{T8}
 use Rattle.grid.specs.declared.sample_count.SampleCount.{SampleCount}
 use Rattle.grid.specs.declared.sample_count.SampleCount.TheVariants.{One, Two, Four, Eight, Sixteen}
 use Rattle.shade.specs.declared.sample.CanvasSample.{CanvasSample}
 use Rattle.lanes.specs.declared.block_samples.BlockSamples.{BlockSamples}
-use Rattle.lanes.specs.Block.{stored_at}
 use Rattle.shade.specs.Resolve.{IsResolved}
 use Rattle.shade.proofs.Resolved.{resolved_same}
 use Rattle.raster.specs.declared.tile.Tile.{Tile}
-use Rattle.raster.specs.Samples.{place_of, stored as in_tile}
-use Rattle.raster.specs.Colours.{IsColourAt, IsAlphaAt, AreColoursAt, AreAlphasAt}
+use Rattle.raster.specs.Samples.{stored as in_tile}
+use Rattle.raster.specs.Colours.{IsColourAt, IsAlphaAt}
 use Rattle.canvas.specs.declared.canvas.Canvas.{Canvas}
 use Rattle.canvas.specs.declared.format.Format.{Format}
 use Rattle.canvas.specs.Layout.{stored, stored_in_tile}
-use Rattle.canvas.specs.declared.format.Format.TheVariants.{Rgb8, Rgba8, Bgra8, Rgba8Straight, Bgra8Straight}
-use Rattle.canvas.specs.Pixels.{pixel_bytes, pixel_of, HasAlpha}
-use Rattle.canvas.specs.Colours.{IsColourOfPixel, IsColourIn, IsAlphaOfPixel, IsAlphaIn, IsPixelOf, IsPixelIn, IsTilePixel, IsSampleColour, IsMeanOf, AreBytesOfColour, AreArranged}
-use Rattle.canvas.proofs.Places.{none}
+use Rattle.canvas.specs.Pixels.{pixel_bytes}
+use Rattle.canvas.specs.Colours.{IsColourOfPixel, IsColourIn, IsAlphaOfPixel, IsAlphaIn, IsPixelOf, IsPixelIn, IsTilePixel, IsSampleColour, IsMeanOf, AreBytesOfColour}
 
 -- ---- colours of the same samples
 -- from raster's tile to the planes of a tile
@@ -82,10 +75,6 @@ pub pixel_same : (c : Canvas) (first : ℕ) (samples : List BlockSamples) (forma
     → IsPixelOf c first samples format i j f → IsPixelOf c first samples format i j h
 pixel_same c first samples format i j f h same p = record { r = p.r; g = p.g; b = p.b; a = p.a; colour = p.colour; alpha = p.alpha; order = bytes_same format p.r p.g p.b p.a f h same p.order }
 
-pub tile_pixel_same : (tile : Tile) (samples : List BlockSamples) (format : Format) (row column : ℕ) (f h : ℕ → ℕ) → ((k : ℕ) → k < pixel_bytes format → h k ≡ f k)
-    → IsTilePixel tile samples format row column f → IsTilePixel tile samples format row column h
-tile_pixel_same tile samples format row column f h same p = record { r = p.r; g = p.g; b = p.b; a = p.a; colour = p.colour; alpha = p.alpha; order = bytes_same format p.r p.g p.b p.a f h same p.order }
-
 -- from raster's tile to the planes of a tile
 pub pixel_in_tile : (count : SampleCount) (i j : ℕ) (tile : Tile) (xs part : List BlockSamples) (row column : ℕ) (format : Format) (bytes : ℕ → ℕ) → tile.count ≡ count
     → ((s : ℕ) → s < count_of count → in_tile tile part row column s ≡ stored_in_tile count xs i j s)
@@ -107,32 +96,7 @@ pub pixel_in_rows : (c : Canvas) (i j first : ℕ) (xs part : List BlockSamples)
 pixel_in_rows c i j first xs part format bytes same p =
     record { r = p.r; g = p.g; b = p.b; a = p.a; colour = colour_in_rows c i j p.r p.g p.b first xs part same p.colour; alpha = λ has. alpha_in_rows c i j p.a first xs part same (p.alpha has); order = p.order }
 
--- the first of eight pixels
-pub first_pixels : (tile : Tile) (samples : List BlockSamples) (format : Format) (row column count : ℕ) (rgb alphas run : List ℕ) → count ≤ 8 → AreColoursAt tile samples row column rgb → (HasAlpha format → AreAlphasAt tile samples row column alphas)
-    → AreArranged format rgb alphas run
-    → (i : ℕ) → i < count → IsTilePixel tile samples format row (8 * column + i) (λ k. slice_index (take (count * pixel_bytes format) run) (i * pixel_bytes format + k))
-first_pixels tile samples format row column count rgb alphas run few colours resolved arranged i l = record {
-  r = slice_index rgb (3 * i);
-  g = slice_index rgb (3 * i + 1);
-  b = slice_index rgb (3 * i + 2);
-  a = slice_index alphas i;
-  colour = colours i (omega arith);
-  alpha = λ has. resolved has i (omega arith);
-  order = λ k small.
-      let inside : i * pixel_bytes format + k < count * pixel_bytes format =
-      (let below = mul-add-lt i (pixel_bytes format) k count l small in
-      omega (arith, below, mul_comm (pixel_bytes format) count)) in
-      get_or-take (count * pixel_bytes format) run (i * pixel_bytes format + k) 0 inside ∙ arranged i (omega arith) k small;
-}
-
 -- ---- the colour of one sample
-same_in_format : (format : Format) (r g b a a' n : ℕ) → (HasAlpha format → a ≡ a') → slice_index (pixel_of format r g b a) n ≡ slice_index (pixel_of format r g b a') n
-same_in_format Rgb8 r g b a a' n same = refl
-same_in_format Rgba8 r g b a a' n same = ap (λ a. slice_index (r ∷ g ∷ b ∷ a ∷ []) n) (same tt)
-same_in_format Bgra8 r g b a a' n same = ap (λ a. slice_index (b ∷ g ∷ r ∷ a ∷ []) n) (same tt)
-same_in_format Rgba8Straight r g b a a' n same = ap (λ a. slice_index (pixel_of Rgba8Straight r g b a) n) (same tt)
-same_in_format Bgra8Straight r g b a a' n same = ap (λ a. slice_index (pixel_of Bgra8Straight r g b a) n) (same tt)
-
 pub sample_colour_same : (format : Format) (sample : CanvasSample) (f g : ℕ → ℕ) → ((k : ℕ) → k < pixel_bytes format → g k ≡ f k) → IsSampleColour format sample f → IsSampleColour format sample g
 sample_colour_same format sample f g same h = λ k small. same k small ∙ h k small
 
@@ -182,24 +146,3 @@ pixel_of_means count xs format i j f mean bytes same h order =
       alpha = λ has. resolved_same count _ (λ s. (stored_in_tile count xs i j s).alpha) mean.alpha (λ s l. ap (λ (x : CanvasSample). x.alpha) (same s l)) h.alpha;
       order = order;
     }
-
--- of a block with one sample a pixel it is the pixel's
-pub colour_of_one : (tile : Tile) (part : List BlockSamples) (format : Format) (row column : ℕ) → tile.side ≡ T8 → tile.count ≡ One → row < 8 → column < 8 → (bytes : ℕ → ℕ)
-    → IsTilePixel tile part format row column bytes → IsSampleColour format (stored_at (slice_index_or part 0 none) (8 * row + column)) bytes
-colour_of_one tile part format row column side count high wide bytes p =
-    let sample : CanvasSample = stored_at (slice_index_or part 0 none) (8 * row + column) in
-    let row_0 : row / 8 ≡ 0 = omega (arith, high) in
-    let column_0 : column / 8 ≡ 0 = omega (arith, wide) in
-    let at : place_of tile (row / 8) (column / 8) 0 ≡ 0 = rw (side, count, row_0, column_0) (omega arith) in
-    let k : 8 * (row % 8) + column % 8 ≡ 8 * row + column = omega (arith, high, wide) in
-    let same : in_tile tile part row column 0 ≡ sample = ap (λ q. stored_at (slice_index_or part q none) (8 * (row % 8) + column % 8)) at ∙ ap (λ m. stored_at (slice_index_or part 0 none) m) k in
-    let red : IsResolved One (λ s. (in_tile tile part row column s).r) p.r = subst (λ n. IsResolved n (λ s. (in_tile tile part row column s).r) p.r) count p.colour.red in
-    let green : IsResolved One (λ s. (in_tile tile part row column s).g) p.g = subst (λ n. IsResolved n (λ s. (in_tile tile part row column s).g) p.g) count p.colour.green in
-    let blue : IsResolved One (λ s. (in_tile tile part row column s).b) p.b = subst (λ n. IsResolved n (λ s. (in_tile tile part row column s).b) p.b) count p.colour.blue in
-    let alpha : HasAlpha format → IsResolved One (λ s. (in_tile tile part row column s).alpha) p.a =
-    λ has. subst (λ n. IsResolved n (λ s. (in_tile tile part row column s).alpha) p.a) count (p.alpha has) in
-    λ n small. p.order n small
-    ∙ ap (λ r. slice_index (pixel_of format r p.g p.b p.a) n) (red ∙ ap (λ (x : CanvasSample). x.r) same)
-    ∙ ap (λ g. slice_index (pixel_of format sample.r g p.b p.a) n) (green ∙ ap (λ (x : CanvasSample). x.g) same)
-    ∙ ap (λ b. slice_index (pixel_of format sample.r sample.g b p.a) n) (blue ∙ ap (λ (x : CanvasSample). x.b) same)
-    ∙ same_in_format format sample.r sample.g sample.b p.a sample.alpha n (λ has. alpha has ∙ ap (λ (x : CanvasSample). x.alpha) same)

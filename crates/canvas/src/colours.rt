@@ -8,7 +8,7 @@ ghost use Rattle.lanes.specs.Block.{stored_at};
 ghost use Rattle.canvas.specs.Layout.{columns_of, rows_of, planes_of_tile, planes_of_row, stored};
 ghost use Rattle.canvas.specs.Pixels.{pixel_bytes, IsLargeEnough};
 ghost use Rattle.canvas.specs.Entries.{FitEntries, IsEntriesMisfit};
-ghost use Rattle.canvas.specs.Colours.{IsPixelOf, IsPixelIn, IsTilePixel, IsSampleColour, AreResolved, AreColours};
+ghost use Rattle.canvas.specs.Colours.{IsPixelOf, IsPixelIn, IsTilePixel, IsSampleColour, AreBytesOfColour, AreResolved, AreColours};
 
 use crate::canvas::Canvas;
 use crate::format::{Format, arranged};
@@ -17,9 +17,9 @@ use crate::pair_means::means_of_pair;
 use crate::place::{block_in_tile, place_by};
 use crate::view::View;
 use crate::way::{Way, way_of};
-use grid::{SampleCount, TileSide};
+use grid::SampleCount;
 use lanes::BlockSamples;
-use raster::{Tile, alphas_by, colours_by};
+use raster::{Tile, alphas_by, colours_by, eight_from, first_of_many, interleaved};
 use std::simd::prelude::*;
 
 /// Copies the first bytes of `run` to all of `bytes`. If this is inlined, the lengths of eight whole pixels are known,
@@ -40,6 +40,28 @@ fn copy_first(run: u8x32, bytes: &mut [u8])
         high.copy_to_slice(&mut bytes[16..]);
     } else {
         bytes.copy_from_slice(&run.to_array()[..length]);
+    }
+}
+
+/// Writes the first `count` of eight pixels in the format, by the first 24 bytes of `rgb`, which are their red, green and
+/// blue, and by the first eight of `alphas`.
+#[inline(always)]
+fn write_run(format: Format, rgb: u8x32, alphas: u8x32, count: u32, bytes: &mut [u8])
+    requires rgb { length rgb ≡ 32 }
+    requires alphas { length alphas ≡ 32 }
+    requires count { count ≤ 8 }
+    requires bytes { length bytes.old ≡ count * pixel_bytes format }
+    ensures { (i : ℕ) → i < count →
+        AreBytesOfColour format (slice_index rgb (3 * i)) (slice_index rgb (3 * i + 1)) (slice_index rgb (3 * i + 2))
+        (slice_index alphas i) (λ k. slice_index bytes.new (i * pixel_bytes format + k)) }
+{
+    // Each format by itself: a run that is chosen from several is put together byte by byte.
+    match format {
+        Format::Rgb8 => copy_first(arranged(Format::Rgb8, rgb, alphas), bytes),
+        Format::Rgba8 => copy_first(arranged(Format::Rgba8, rgb, alphas), bytes),
+        Format::Bgra8 => copy_first(arranged(Format::Bgra8, rgb, alphas), bytes),
+        Format::Rgba8Straight => copy_first(arranged(Format::Rgba8Straight, rgb, alphas), bytes),
+        Format::Bgra8Straight => copy_first(arranged(Format::Bgra8Straight, rgb, alphas), bytes),
     }
 }
 
@@ -66,24 +88,11 @@ fn resolve_run<const MORE: bool>(
         (λ k. slice_index bytes.new (i * pixel_bytes format + k)) }
 {
     let rgb = colours_by::<MORE>(tile, samples, row, column);
-    // Each format by itself: a run that is chosen from several is put together byte by byte.
     match format {
-        Format::Rgb8 => copy_first(arranged(Format::Rgb8, rgb, rgb), bytes),
-        Format::Rgba8 => {
+        Format::Rgb8 => write_run(Format::Rgb8, rgb, rgb, count, bytes),
+        _ => {
             let alphas = alphas_by::<MORE>(tile, samples, row, column);
-            copy_first(arranged(Format::Rgba8, rgb, alphas), bytes);
-        }
-        Format::Bgra8 => {
-            let alphas = alphas_by::<MORE>(tile, samples, row, column);
-            copy_first(arranged(Format::Bgra8, rgb, alphas), bytes);
-        }
-        Format::Rgba8Straight => {
-            let alphas = alphas_by::<MORE>(tile, samples, row, column);
-            copy_first(arranged(Format::Rgba8Straight, rgb, alphas), bytes);
-        }
-        Format::Bgra8Straight => {
-            let alphas = alphas_by::<MORE>(tile, samples, row, column);
-            copy_first(arranged(Format::Bgra8Straight, rgb, alphas), bytes);
+            write_run(format, rgb, alphas, count, bytes);
         }
     }
 }
@@ -91,23 +100,20 @@ fn resolve_run<const MORE: bool>(
 /// Writes the first `count` of the eight pixels in a row of a block, whose colours are those of the samples of one
 /// plane.
 #[inline(always)]
-fn resolve_plane(planes: &[BlockSamples], row: u32, format: Format, count: u32, bytes: &mut [u8])
-    requires planes { length planes.now ≡ 1 }
+fn resolve_plane(plane: &BlockSamples, row: u32, format: Format, count: u32, bytes: &mut [u8])
     requires row { row < 8 }
     requires count { count ≤ 8 }
     requires bytes { length bytes.old ≡ count * pixel_bytes format }
     ensures { (i : ℕ) → i < count →
-        IsSampleColour format (stored_at (slice_index_or planes.now 0 (record { z = []; r = []; g = []; b = []; alpha = [] })) (8 * row + i))
+        IsSampleColour format (stored_at plane.now (8 * row + i))
         (λ k. slice_index bytes.new (i * pixel_bytes format + k)) }
 {
-    // A block of one sample a pixel resolves to that sample.
-    let one = Tile {
-        bx: 0,
-        by: 0,
-        side: TileSide::T8,
-        count: SampleCount::One,
-    };
-    resolve_run::<false>(&one, planes, row, 0, format, count, bytes);
+    let at = 8 * row as usize;
+    let red = eight_from(&plane.r, at);
+    let green = eight_from(&plane.g, at);
+    let blue = eight_from(&plane.b, at);
+    let alphas = first_of_many(eight_from(&plane.alpha, at));
+    write_run(format, interleaved(red, green, blue), alphas, count, bytes);
 }
 
 impl Canvas {
@@ -151,12 +157,12 @@ impl Canvas {
                 );
             }
             Way::Pair => {
-                let means = means_of_pair(self.count, samples, number, j % 8);
-                resolve_plane(&[means], j % 8, format, count, bytes);
+                let (rgb, alphas) = means_of_pair(self.count, samples, number, j % 8);
+                write_run(format, rgb, alphas, count, bytes);
             }
             _ => {
                 let place = place_by(self.count, way, number, 0);
-                resolve_plane(&samples[place..place + 1], j % 8, format, count, bytes);
+                resolve_plane(&samples[place], j % 8, format, count, bytes);
             }
         }
     }
@@ -236,10 +242,10 @@ impl Canvas {
             (λ k. slice_index bytes.new (i * pixel_bytes format + k)) }
     {
         match self.merged(samples, 8 * block, j, s) {
-            Some(plane) => resolve_plane(&[plane], j % 8, format, count, bytes),
+            Some(plane) => resolve_plane(&plane, j % 8, format, count, bytes),
             None => {
                 let place = self.place(samples, 8 * block, j, s);
-                resolve_plane(&samples[place..place + 1], j % 8, format, count, bytes);
+                resolve_plane(&samples[place], j % 8, format, count, bytes);
             }
         }
     }

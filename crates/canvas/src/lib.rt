@@ -14,6 +14,7 @@ mod indexed;
 mod laws;
 mod loaded;
 mod many;
+mod mask_lanes;
 mod misfit;
 mod pair;
 mod pair_blocks;

@@ -5,6 +5,7 @@ ghost use Rattle.grid.specs.Samples.{count_of};
 ghost use Rattle.lanes.specs.Block.{stored_at};
 ghost use Rattle.canvas.specs.Layout.{mask_of as the_mask, chosen};
 
+use crate::mask_lanes::{choose_bytes, choose_depths, lanes_of_mask};
 use grid::SampleCount;
 use lanes::BlockSamples;
 
@@ -48,13 +49,14 @@ pub(crate) fn set_mask(masks: &mut BlockSamples, s: u32, mask: u64)
 pub(crate) fn merged(first: &BlockSamples, second: &BlockSamples, mask: u64) -> BlockSamples
     ensures { (p : ℕ) → p < 64 → stored_at result p ≡ chosen mask p (stored_at second.now p) (stored_at first.now p) }
 {
-    let mut plane = *first;
-    for p in 0..64 {
-        if (mask >> p) % 2 == 1 {
-            plane.set(p, second.sample(p));
-        }
+    let lanes = lanes_of_mask(mask);
+    BlockSamples {
+        z: choose_depths(lanes, &second.z, &first.z),
+        r: choose_bytes(lanes, &second.r, &first.r),
+        g: choose_bytes(lanes, &second.g, &first.g),
+        b: choose_bytes(lanes, &second.b, &first.b),
+        alpha: choose_bytes(lanes, &second.alpha, &first.alpha),
     }
-    plane
 }
 
 /// Whether all samples of all pixels are in these masks.

@@ -5,11 +5,11 @@ ghost use Rattle.std.specs.Int.{bit_at};
 ghost use Rattle.grid.specs.Samples.{count_of};
 ghost use Rattle.lanes.specs.Block.{stored_at};
 ghost use Rattle.canvas.specs.declared.way.Way.TheVariants.{Cleared as AsCleared, Single as AsSingle, Pair as AsPair};
-ghost use Rattle.canvas.specs.Layout.{planes_of_tile, block_in_tile, pixel_in_block, place_by as place_of_way, stored_in_tile, way_in_tile, mask_of as the_mask, chosen, HasMasks, AreReplaced, IsSameTile, KeepsOtherSamples, KeepsOtherWays};
+ghost use Rattle.canvas.specs.Layout.{planes_of_tile, block_in_tile, pixel_in_block, place_by as place_of_way, stored_in_tile, way_in_tile, mask_of as the_mask, chosen, in_list, HasMasks, AreReplaced, IsSameTile, KeepsOtherSamples, KeepsOtherWays};
 
 use crate::pair::{are_all, are_full, are_in, has_pairs, set_mask, without};
 use crate::place::place_by;
-use crate::tile_planes::make_single;
+use crate::tile_planes::{make_single, single_block};
 use crate::way::{Way, set_way, way_of};
 use grid::SampleCount;
 use lanes::BlockSamples;
@@ -23,16 +23,9 @@ fn set_masks(count: SampleCount, masks: &[u64; 16], plane: &mut BlockSamples)
     }
 }
 
-/// Makes block `k` of a tile a pair: a sample is that of `second` where the mask of its index has a bit, else that of
-/// `first`.
-fn make_pair(
-    count: SampleCount,
-    k: usize,
-    masks: &[u64; 16],
-    first: &BlockSamples,
-    second: &BlockSamples,
-    samples: &mut [BlockSamples],
-)
+/// Makes block `k` of a tile a pair of the planes that lie in the places of a pair's two: a sample is that of the second
+/// where the mask of its index has a bit, else that of the first.
+fn make_pair(count: SampleCount, k: usize, masks: &[u64; 16], samples: &mut [BlockSamples])
     requires some { 4 ≤ count_of count }
     requires block { k < 64 }
     requires samples { length samples.old ≡ planes_of_tile count }
@@ -40,12 +33,11 @@ fn make_pair(
     ensures ways { KeepsOtherWays k samples.old samples.new }
     ensures masks { HasMasks count k masks.now samples.new }
     ensures made { (i j s : ℕ) → s < count_of count → block_in_tile i j ≡ k → stored_in_tile count samples.new i j s ≡
-        chosen (slice_index masks.now s) (pixel_in_block i j) (stored_at second.now (pixel_in_block i j))
-        (stored_at first.now (pixel_in_block i j)) }
+        chosen (slice_index masks.now s) (pixel_in_block i j)
+        (stored_at (in_list samples.old (place_of_way count AsPair k (count_of count / 2))) (pixel_in_block i j))
+        (stored_at (in_list samples.old (place_of_way count AsPair k 0)) (pixel_in_block i j)) }
     ensures others { KeepsOtherSamples count k samples.old samples.new }
 {
-    samples[place_by(count, Way::Pair, k, 0)] = *first;
-    samples[place_by(count, Way::Pair, k, count.count() / 2)] = *second;
     set_masks(
         count,
         masks,
@@ -62,6 +54,51 @@ pub fn second_place(count: SampleCount, k: usize) -> usize
     ensures within { result < planes_of_tile count }
 {
     place_by(count, Way::Pair, k, count.count() / 2)
+}
+
+/// Makes block `k` of a tile a pair of the plane in the place of its first and of this one.
+fn put_second(
+    count: SampleCount,
+    k: usize,
+    masks: &[u64; 16],
+    second: &BlockSamples,
+    samples: &mut [BlockSamples],
+)
+    requires some { 4 ≤ count_of count }
+    requires block { k < 64 }
+    requires samples { length samples.old ≡ planes_of_tile count }
+    ensures pair { way_in_tile samples.new k ≡ AsPair }
+    ensures ways { KeepsOtherWays k samples.old samples.new }
+    ensures masks { HasMasks count k masks.now samples.new }
+    ensures made { (i j s : ℕ) → s < count_of count → block_in_tile i j ≡ k → stored_in_tile count samples.new i j s ≡
+        chosen (slice_index masks.now s) (pixel_in_block i j) (stored_at second.now (pixel_in_block i j))
+        (stored_at (in_list samples.old (place_of_way count AsPair k 0)) (pixel_in_block i j)) }
+    ensures others { KeepsOtherSamples count k samples.old samples.new }
+{
+    samples[second_place(count, k)] = *second;
+    make_pair(count, k, masks, samples);
+}
+
+/// Makes block `k` of a tile, which is a pair, one of this plane and of its second.
+fn put_first(
+    count: SampleCount,
+    k: usize,
+    masks: &[u64; 16],
+    first: &BlockSamples,
+    samples: &mut [BlockSamples],
+)
+    requires some { 4 ≤ count_of count }
+    requires block { k < 64 }
+    requires samples { length samples.old ≡ planes_of_tile count }
+    ensures ways { KeepsOtherWays k samples.old samples.new }
+    ensures made { (i j s : ℕ) → s < count_of count → block_in_tile i j ≡ k → stored_in_tile count samples.new i j s ≡
+        chosen (slice_index masks.now s) (pixel_in_block i j)
+        (stored_at (in_list samples.old (place_of_way count AsPair k (count_of count / 2))) (pixel_in_block i j))
+        (stored_at first.now (pixel_in_block i j)) }
+    ensures others { KeepsOtherSamples count k samples.old samples.new }
+{
+    samples[place_by(count, Way::Pair, k, 0)] = *first;
+    make_pair(count, k, masks, samples);
 }
 
 /// Makes block `k` of a tile a pair with these masks, whose two planes are alike, if one plane stands for all samples of
@@ -81,13 +118,43 @@ pub fn pair_block(
     ensures ways { KeepsOtherWays k samples.old samples.new }
     ensures kept { IsSameTile count samples.old samples.new }
 {
-    let way = way_of(&samples[0], k);
-    if !has_pairs(count) || !way.is_alike() {
+    if !has_pairs(count) || !single_block(count, k, samples) {
         return false;
     }
-    let plane = samples[place_by(count, way, k, 0)];
-    make_pair(count, k, masks, &plane, &plane, samples);
+    let plane = samples[place_by(count, Way::Single, k, 0)];
+    put_second(count, k, masks, &plane, samples);
     true
+}
+
+/// Stores the samples of a plane in place of those of block `k` that are in the masks, as `replace_samples` does, if
+/// the block is a pair.
+fn replace_in_pair(
+    count: SampleCount,
+    k: usize,
+    masks: &[u64; 16],
+    plane: &BlockSamples,
+    samples: &mut [BlockSamples],
+) -> bool
+    requires some { 4 ≤ count_of count }
+    requires block { k < 64 }
+    requires pair { way_in_tile samples.old k ≡ AsPair }
+    requires samples { length samples.old ≡ planes_of_tile count }
+    ensures replaced { IsTrue result → AreReplaced count k masks.now plane.now samples.old samples.new }
+    ensures unchanged { result ≡ false → samples.new ≡ samples.old }
+    ensures ways { KeepsOtherWays k samples.old samples.new }
+    ensures others { KeepsOtherSamples count k samples.old samples.new }
+{
+    let stored = &samples[place_by(count, Way::Pair, k, count.count() - 1)];
+    if are_in(count, stored, masks) {
+        put_second(count, k, masks, plane, samples);
+        return true;
+    }
+    if are_all(count, stored, masks) {
+        let rest = without(count, stored, masks);
+        put_first(count, k, &rest, plane, samples);
+        return true;
+    }
+    false
 }
 
 /// Stores the samples of a plane in place of those of block `k` of a tile that are in the masks: sample `s` of a pixel
@@ -111,26 +178,15 @@ pub fn replace_samples(
         make_single(count, k, plane, samples);
         return true;
     }
-    let way = way_of(&samples[0], k);
-    if !has_pairs(count) || way == Way::Own {
+    if !has_pairs(count) {
         return false;
     }
-    if way != Way::Pair {
-        let first = samples[place_by(count, way, k, 0)];
-        make_pair(count, k, masks, &first, plane, samples);
-        return true;
+    if way_of(&samples[0], k) == Way::Pair {
+        return replace_in_pair(count, k, masks, plane, samples);
     }
-    let stored = samples[place_by(count, Way::Pair, k, count.count() - 1)];
-    if are_in(count, &stored, masks) {
-        let first = samples[place_by(count, Way::Pair, k, 0)];
-        make_pair(count, k, masks, &first, plane, samples);
-        return true;
+    if !single_block(count, k, samples) {
+        return false;
     }
-    if are_all(count, &stored, masks) {
-        let rest = without(count, &stored, masks);
-        let second = samples[second_place(count, k)];
-        make_pair(count, k, &rest, plane, &second, samples);
-        return true;
-    }
-    false
+    put_second(count, k, masks, plane, samples);
+    true
 }

@@ -1,5 +1,5 @@
 //! The colours of pixels whose blocks are kept as pairs.
-ghost use Rattle.std.specs.Prelude.{◌≡◌, ℕ, ◌+◌, ◌-◌, ◌*◌, ◌/◌, ◌<◌, ◌≤◌, length, slice_index};
+ghost use Rattle.std.specs.Prelude.{◌≡◌, ℕ, ◌+◌, ◌-◌, ◌*◌, ◌/◌, ◌%◌, ◌^◌, ◌<◌, ◌≤◌, length, slice_index};
 ghost use Rattle.std.specs.Int.{bit_at};
 ghost use Rattle.grid.specs.Samples.{count_of};
 ghost use Rattle.shade.specs.Resolve.{total};
@@ -8,102 +8,132 @@ ghost use Rattle.canvas.specs.declared.way.Way.TheVariants.{Pair as AsPair};
 ghost use Rattle.canvas.specs.Layout.{planes_of_tile, mask_of as the_mask, sample_place, in_list};
 ghost use Rattle.canvas.specs.Colours.{IsMeanOf};
 
-use crate::pair::mask_of;
 use crate::place::place_by;
 use crate::way::Way;
 use grid::SampleCount;
-use lanes::BlockSamples;
-use shade::CanvasSample;
+use lanes::{BlockSamples, means_of_sums};
+use raster::{eight_from, first_of_many, interleaved};
+use std::simd::prelude::*;
 
-/// Adds the bits of a mask to eight sums, the first bit to the first.
+/// The powers of the bits of a row of pixels among the sixteen that a mask has for two rows: 0 and 1, 2 and 3, and so on.
 #[inline(always)]
-fn add_bits(sums: &mut [u16; 8], mask: u64)
-    requires { (i : ℕ) → i < 8 → slice_index sums.old i ≤ 16 }
-    ensures { (i : ℕ) → i < 8 → slice_index sums.new i ≡ slice_index sums.old i + bit_at mask i }
+fn powers_of_row(row: u32) -> u16x8
+    ensures whole { length result ≡ 8 }
+    ensures each { (i : ℕ) → i < 8 → slice_index result i ≡ 2 ^ (8 * (row % 2) + i) }
 {
-    for i in 0..8 {
-        sums[i] += ((mask >> i) % 2) as u16;
+    if row % 2 == 0 {
+        u16x8::from_array([1, 2, 4, 8, 16, 32, 64, 128])
+    } else {
+        u16x8::from_array([256, 512, 1024, 2048, 4096, 8192, 16384, 32768])
     }
+}
+
+/// The bits of a row of pixels as lanes, by the sixteen bits of two rows.
+#[inline(always)]
+fn bits_of_row(bits: u16, row: u32) -> u16x8
+    ensures whole { length result ≡ 8 }
+    ensures each { (i : ℕ) → i < 8 → slice_index result i ≡ bit_at bits (8 * (row % 2) + i) }
+{
+    (u16x8::splat(bits) & powers_of_row(row))
+        .simd_ne(u16x8::splat(0))
+        .select(u16x8::splat(1), u16x8::splat(0))
 }
 
 /// How many of the masks have the bit of each pixel in a row.
 #[inline(always)]
-fn count_bits(count: SampleCount, masks: &BlockSamples, row: u32) -> [u16; 8]
+fn count_bits(count: SampleCount, masks: &BlockSamples, row: u32) -> u16x8
     requires { row < 8 }
-    ensures { (i : ℕ) → i < 8 → slice_index result i ≡
+    ensures whole { length result ≡ 8 }
+    ensures each { (i : ℕ) → i < 8 → slice_index result i ≡
         total (count_of count) (λ s. bit_at (the_mask masks.now s) (8 * row + i)) }
 {
-    let mut sums = [0; 8];
-    for s in 0..count.count() {
-        add_bits(&mut sums, mask_of(masks, s) >> (8 * row));
+    let mut sums = u16x8::splat(0);
+    for s in 0..count.count() as usize {
+        sums = sums + bits_of_row(masks.z[4 * s + (row / 2) as usize], row);
     }
     sums
 }
 
-/// The mean of a channel, of which `bits` samples have `second` and the others `first`.
+/// Eight bytes from a place on as lanes of 16 bits.
 #[inline(always)]
-fn mean(count: SampleCount, bits: u32, first: u8, second: u8) -> u8
-    requires { bits ≤ count_of count }
-    ensures { result ≡ (first * (count_of count - bits) + second * bits + count_of count / 2) / count_of count }
+fn lanes_from(bytes: &[u8], at: usize) -> u16x8
+    requires { at + 8 ≤ length bytes.now }
+    ensures whole { length result ≡ 8 }
+    ensures each { (i : ℕ) → i < 8 → slice_index result i ≡ slice_index bytes.now (at + i) }
+    ensures bytes { (i : ℕ) → i < 8 → slice_index result i ≤ 255 }
 {
-    let many = count.count();
-    let sum = u32::from(first) * (many - bits) + u32::from(second) * bits;
-    ((sum + many / 2) >> count.logarithm()) as u8
+    eight_from(bytes, at).cast::<u16>()
 }
 
-/// The means of the channels of a pixel, of which `bits` samples are `second` and the others `first`.
+/// The means of a channel of eight pixels, of which `bits` samples have `second` and the others `first`.
 #[inline(always)]
-fn mean_sample(
-    count: SampleCount,
-    bits: u32,
-    first: CanvasSample,
-    second: CanvasSample,
-) -> CanvasSample
-    requires { bits ≤ count_of count }
-    ensures red { result.r ≡ (first.r * (count_of count - bits) + second.r * bits + count_of count / 2) / count_of count }
-    ensures green { result.g ≡ (first.g * (count_of count - bits) + second.g * bits + count_of count / 2) / count_of count }
-    ensures blue { result.b ≡ (first.b * (count_of count - bits) + second.b * bits + count_of count / 2) / count_of count }
-    ensures alpha { result.alpha ≡
-        (first.alpha * (count_of count - bits) + second.alpha * bits + count_of count / 2) / count_of count }
+fn means(count: SampleCount, bits: u16x8, first: u16x8, second: u16x8) -> u8x8
+    requires bits { length bits ≡ 8 }
+    requires first { length first ≡ 8 }
+    requires second { length second ≡ 8 }
+    requires few { (i : ℕ) → i < 8 → slice_index bits i ≤ count_of count }
+    requires first_bytes { (i : ℕ) → i < 8 → slice_index first i ≤ 255 }
+    requires second_bytes { (i : ℕ) → i < 8 → slice_index second i ≤ 255 }
+    ensures whole { length result ≡ 8 }
+    ensures each { (i : ℕ) → i < 8 → slice_index result i ≡
+        (slice_index first i * (count_of count - slice_index bits i) + slice_index second i * slice_index bits i +
+        count_of count / 2) / count_of count }
 {
-    CanvasSample {
-        r: mean(count, bits, first.r, second.r),
-        g: mean(count, bits, first.g, second.g),
-        b: mean(count, bits, first.b, second.b),
-        alpha: mean(count, bits, first.alpha, second.alpha),
-        z: first.z,
-    }
+    let rest = u16x8::splat(count.count() as u16) - bits;
+    means_of_sums(
+        first * rest + second * bits,
+        (count.count() / 2) as u16,
+        count.logarithm() as u16,
+    )
 }
 
-/// A plane that has in a row, of block `k` of a tile, the means of each pixel's samples, if the block is a pair.
+/// Red, green and blue of the pixels in a row of block `k` of a tile, pixel by pixel, and their alphas, if the block is a
+/// pair: the means of their samples. Of the first result 24 bytes are used, and of the second eight.
 #[inline(always)]
 pub(crate) fn means_of_pair(
     count: SampleCount,
     planes: &[BlockSamples],
     k: usize,
     row: u32,
-) -> BlockSamples
+) -> (u8x32, u8x32)
     requires block { k < 64 }
     requires row { row < 8 }
     requires planes { length planes.now ≡ planes_of_tile count }
-    ensures { (i : ℕ) → i < 8 → IsMeanOf count
+    ensures rgb { length result.0 ≡ 32 }
+    ensures alphas { length result.1 ≡ 32 }
+    ensures means { (i : ℕ) → i < 8 → IsMeanOf count
         (λ s. stored_at (in_list planes.now (sample_place count AsPair (in_list planes.now) k (8 * row + i) s)) (8 * row + i))
-        (stored_at result (8 * row + i)) }
+        (record { r = slice_index result.0 (3 * i); g = slice_index result.0 (3 * i + 1); b = slice_index result.0 (3 * i + 2); alpha = slice_index result.1 i; z = 0 }) }
 {
     let many = count.count();
     let first = &planes[place_by(count, Way::Pair, k, 0)];
     let second = &planes[place_by(count, Way::Pair, k, many / 2)];
     let masks = &planes[place_by(count, Way::Pair, k, many - 1)];
-    let sums = count_bits(count, masks, row);
+    let bits = count_bits(count, masks, row);
     let at = 8 * row as usize;
-    let mut means = *first;
-    for i in 0..8 {
-        let p = at + i;
-        let bits = u32::from(sums[i]);
-        means.set(
-            p,
-            mean_sample(count, bits, first.sample(p), second.sample(p)),
-        );
-    }
-    means
+    let red = means(
+        count,
+        bits,
+        lanes_from(&first.r, at),
+        lanes_from(&second.r, at),
+    );
+    let green = means(
+        count,
+        bits,
+        lanes_from(&first.g, at),
+        lanes_from(&second.g, at),
+    );
+    let blue = means(
+        count,
+        bits,
+        lanes_from(&first.b, at),
+        lanes_from(&second.b, at),
+    );
+    let alpha = means(
+        count,
+        bits,
+        lanes_from(&first.alpha, at),
+        lanes_from(&second.alpha, at),
+    );
+    (interleaved(red, green, blue), first_of_many(alpha))
 }

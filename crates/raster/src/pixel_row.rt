@@ -14,7 +14,7 @@ use std::simd::prelude::*;
 /// Red, green and blue of eight pixels, pixel by pixel, and behind them eight bytes that nobody reads: a vector has as
 /// many lanes as a power of two.
 #[inline(always)]
-fn interleaved(r: u8x8, g: u8x8, b: u8x8) -> u8x32
+pub fn interleaved(r: u8x8, g: u8x8, b: u8x8) -> u8x32
     requires red { length r ≡ 8 }
     requires green { length g ≡ 8 }
     requires blue { length b ≡ 8 }
@@ -144,7 +144,7 @@ pub fn colours(tile: &Tile, samples: &[BlockSamples], row: u32, column: u32) -> 
 
 /// The alpha of eight pixels in a row of a block as the first of 32 bytes.
 #[inline(always)]
-fn first_of_many(alphas: u8x8) -> u8x32
+pub fn first_of_many(alphas: u8x8) -> u8x32
     requires { length alphas ≡ 8 }
     ensures whole { length result ≡ 32 }
     ensures first { (i : ℕ) → i < 8 → slice_index result i ≡ slice_index alphas i }
@@ -188,7 +188,7 @@ fn alphas_of_more(tile: &Tile, samples: &[BlockSamples], row: u32, column: u32) 
 
 /// Eight bytes from a place on.
 #[inline(always)]
-fn eight_from(bytes: &[u8], from: usize) -> u8x8
+pub fn eight_from(bytes: &[u8], from: usize) -> u8x8
     requires { from + 8 ≤ length bytes.now }
     ensures whole { length result ≡ 8 }
     ensures each { (i : ℕ) → i < 8 → slice_index result i ≡ slice_index bytes.now (from + i) }

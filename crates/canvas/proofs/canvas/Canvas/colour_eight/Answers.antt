@@ -1,4 +1,4 @@
-use Rattle.std.proofs.Common.{◌≡◌, ◌≢◌, ◌∙◌, ap, subst, ◌+◌, ◌-◌, ◌*◌, ◌%◌, ◌<◌, ℕ, take, drop, slice_index, arith}
+use Rattle.std.proofs.Common.{◌≡◌, ◌≢◌, ◌∙◌, ap, subst, ◌+◌, ◌*◌, ◌%◌, ◌<◌, ℕ, slice_index, arith}
 use Rattle.std.proofs.lemmas.Bool.{false≢true}
 use Rattle.std.specs.Prelude.{slice_index_or}
 use Rattle.lanes.specs.Block.{stored_at}
@@ -6,7 +6,6 @@ use Rattle.canvas.specs.declared.way.Way.TheVariants.{Pair}
 use Rattle.canvas.specs.Layout.{way_in_row}
 use Rattle.canvas.specs.Pixels.{pixel_bytes}
 use Rattle.canvas.specs.Colours.{IsSampleColour}
-use Rattle.canvas.proofs.Cut.{part_of}
 use Rattle.canvas.proofs.Places.{none}
 use Rattle.canvas.proofs.canvas.Canvas.colour_eight.Goals as goal
 
@@ -27,13 +26,10 @@ returns-in-None c i l =
     let j : ℕ = c.args.j in
     let xs = c.args.samples.now in
     let place : ℕ = c.place-place.result in
-    let n : ℕ = place + 1 - place in
     let first : 8 * block % 8 ≡ 0 = omega arith in
     let inside : 8 * block % 8 + i < 8 = omega (arith, l, c.requires.count, first) in
     let pixel : 8 * (j % 8) + i ≡ 8 * (j % 8) + (8 * block % 8 + i) = omega (arith, first) in
-    let plane : slice_index_or (take n (drop place xs)) 0 none ≡ slice_index_or xs place none =
-    part_of xs place n none 0 (omega arith) ∙ ap (λ p. slice_index_or xs p none) (let same : place + 0 ≡ place = omega arith in same) in
     let other : way_in_row c.args.self.now xs (8 * block) j ≢ Pair = λ e. false≢true (c.in-None.ensures.some.1 e) in
     subst (λ sample. IsSampleColour c.args.format sample (λ k. slice_index c.resolve_plane-in-None.new.bytes (i * pixel_bytes c.args.format + k)))
-    (ap (λ p. stored_at p (8 * (j % 8) + i)) plane ∙ ap (λ k. stored_at (slice_index_or xs place none) k) pixel ∙ c.place-place.ensures.row other i inside)
+    (ap (λ k. stored_at (slice_index_or xs place none) k) pixel ∙ c.place-place.ensures.row other i inside)
     (c.resolve_plane-in-None.ensures i l)

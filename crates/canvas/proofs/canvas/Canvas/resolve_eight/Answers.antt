@@ -8,7 +8,6 @@ use Rattle.canvas.specs.declared.way.Way.TheVariants.{Pair, Own}
 use Rattle.canvas.specs.Layout.{block_in_tile, pixel_in_block, place_by, sample_place, in_list, way_in_tile}
 use Rattle.canvas.specs.Pixels.{pixel_bytes}
 use Rattle.canvas.specs.Colours.{IsTilePixel}
-use Rattle.canvas.proofs.Cut.{part_of}
 use Rattle.canvas.proofs.Places.{none}
 use Rattle.canvas.proofs.Blocks.{in_own}
 use Rattle.canvas.proofs.TilePlanes.{by_way, by_any_way, one_place}
@@ -51,14 +50,14 @@ returns-in-Pair g c =
     let number : block_in_tile x j ≡ k = same_block c.args.block i j (omega (arith, l, c.requires.count)) ∙ sym c.block_in_tile-number.ensures.value in
     let was : way_in_tile xs (block_in_tile x j) ≡ Pair = ap (way_in_tile xs) number ∙ sym c.way_of-way.ensures ∙ c.in-Pair.is in
     let pixel : pixel_in_block x j ≡ 8 * (j % 8) + i = omega (arith, l, c.requires.count) in
-    pixel_of_means count xs c.args.format x j (λ s. stored_at (in_list xs (sample_place count Pair (in_list xs) k (8 * (j % 8) + i) s)) (8 * (j % 8) + i)) (stored_at c.means_of_pair-means.result (8 * (j % 8) + i)) _
+    pixel_of_means count xs c.args.format x j (λ s. stored_at (in_list xs (sample_place count Pair (in_list xs) k (8 * (j % 8) + i) s)) (8 * (j % 8) + i)) _ _
     (λ s h.
     sym
     (by_any_way count xs Pair x j s was
     ∙ ap (λ m. stored_at (in_list xs (sample_place count Pair (in_list xs) m (pixel_in_block x j) s)) (pixel_in_block x j)) number
     ∙ ap (λ p. stored_at (in_list xs (sample_place count Pair (in_list xs) k p s)) p) pixel))
-    (c.means_of_pair-means.ensures i (omega (arith, l, c.requires.count)))
-    (c.resolve_plane.ensures i l)
+    (c.means_of_pair.ensures.means i (omega (arith, l, c.requires.count)))
+    (c.write_run.ensures i l)
 
 pub returns-in_default : goal.returns-in_default
 returns-in_default g c =
@@ -69,16 +68,13 @@ returns-in_default g c =
     let x : ℕ = 8 * c.args.block + i in
     let way = c.way_of-way.result in
     let place : ℕ = c.place_by-place.result in
-    let n : ℕ = place + 1 - place in
-    let plane : slice_index_or (take n (drop place xs)) 0 none ≡ slice_index_or xs place none = part_of xs place n none 0 (omega arith) ∙ ap (λ p. slice_index_or xs p none) (let same : place + 0 ≡ place = omega arith in same) in
     let number : block_in_tile x j ≡ c.block_in_tile-number.result = same_block c.args.block i j (omega (arith, l, c.requires.count)) ∙ sym c.block_in_tile-number.ensures.value in
     let was : way_in_tile xs (block_in_tile x j) ≡ way = ap (way_in_tile xs) number ∙ sym c.way_of-way.ensures in
     let at : (s : ℕ) → place_by count way (block_in_tile x j) s ≡ place = λ s. one_place count way (block_in_tile x j) s c.in_default.not-Pair c.in_default.not-Own ∙ ap (λ m. place_by count way m 0) number ∙ sym c.place_by-place.ensures.value in
     let pixel : pixel_in_block x j ≡ 8 * (j % 8) + i = omega (arith, l, c.requires.count) in
-    pixel_alike count xs c.args.format x j (stored_at (slice_index_or (take n (drop place xs)) 0 none) (8 * (j % 8) + i)) _
+    pixel_alike count xs c.args.format x j (stored_at (slice_index_or xs place none) (8 * (j % 8) + i)) _
     (λ s h.
     by_way count xs way x j s c.in_default.not-Pair was
     ∙ ap (λ p. stored_at (slice_index_or xs p none) (pixel_in_block x j)) (at s)
-    ∙ ap (λ p. stored_at p (pixel_in_block x j)) (sym plane)
-    ∙ ap (λ k. stored_at (slice_index_or (take n (drop place xs)) 0 none) k) pixel)
-    (c.resolve_plane-in_default.ensures i l)
+    ∙ ap (λ k. stored_at (slice_index_or xs place none) k) pixel)
+    (c.resolve_plane.ensures i l)
