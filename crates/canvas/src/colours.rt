@@ -157,8 +157,8 @@ impl Canvas {
                 );
             }
             Way::Pair => {
-                let (rgb, alphas) = means_of_pair(self.count, samples, number, j % 8);
-                write_run(format, rgb, alphas, count, bytes);
+                let (colours, alphas) = means_of_pair(self.count, samples, number, j % 8);
+                write_run(format, colours, alphas, count, bytes);
             }
             _ => {
                 let place = place_by(self.count, way, number, 0);

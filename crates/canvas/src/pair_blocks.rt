@@ -56,7 +56,8 @@ pub fn second_place(count: SampleCount, k: usize) -> usize
     place_by(count, Way::Pair, k, count.count() / 2)
 }
 
-/// Makes block `k` of a tile a pair of the plane in the place of its first and of this one.
+/// Makes block `k` of a tile a pair of the plane that lies in the place of a pair's first and of this one: a sample is that
+/// of this one where the mask of its index has a bit.
 fn put_second(
     count: SampleCount,
     k: usize,
@@ -79,7 +80,8 @@ fn put_second(
     make_pair(count, k, masks, samples);
 }
 
-/// Makes block `k` of a tile, which is a pair, one of this plane and of its second.
+/// Makes block `k` of a tile a pair of this plane and of the one that lies in the place of a pair's second: a sample is
+/// that of the other one where the mask of its index has a bit.
 fn put_first(
     count: SampleCount,
     k: usize,
