@@ -31,16 +31,13 @@ module _ (count : SampleCount) (k n a : ℕ) (plane : BlockSamples) (old : List 
   first_kept : in_list put 0 ≡ in_list old 0
   first_kept = get_or-set_other old a 0 plane none (λ e. behind_first count Pair k n (sym (e ∙ is_a)))
 
-  pub put_ways : (m : ℕ) → way_in_tile put m ≡ way_in_tile old m
+  put_ways : (m : ℕ) → way_in_tile put m ≡ way_in_tile old m
   put_ways m = ap (λ state. way_of state m) first_kept
 
-  pub put_others : KeepsOtherSamples count k old put
-  put_others i j s l apart = others_same count k old put (λ m small other. put_ways m) (λ p away other. get_or-set_other old a p plane none (λ e. other n own (e ∙ is_a))) i j s l apart
-
-  pub put_is : k < 64 → length old ≡ planes_of_tile count → in_list put (place_by count Pair k n) ≡ plane
+  put_is : k < 64 → length old ≡ planes_of_tile count → in_list put (place_by count Pair k n) ≡ plane
   put_is small long = ap (λ p. in_list put p) (sym is_a) ∙ get_or-set_same old a plane none (omega (arith, is_a, within_way count Pair k n small own, long))
 
-  pub put_other : (q : ℕ) → q ≢ n → in_list put (place_by count Pair k q) ≡ in_list old (place_by count Pair k q)
+  put_other : (q : ℕ) → q ≢ n → in_list put (place_by count Pair k q) ≡ in_list old (place_by count Pair k q)
   put_other q apart = get_or-set_other old a (place_by count Pair k q) plane none (λ e. apart (omega (arith, e, is_a)))
 
 -- ---- a block that is made a pair of its two planes: its masks are stored, and then its way

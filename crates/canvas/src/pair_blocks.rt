@@ -56,53 +56,6 @@ pub fn second_place(count: SampleCount, k: usize) -> usize
     place_by(count, Way::Pair, k, count.count() / 2)
 }
 
-/// Makes block `k` of a tile a pair of the plane that lies in the place of a pair's first and of this one: a sample is that
-/// of this one where the mask of its index has a bit.
-fn put_second(
-    count: SampleCount,
-    k: usize,
-    masks: &[u64; 16],
-    second: &BlockSamples,
-    samples: &mut [BlockSamples],
-)
-    requires some { 4 ≤ count_of count }
-    requires block { k < 64 }
-    requires samples { length samples.old ≡ planes_of_tile count }
-    ensures pair { way_in_tile samples.new k ≡ AsPair }
-    ensures ways { KeepsOtherWays k samples.old samples.new }
-    ensures masks { HasMasks count k masks.now samples.new }
-    ensures made { (i j s : ℕ) → s < count_of count → block_in_tile i j ≡ k → stored_in_tile count samples.new i j s ≡
-        chosen (slice_index masks.now s) (pixel_in_block i j) (stored_at second.now (pixel_in_block i j))
-        (stored_at (in_list samples.old (place_of_way count AsPair k 0)) (pixel_in_block i j)) }
-    ensures others { KeepsOtherSamples count k samples.old samples.new }
-{
-    samples[second_place(count, k)] = *second;
-    make_pair(count, k, masks, samples);
-}
-
-/// Makes block `k` of a tile a pair of this plane and of the one that lies in the place of a pair's second: a sample is
-/// that of the other one where the mask of its index has a bit.
-fn put_first(
-    count: SampleCount,
-    k: usize,
-    masks: &[u64; 16],
-    first: &BlockSamples,
-    samples: &mut [BlockSamples],
-)
-    requires some { 4 ≤ count_of count }
-    requires block { k < 64 }
-    requires samples { length samples.old ≡ planes_of_tile count }
-    ensures ways { KeepsOtherWays k samples.old samples.new }
-    ensures made { (i j s : ℕ) → s < count_of count → block_in_tile i j ≡ k → stored_in_tile count samples.new i j s ≡
-        chosen (slice_index masks.now s) (pixel_in_block i j)
-        (stored_at (in_list samples.old (place_of_way count AsPair k (count_of count / 2))) (pixel_in_block i j))
-        (stored_at first.now (pixel_in_block i j)) }
-    ensures others { KeepsOtherSamples count k samples.old samples.new }
-{
-    samples[place_by(count, Way::Pair, k, 0)] = *first;
-    make_pair(count, k, masks, samples);
-}
-
 /// Makes block `k` of a tile a pair with these masks, whose two planes are alike, if one plane stands for all samples of
 /// its pixels. Then the samples in the masks are changed in the second plane alone. Returns whether it is such a pair;
 /// else all planes are unchanged.
@@ -123,8 +76,8 @@ pub fn pair_block(
     if !has_pairs(count) || !single_block(count, k, samples) {
         return false;
     }
-    let plane = samples[place_by(count, Way::Single, k, 0)];
-    put_second(count, k, masks, &plane, samples);
+    samples[second_place(count, k)] = samples[place_by(count, Way::Single, k, 0)];
+    make_pair(count, k, masks, samples);
     true
 }
 
@@ -148,12 +101,14 @@ fn replace_in_pair(
 {
     let stored = &samples[place_by(count, Way::Pair, k, count.count() - 1)];
     if are_in(count, stored, masks) {
-        put_second(count, k, masks, plane, samples);
+        samples[second_place(count, k)] = *plane;
+        make_pair(count, k, masks, samples);
         return true;
     }
     if are_all(count, stored, masks) {
         let rest = without(count, stored, masks);
-        put_first(count, k, &rest, plane, samples);
+        samples[place_by(count, Way::Pair, k, 0)] = *plane;
+        make_pair(count, k, &rest, samples);
         return true;
     }
     false
@@ -189,6 +144,7 @@ pub fn replace_samples(
     if !single_block(count, k, samples) {
         return false;
     }
-    put_second(count, k, masks, plane, samples);
+    samples[second_place(count, k)] = *plane;
+    make_pair(count, k, masks, samples);
     true
 }
