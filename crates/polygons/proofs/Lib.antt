@@ -5,6 +5,7 @@ pub mod Counts
 pub mod Cancel
 pub mod Outline
 pub mod Totals
+pub mod Windings
 pub mod Plotted
 pub mod ByteRows
 pub mod Filling

@@ -1,5 +1,5 @@
 -- From the sums of a strip's cells to masks.
-use Rattle.std.proofs.Common.{◌≡◌, ◌≢◌, ◌↔◌, sym, subst, ap, ◌∙◌, arith, ℕ, zero, suc, ◌+◌, ◌*◌, ◌/◌, ◌%◌, ◌^◌, ◌<◌, ◌≤◌, List, [], ◌∷◌, slice_index, ℤ, pos, ◌+ℤ◌, ◌-ℤ◌, ◌*ℤ◌, ◌<ℤ◌, neg_ℤ}
+use Rattle.std.proofs.Common.{◌≡◌, ◌≢◌, ◌↔◌, sym, subst, ap, ◌∙◌, arith, ℕ, zero, suc, ◌+◌, ◌*◌, ◌/◌, ◌%◌, ◌^◌, ◌<◌, ◌≤◌, List, [], ◌∷◌, length, slice_index, ℤ, pos, ◌+ℤ◌, ◌-ℤ◌, ◌*ℤ◌, ◌<ℤ◌, neg_ℤ}
 use Rattle.std.proofs.lemmas.Int.{ints}
 use Rattle.std.proofs.lemmas.Nat.Bits.{bit_at-zero}
 use Rattle.std.specs.Int.{bit_at}
@@ -14,7 +14,7 @@ use Rattle.polygons.specs.Polygon.{polygon_edges, corner_count}
 use Rattle.polygons.specs.Rows.{parity, sum_to}
 use Rattle.polygons.specs.ManyRows.{row_of}
 use Rattle.polygons.specs.Strip.{start_of, strip_sample}
-use Rattle.polygons.specs.Cells.{word_of, bit_in_block, flag_of, cell, running_sum, IsAlike, AreMarked, AreZeros}
+use Rattle.polygons.specs.Cells.{word_of, bit_in_block, flag_of, in_use, cell, running_sum, IsAlike, AreMarked, AreZeros}
 use Rattle.polygons.proofs.Counters.{sum-none}
 use Rattle.polygons.proofs.Counts.{downs-ring, ups-ring, downs-ring-le, ups-ring-le, corners-ring}
 
@@ -86,13 +86,20 @@ nonzero_inside rings p b x few is h =
     (λ l. z.0 (is.0 l), λ l. is.1 (z.1 l))
 
 -- ---- strips of zeros
-pub running_sum-zeros : (rule : Rule) (flags counters : List (List ℕ)) (s row k : ℕ) → AreZeros flags → AreZeros counters → running_sum rule flags counters s row k ≡ pos 0
-running_sum-zeros EvenOdd flags counters s row k h l = sum-none (cell EvenOdd flags counters s row) (k + 1) (λ j m. ap pos (ap (λ w. bit_at w (bit_in_block row j)) (h (j / 8) (word_of s row)) ∙ bit_at-zero (bit_in_block row j)))
-running_sum-zeros NonZero flags counters s row k h l = sum-none (cell NonZero flags counters s row) (k + 1) (λ j m. ap pos (l (j / 8) (64 * word_of s row + bit_in_block row j)))
+no_flag : (flags : List (List ℕ)) (s row k : ℕ) → AreZeros flags → flag_of flags s row k ≡ 0
+no_flag flags s row k h = ap (λ w. bit_at w (bit_in_block row k)) (h (k / 8) (word_of s row)) ∙ bit_at-zero (bit_in_block row k)
 
-pub marked_zeros : (rule : Rule) (flags counters : List (List ℕ)) → AreZeros counters → AreMarked rule flags counters
+no_number : (d u m c : ℕ) → d ≡ 0 → u ≡ 0 → m ≡ 0 → (pos d -ℤ pos u) +ℤ pos (in_use m c) ≡ pos 0
+no_number d u m c e f g = let z : in_use m c ≡ 0 = ap (λ n. in_use n c) g in omega (arith, ints)
+
+pub running_sum-zeros : (rule : Rule) (flags counters : List (List ℕ)) (s row k : ℕ) → AreZeros flags → running_sum rule flags counters s row k ≡ pos 0
+running_sum-zeros EvenOdd flags counters s row k h = sum-none (cell EvenOdd flags counters s row) (k + 1) (λ j m. ap pos (no_flag flags s row j h))
+running_sum-zeros NonZero flags counters s row k h =
+    sum-none (cell NonZero flags counters s row) (k + 1) (λ j m. no_number _ _ _ _ (no_flag flags s row j h) (no_flag flags s row (j + 8 * length counters) h) (no_flag flags s row (j + 16 * length counters) h))
+
+pub marked_zeros : (rule : Rule) (flags counters : List (List ℕ)) → AreZeros flags → AreMarked rule flags counters
 marked_zeros EvenOdd flags counters h = tt
-marked_zeros NonZero flags counters h = λ s row k x y z. h (k / 8) (64 * word_of s row + bit_in_block row k)
+marked_zeros NonZero flags counters h = λ s row k x y z d u. no_flag flags s row (k + 16 * length counters) h
 
 pub from_zeros : (m : ℕ) (x y z : ℤ) → y ≡ pos 0 → IsAlike m x (y +ℤ z) → IsAlike m x z
 from_zeros m x y z e h = record { times = h.times; is = let i = h.is in omega (arith, ints) }

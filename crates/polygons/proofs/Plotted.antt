@@ -18,7 +18,7 @@ use Rattle.polygons.specs.Crossing.{winding}
 use Rattle.polygons.specs.Polygon.{path_edges, path_end, ring_edges, polygon_edges}
 use Rattle.polygons.specs.Rows.{direction, from_column}
 use Rattle.polygons.specs.Strip.{strip_sample}
-use Rattle.polygons.specs.Cells.{modulus, signed, added_by, running_sum, IsAlike, IsAdded, HasCounters, AreMarked, IsPlotted}
+use Rattle.polygons.specs.Cells.{modulus, signed, added_by, running_sum, IsAlike, IsAdded, HasCounters, AreMarked, columns_in, IsPlotted}
 use Rattle.polygons.specs.Plotting.{ArePlotted}
 use Rattle.polygons.proofs.Exact.{exact64}
 use Rattle.polygons.proofs.Counters.{direction-from, direction-none}
@@ -27,11 +27,15 @@ use Rattle.polygons.proofs.Counts.{downs-ring, ups-ring}
 
 pub has_counters : (rule : Rule) (f c f' c' : List (List ℕ)) → length f' ≡ length f → length c' ≡ length c → HasCounters rule f c → HasCounters rule f' c'
 has_counters EvenOdd f c f' c' e g h = tt
-has_counters NonZero f c f' c' e g h = g ∙ h ∙ sym e
+has_counters NonZero f c f' c' e g h = e ∙ h ∙ ap (λ n. 3 * n) (sym g)
 
-pub counted : (rule : Rule) (f c : List (List ℕ)) → (rule ≡ NonZero → length c ≡ length f) → HasCounters rule f c
+pub counted : (rule : Rule) (f c : List (List ℕ)) → (rule ≡ NonZero → length f ≡ 3 * length c) → HasCounters rule f c
 counted EvenOdd f c h = tt
 counted NonZero f c h = h refl
+
+pub same_columns : (rule : Rule) (f c f' c' : List (List ℕ)) → length f' ≡ length f → length c' ≡ length c → columns_in rule f' c' ≡ columns_in rule f c
+same_columns EvenOdd f c f' c' e g = e
+same_columns NonZero f c f' c' e g = g
 
 -- the height of a row
 pub row_height : (y s : ℤ) (n : ℕ) → y ≡ s → n < 65 → IsInBand s → IsInBand (s +ℤ pos (256 * n))
@@ -91,9 +95,8 @@ added_none rule s first number f c = record {
   flags_len = refl;
   counters_len = refl;
   here = λ row k h l m. absurd (omega arith);
-  others = λ r row k h l n. refl;
+  others = λ r row k h l m n. refl;
   marked = λ h. h;
-  kept = λ e. refl;
 }
 
 pub added_as : (rule : Rule) (s first end : ℕ) (number other : ℕ → ℕ → ℤ) (f c f' c' : List (List ℕ)) → ((row k : ℕ) → first ≤ row → row < end → number row k ≡ other row k)
@@ -104,7 +107,6 @@ added_as rule s first end number other f c f' c' e h = record {
   here = λ row k l m n. alike_from (modulus rule) _ _ _ _ _ _ refl refl (e row k l m) (h.here row k l m n);
   others = h.others;
   marked = h.marked;
-  kept = h.kept;
 }
 
 pub added_both : (rule : Rule) (s first mid end : ℕ) (number : ℕ → ℕ → ℤ) (a b c d e i : List (List ℕ)) → s < 4 → first ≤ mid → mid ≤ end → end ≤ 64
@@ -113,13 +115,15 @@ added_both rule s first mid end number a b c d e i s_small rise more most h k = 
   flags_len = k.flags_len ∙ h.flags_len;
   counters_len = k.counters_len ∙ h.counters_len;
   here = λ row j l m n. elim (cases_lt row mid) [
-    | inl p ↦ alike_moved (modulus rule) _ _ _ (sym (k.others s row j s_small (omega arith) (λ _ x _. omega arith))) (h.here row j l p n)
-    | inr p ↦ alike_from (modulus rule) _ _ _ _ _ _ refl (h.others s row j s_small (omega arith) (λ _ _ x. omega arith)) refl (k.here row j p m (let q = h.flags_len in omega arith))
+    | inl p ↦ alike_moved (modulus rule) _ _ _ (sym (k.others s row j s_small (omega arith) (inside j n) (λ _ x _. omega arith))) (h.here row j l p n)
+    | inr p ↦ alike_from (modulus rule) _ _ _ _ _ _ refl (h.others s row j s_small (omega arith) n (λ _ _ x. omega arith)) refl (k.here row j p m (inside j n))
   ];
-  others = λ r row j l m n. k.others r row j l m (λ x y z. n x (omega arith) z) ∙ h.others r row j l m (λ x y z. n x y (omega arith));
+  others = λ r row j l m b n. k.others r row j l m (inside j b) (λ x y z. n x (omega arith) z) ∙ h.others r row j l m b (λ x y z. n x y (omega arith));
   marked = λ x. k.marked (h.marked x);
-  kept = λ x. k.kept x ∙ h.kept x;
 }
+  where
+    inside : (j : ℕ) → j < 8 * columns_in rule a b → j < 8 * columns_in rule c d
+    inside j l = let q = same_columns rule a b c d h.flags_len h.counters_len in omega arith
 
 -- rows in which nothing is added
 pub added_all : (rule : Rule) (s first end : ℕ) (number : ℕ → ℕ → ℤ) (f c f' c' : List (List ℕ)) → s < 4 → ((row k : ℕ) → row < first → number row k ≡ pos 0)
@@ -128,15 +132,14 @@ added_all rule s first end number f c f' c' s_small above under h = record {
   flags_len = h.flags_len;
   counters_len = h.counters_len;
   here = λ row k _ l m. elim (cases_lt row first) [
-    | inl p ↦ alike_none (modulus rule) _ _ _ (h.others s row k s_small l (λ _ x _. omega arith)) (above row k p)
+    | inl p ↦ alike_none (modulus rule) _ _ _ (h.others s row k s_small l m (λ _ x _. omega arith)) (above row k p)
     | inr p ↦ elim (cases_lt row end) [
       | inl q ↦ h.here row k p q m
-      | inr q ↦ alike_none (modulus rule) _ _ _ (h.others s row k s_small l (λ _ _ x. omega arith)) (under row k q l)
+      | inr q ↦ alike_none (modulus rule) _ _ _ (h.others s row k s_small l m (λ _ _ x. omega arith)) (under row k q l)
     ]
   ];
-  others = λ r row k l m n. h.others r row k l m (λ x _ _. n x (omega arith) m);
+  others = λ r row k l m b n. h.others r row k l m b (λ x _ _. n x (omega arith) m);
   marked = h.marked;
-  kept = h.kept;
 }
 
 -- ---- the samples of a strip, one index after another
@@ -144,9 +147,8 @@ added_all rule s first end number f c f' c' s_small above under h = record {
 pub record AreSamplesAdded (rule : Rule) (strip : Strip) (change : Position → ℤ) (n : ℕ) (f c f' c' : List (List ℕ)) : Type 0 where
   pub flags_len : length f' ≡ length f
   pub counters_len : length c' ≡ length c
-  pub done : (s row k : ℕ) → s < n → s < 4 → row < 64 → k < 8 * length f → IsAlike (modulus rule) (running_sum rule f' c' s row k) (running_sum rule f c s row k +ℤ change (strip_sample strip s row k))
-  pub rest : (s row k : ℕ) → n ≤ s → s < 4 → row < 64 → running_sum rule f' c' s row k ≡ running_sum rule f c s row k
-  pub kept : rule ≡ EvenOdd → c' ≡ c
+  pub done : (s row k : ℕ) → s < n → s < 4 → row < 64 → k < 8 * columns_in rule f c → IsAlike (modulus rule) (running_sum rule f' c' s row k) (running_sum rule f c s row k +ℤ change (strip_sample strip s row k))
+  pub rest : (s row k : ℕ) → n ≤ s → s < 4 → row < 64 → k < 8 * columns_in rule f c → running_sum rule f' c' s row k ≡ running_sum rule f c s row k
   pub marked : AreMarked rule f c → AreMarked rule f' c'
 
 pub no_samples : (rule : Rule) (strip : Strip) (change : Position → ℤ) (f c : List (List ℕ)) → AreSamplesAdded rule strip change 0 f c f c
@@ -154,8 +156,7 @@ no_samples rule strip change f c = record {
   flags_len = refl;
   counters_len = refl;
   done = λ s row k h. absurd (omega arith);
-  rest = λ s row k h l m. refl;
-  kept = λ e. refl;
+  rest = λ s row k h l m b. refl;
   marked = λ h. h;
 }
 
@@ -166,15 +167,17 @@ one_sample_more rule strip change n number f c f' c' f'' c'' n_small is v p = re
   counters_len = p.counters_len ∙ v.counters_len;
   done = λ s row k x y h i. elim (cases_eq s n) [
     | inl q ↦
-        let a = p.here row k (omega arith) h (let l = v.flags_len in omega arith) in
-        let at_n = alike_from (modulus rule) _ _ _ _ _ _ refl (v.rest n row k (omega arith) n_small h) (is row k) a in
+        let a = p.here row k (omega arith) h (inside k i) in
+        let at_n = alike_from (modulus rule) _ _ _ _ _ _ refl (v.rest n row k (omega arith) n_small h i) (is row k) a in
         subst (λ (j : ℕ). IsAlike (modulus rule) (running_sum rule f'' c'' j row k) (running_sum rule f c j row k +ℤ change (strip_sample strip j row k))) (sym q) at_n
-    | inr q ↦ alike_moved (modulus rule) _ _ _ (sym (p.others s row k y h (λ z _ _. q z))) (v.done s row k (before_of s n x q) y h i)
+    | inr q ↦ alike_moved (modulus rule) _ _ _ (sym (p.others s row k y h (inside k i) (λ z _ _. q z))) (v.done s row k (before_of s n x q) y h i)
   ];
-  rest = λ s row k x y h. p.others s row k y h (λ z _ _. omega arith) ∙ v.rest s row k (omega arith) y h;
-  kept = λ e. p.kept e ∙ v.kept e;
+  rest = λ s row k x y h i. p.others s row k y h (inside k i) (λ z _ _. omega arith) ∙ v.rest s row k (omega arith) y h i;
   marked = λ h. p.marked (v.marked h);
 }
+  where
+    inside : (k : ℕ) → k < 8 * columns_in rule f c → k < 8 * columns_in rule f' c'
+    inside k l = let q = same_columns rule f c f' c' v.flags_len v.counters_len in omega arith
 
 pub all_samples : (rule : Rule) (strip : Strip) (change : Position → ℤ) (n : ℕ) (f c f' c' : List (List ℕ)) → part_size strip.count ≤ n → AreSamplesAdded rule strip change n f c f' c' → IsPlotted rule strip change f c f' c'
 all_samples rule strip change n f c f' c' all v = record {
@@ -182,18 +185,16 @@ all_samples rule strip change n f c f' c' all v = record {
   counters_len = v.counters_len;
   totals = λ s row k x y z. v.done s row k (omega arith) (let few = part_small strip.count in omega arith) y z;
   marked = v.marked;
-  kept = v.kept;
 }
 
 -- ---- what is added to a strip
-pub plotted_on : (strip : Strip) (f g : Position → ℤ) (a b : Cells) → ((s row k : ℕ) → row < 64 → k < 8 * length a.flags.now → f (strip_sample strip s row k) ≡ g (strip_sample strip s row k)) → ArePlotted strip f a b → ArePlotted strip g a b
+pub plotted_on : (strip : Strip) (f g : Position → ℤ) (a b : Cells) → ((s row k : ℕ) → row < 64 → k < 8 * columns_in a.rule a.flags.now a.counters.now → f (strip_sample strip s row k) ≡ g (strip_sample strip s row k)) → ArePlotted strip f a b → ArePlotted strip g a b
 plotted_on strip f g a b e h = record {
   plotted = record {
     flags_len = h.plotted.flags_len;
     counters_len = h.plotted.counters_len;
     totals = λ s row k x y z. alike_from (modulus a.rule) _ _ _ _ _ _ refl refl (e s row k y z) (h.plotted.totals s row k x y z);
     marked = h.plotted.marked;
-    kept = h.plotted.kept;
   };
   same = h.same;
 }
@@ -202,19 +203,18 @@ pub plotted_as : (strip : Strip) (f g : Position → ℤ) (a b : Cells) → ((p 
 plotted_as strip f g a b e h = plotted_on strip f g a b (λ s row k x y. e (strip_sample strip s row k)) h
 
 -- an edge that is crossed at no sample of the strip
-pub plotted_nowhere : (strip : Strip) (f : Position → ℤ) (a : Cells) → ((s row k : ℕ) → s < part_size strip.count → row < 64 → k < 8 * length a.flags.now → f (strip_sample strip s row k) ≡ pos 0) → ArePlotted strip f a a
+pub plotted_nowhere : (strip : Strip) (f : Position → ℤ) (a : Cells) → ((s row k : ℕ) → s < part_size strip.count → row < 64 → k < 8 * columns_in a.rule a.flags.now a.counters.now → f (strip_sample strip s row k) ≡ pos 0) → ArePlotted strip f a a
 plotted_nowhere strip f a e = record {
   plotted = record {
     flags_len = refl;
     counters_len = refl;
     totals = λ s row k x y z. alike_none (modulus a.rule) _ _ _ refl (e s row k x y z);
     marked = λ h. h;
-    kept = λ e. refl;
   };
   same = (refl, (refl, refl));
 }
 
-pub plotted_apart : (strip : Strip) (f : Position → ℤ) (a : Cells) → ((s row k : ℕ) → row < 64 → k < 8 * length a.flags.now → f (strip_sample strip s row k) ≡ pos 0) → ArePlotted strip f a a
+pub plotted_apart : (strip : Strip) (f : Position → ℤ) (a : Cells) → ((s row k : ℕ) → row < 64 → k < 8 * columns_in a.rule a.flags.now a.counters.now → f (strip_sample strip s row k) ≡ pos 0) → ArePlotted strip f a a
 plotted_apart strip f a e = plotted_nowhere strip f a (λ s row k _ x y. e s row k x y)
 
 pub plotted_none : (strip : Strip) (f : Position → ℤ) (a : Cells) → ((p : Position) → f p ≡ pos 0) → ArePlotted strip f a a
@@ -234,12 +234,14 @@ plotted_both strip f g both a b c sum h k =
       plotted = record {
         flags_len = then.flags_len ∙ first.flags_len;
         counters_len = then.counters_len ∙ first.counters_len;
-        totals = λ s row j x y z. let p = strip_sample strip s row j in alike_both (modulus a.rule) _ _ _ _ _ (both p) (then.totals s row j x y (let l = first.flags_len in omega arith)) (first.totals s row j x y z) (sum p);
+        totals = λ s row j x y z. let p = strip_sample strip s row j in alike_both (modulus a.rule) _ _ _ _ _ (both p) (then.totals s row j x y (inside j z)) (first.totals s row j x y z) (sum p);
         marked = λ l. then.marked (first.marked l);
-        kept = λ l. then.kept l ∙ first.kept l;
       };
       same = (k.same.0 ∙ h.same.0, (k.same.1.0 ∙ h.same.1.0, k.same.1.1 ∙ h.same.1.1));
     }
+  where
+    inside : (j : ℕ) → j < 8 * columns_in a.rule a.flags.now a.counters.now → j < 8 * columns_in a.rule b.flags.now b.counters.now
+    inside j l = let q = same_columns a.rule a.flags.now a.counters.now b.flags.now b.counters.now h.plotted.flags_len h.plotted.counters_len in omega arith
 
 -- ---- the edges of paths and rings
 pub winding-cons : (e : Edge) (es : List Edge) (p : Position) → winding (e ∷ es) p ≡ direction e p +ℤ winding es p

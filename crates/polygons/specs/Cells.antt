@@ -1,5 +1,7 @@
--- Flags and counters of the samples of a strip, which stand where edges are first crossed.
-use Rattle.std.specs.Prelude.{◌≡◌, ℕ, ◌+◌, ◌*◌, ◌/◌, ◌%◌, ◌^◌, ◌<◌, ◌≤◌, ℤ, pos, ◌+ℤ◌, ◌*ℤ◌, neg_ℤ, Bool, true, false, List, length, slice_index}
+-- Flags and counters of the samples of a strip, which stand where edges are first crossed. By the even-odd rule a flag says whether an odd
+-- number of edges is first crossed there. By the nonzero rule the first columns of flags are those of a first edge that runs downwards, as
+-- many further ones those of a first edge that runs upwards, and as many again those of counters in use, which count all other edges.
+use Rattle.std.specs.Prelude.{◌≡◌, ℕ, zero, suc, ◌+◌, ◌*◌, ◌/◌, ◌%◌, ◌^◌, ◌<◌, ◌≤◌, ℤ, pos, ◌+ℤ◌, ◌-ℤ◌, ◌*ℤ◌, neg_ℤ, Bool, true, false, List, length, slice_index}
 use Rattle.std.specs.Int.{bit_at}
 use Rattle.grid.specs.Position.{Position}
 use Rattle.grid.specs.Samples.{part_size}
@@ -29,16 +31,32 @@ flag_of flags s row k = bit_at (slice_index (row_of flags (k / 8)) (word_of s ro
 abbrev pub counter_at : List (List ℕ) → ℕ → ℕ → ℕ → ℕ
 counter_at counters s row k = slice_index (row_of counters (k / 8)) (64 * word_of s row + bit_in_block row k)
 
--- What stands there for the rule: a flag, or a counter.
+-- The flags of that sample by the nonzero rule: of an edge that runs downwards, of one that runs upwards, and of its counter.
+abbrev pub down_flag : List (List ℕ) → List (List ℕ) → ℕ → ℕ → ℕ → ℕ
+down_flag flags counters s row k = flag_of flags s row k
+
+abbrev pub up_flag : List (List ℕ) → List (List ℕ) → ℕ → ℕ → ℕ → ℕ
+up_flag flags counters s row k = flag_of flags s row (k + 8 * length counters)
+
+abbrev pub more_flag : List (List ℕ) → List (List ℕ) → ℕ → ℕ → ℕ → ℕ
+more_flag flags counters s row k = flag_of flags s row (k + 16 * length counters)
+
+-- The number in a counter, if its flag is set, else 0.
+abbrev pub in_use : ℕ → ℕ → ℕ
+in_use zero counter = 0
+in_use (suc flag) counter = counter
+
+-- What stands at a sample for the rule: a flag; or the first flag less the second, and the number in the counter.
 abbrev pub cell : Rule → List (List ℕ) → List (List ℕ) → ℕ → ℕ → ℕ → ℤ
 cell EvenOdd flags counters s row k = pos (flag_of flags s row k)
-cell NonZero flags counters s row k = pos (counter_at counters s row k)
+cell NonZero flags counters s row k =
+    (pos (down_flag flags counters s row k) -ℤ pos (up_flag flags counters s row k)) +ℤ pos (in_use (more_flag flags counters s row k) (counter_at counters s row k))
 
--- The sum of the flags or counters of a row up to column k.
+-- The sum of what stands in a row up to column k.
 abbrev pub running_sum : Rule → List (List ℕ) → List (List ℕ) → ℕ → ℕ → ℕ → ℤ
 running_sum rule flags counters s row k = sum_to (cell rule flags counters s row) (k + 1)
 
--- Flags are sums modulo 2, and counters modulo 2 ^ 32.
+-- Flags are sums modulo 2, and windings modulo 2 ^ 32.
 abbrev pub modulus : Rule → ℕ
 modulus EvenOdd = 2
 modulus NonZero = 2 ^ 32
@@ -48,20 +66,32 @@ pub record IsAlike (m : ℕ) (x y : ℤ) : Type 0 where
   pub times : ℤ
   pub is : x ≡ y +ℤ pos m *ℤ times
 
--- The nonzero rule has as many columns of counters as of flags.
+-- How many columns of blocks there are.
+abbrev pub columns_in : Rule → List (List ℕ) → List (List ℕ) → ℕ
+columns_in EvenOdd flags counters = length flags
+columns_in NonZero flags counters = length counters
+
+-- The nonzero rule has three columns of flags and one of counters for each column of blocks.
 abbrev pub HasCounters : Rule → List (List ℕ) → List (List ℕ) → Type 0
 HasCounters EvenOdd flags counters = Unit {0}
-HasCounters NonZero flags counters = length counters ≡ length flags
+HasCounters NonZero flags counters = length flags ≡ 3 * length counters
 
--- A counter other than 0 has its flag set.
+-- A counter is in use only if one of the other flags is set.
 abbrev pub AreMarked : Rule → List (List ℕ) → List (List ℕ) → Type 0
 AreMarked EvenOdd flags counters = Unit {0}
-AreMarked NonZero flags counters = (s row k : ℕ) → s < 4 → row < 64 → flag_of flags s row k ≡ 0 → counter_at counters s row k ≡ 0
+AreMarked NonZero flags counters =
+    (s row k : ℕ) → s < 4 → row < 64 → k < 8 * length counters → down_flag flags counters s row k ≡ 0 → up_flag flags counters s row k ≡ 0 → more_flag flags counters s row k ≡ 0
 
 -- The number, or its opposite.
 abbrev pub signed : Bool → ℤ → ℤ
 signed true z = z
 signed false z = neg_ℤ z
+
+-- An edge was counted at sample s of the pixel in a row and a column, by the nonzero rule: what stands there changed by 1 or -1, modulo 2 ^ 32.
+pub record IsCounted (flags counters flags' counters' : List (List ℕ)) (s row k : ℕ) (down : Bool) : Type 0 where
+  pub here : IsAlike (2 ^ 32) (cell NonZero flags' counters' s row k) (cell NonZero flags counters s row k +ℤ signed down (pos 1))
+  pub others : (r j m : ℕ) → r < 4 → j < 64 → m < 8 * length counters → (r ≡ s → j ≡ row → m ≡ k → ⊥) → cell NonZero flags' counters' r j m ≡ cell NonZero flags counters r j m
+  pub marked : AreMarked NonZero flags counters → AreMarked NonZero flags' counters'
 
 -- What an edge that runs downwards adds at the samples of one index, by row and column. The first pixel has this sample at `start`.
 abbrev pub added_by : Edge → Bool → Position → ℕ → ℕ → ℤ
@@ -71,19 +101,21 @@ added_by edge forward start row k = signed forward (direction edge (along (down 
 pub record IsAdded (rule : Rule) (s first end : ℕ) (number : ℕ → ℕ → ℤ) (flags counters flags' counters' : List (List ℕ)) : Type 0 where
   pub flags_len : length flags' ≡ length flags
   pub counters_len : length counters' ≡ length counters
-  pub here : (row k : ℕ) → first ≤ row → row < end → k < 8 * length flags → IsAlike (modulus rule) (running_sum rule flags' counters' s row k) (running_sum rule flags counters s row k +ℤ number row k)
-  pub others : (r row k : ℕ) → r < 4 → row < 64 → (r ≡ s → first ≤ row → row < end → ⊥) → running_sum rule flags' counters' r row k ≡ running_sum rule flags counters r row k
+  pub here : (row k : ℕ) → first ≤ row → row < end → k < 8 * columns_in rule flags counters → IsAlike (modulus rule) (running_sum rule flags' counters' s row k) (running_sum rule flags counters s row k +ℤ number row k)
+  pub others : (r row k : ℕ) → r < 4 → row < 64 → k < 8 * columns_in rule flags counters → (r ≡ s → first ≤ row → row < end → ⊥) → running_sum rule flags' counters' r row k ≡ running_sum rule flags counters r row k
   pub marked : AreMarked rule flags counters → AreMarked rule flags' counters'
-  pub kept : rule ≡ EvenOdd → counters' ≡ counters
 
 -- To the sums at each sample of a strip a number was added, which depends on where the sample lies.
 pub record IsPlotted (rule : Rule) (strip : Strip) (change : Position → ℤ) (flags counters flags' counters' : List (List ℕ)) : Type 0 where
   pub flags_len : length flags' ≡ length flags
   pub counters_len : length counters' ≡ length counters
-  pub totals : (s row k : ℕ) → s < part_size strip.count → row < 64 → k < 8 * length flags → IsAlike (modulus rule) (running_sum rule flags' counters' s row k) (running_sum rule flags counters s row k +ℤ change (strip_sample strip s row k))
+  pub totals : (s row k : ℕ) → s < part_size strip.count → row < 64 → k < 8 * columns_in rule flags counters → IsAlike (modulus rule) (running_sum rule flags' counters' s row k) (running_sum rule flags counters s row k +ℤ change (strip_sample strip s row k))
   pub marked : AreMarked rule flags counters → AreMarked rule flags' counters'
-  pub kept : rule ≡ EvenOdd → counters' ≡ counters
 
--- All flags or counters are 0.
+-- All flags are 0.
 abbrev pub AreZeros : List (List ℕ) → Type 0
-AreZeros cells = (column i : ℕ) → slice_index (row_of cells column) i ≡ 0
+AreZeros flags = (column i : ℕ) → slice_index (row_of flags column) i ≡ 0
+
+-- All flags from a column on are 0.
+abbrev pub AreZerosFrom : ℕ → List (List ℕ) → Type 0
+AreZerosFrom first flags = (column i : ℕ) → first ≤ column → slice_index (row_of flags column) i ≡ 0

@@ -12,6 +12,7 @@ mod edge;
 mod extent;
 mod fill;
 mod laws;
+mod marks;
 mod partition;
 mod pixels;
 mod plot;

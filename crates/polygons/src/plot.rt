@@ -13,7 +13,7 @@ ghost use Rattle.polygons.specs.Rings.{position_of, rings_from, end_of, AreCorne
 ghost use Rattle.polygons.specs.Runs.{corner_at, corners_between, AreRunsOf, IsCrossedAsChord};
 ghost use Rattle.polygons.specs.Strip.{strip_sample};
 ghost use Rattle.polygons.specs.Rows.{direction};
-ghost use Rattle.polygons.specs.Cells.{signed, added_by, HasCounters, IsAdded};
+ghost use Rattle.polygons.specs.Cells.{signed, added_by, columns_in, HasCounters, IsAdded};
 ghost use Rattle.polygons.specs.Plotting.{ArePlotted};
 
 use crate::apart::is_apart;
@@ -162,7 +162,7 @@ fn plot_edge(cells: &mut Cells<'_>, edge: Edge, starts: &Starts)
         plot_short(cells, &downwards, forward, starts);
         return;
     }
-    if is_apart(&edge, &starts.strip, cells.flags.len()) {
+    if is_apart(&edge, &starts.strip, cells.columns()) {
         return;
     }
     if downwards.a.y() < downwards.b.y() {
@@ -196,7 +196,8 @@ fn plot_run(
     starts: &Starts,
 ) -> Point
     requires corners { AreCornersInBand corners.now }
-    requires chord { IsTrue is_beside → (s row k : ℕ) → row < 64 → k < 8 * length cells.old.flags.now →
+    requires chord { IsTrue is_beside → (s row k : ℕ) → row < 64 →
+        k < 8 * columns_in cells.old.rule cells.old.flags.now cells.old.counters.now →
         IsCrossedAsChord from (map position_of corners.now) (strip_sample starts.now.strip s row k) }
     ensures plotted { ArePlotted starts.now.strip (λ p. winding (path_edges from (map position_of corners.now)) p)
         cells.old cells.new }
@@ -242,7 +243,7 @@ fn plot_runs(
         let (run, held) = runs.run_of(next - 1 - start);
         let behind = end.min(start + held);
         let corners = &rings.corners[next..behind];
-        let is_beside = runs.is_beside(run, &starts.strip, cells.flags.len());
+        let is_beside = runs.is_beside(run, &starts.strip, cells.columns());
         from = plot_run(cells, from, corners, is_beside, starts);
         next = behind;
     }

@@ -1,4 +1,4 @@
-use Rattle.std.proofs.Common.{◌≡◌, refl, sym, ◌∙◌, arith, ℤ, pos, length}
+use Rattle.std.proofs.Common.{◌≡◌, refl, sym, ◌∙◌, arith, ℤ, pos}
 use Rattle.std.proofs.lemmas.Int.{ints}
 use Rattle.grid.specs.Position.{Position}
 use Rattle.polygons.specs.declared.edge.Edge.{Edge}
@@ -17,7 +17,7 @@ returns-then-is_short c = plotted_as c.args.starts.now.strip _ _ _ _ c.turned_do
 pub returns-then-is_apart : goal.returns-then-is_apart
 returns-then-is_apart c =
     plotted_apart c.args.starts.now.strip _ c.args.cells.now
-    (λ s row k y z. crossed_nowhere c.args.edge c.args.starts.now.strip (length c.args.cells.now.flags.now) s row k (c.if-is_apart.ensures refl) y z)
+    (λ s row k y z. crossed_nowhere c.args.edge c.args.starts.now.strip c.columns.result s row k (c.if-is_apart.ensures refl) y (rw c.columns.ensures z))
 
 pub returns-then-y : goal.returns-then-y
 returns-then-y c = plotted_as c.args.starts.now.strip _ _ _ _ c.turned_down-forward.ensures.same c.plot_long.ensures

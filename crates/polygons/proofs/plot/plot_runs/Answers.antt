@@ -25,9 +25,9 @@ plot_run-from-requires-clause-chord c t s row k h l =
     let v = c.loop-next.invariant in
     let run = c.run_of-run.ensures in
     let rise : c.loop-next.next ≤ c.min-behind.result = omega (arith, v.first, c.requires.first, c.loop-next-test.true, run.ends, c.min-behind.ensures) in
-    crossed_as_chord c.args.runs.now c.args.rings.now c.args.starts.now.strip (length c.loop-next.cells.flags.now) c.run_of-run.result.0 c.loop-next.next c.min-behind.result c.loop-next.from c.requires.runs (c.is_beside-is_beside.ensures.known t)
+    crossed_as_chord c.args.runs.now c.args.rings.now c.args.starts.now.strip c.columns.result c.run_of-run.result.0 c.loop-next.next c.min-behind.result c.loop-next.from c.requires.runs (c.is_beside-is_beside.ensures.known t)
     (omega (arith, v.first)) rise (omega (arith, v.first, c.requires.first, run.begins)) (omega (arith, run.held, c.min-behind.ensures)) (omega (arith, c.requires.last, c.min-behind.ensures)) (omega (arith, c.requires.within, c.min-behind.ensures))
-    v.from (c.is_beside-is_beside.ensures.beside t) s row k h l
+    v.from (c.is_beside-is_beside.ensures.beside t) s row k h (rw c.columns.ensures l)
 
 pub loop-next-preserved : goal.loop-next-preserved
 loop-next-preserved c =
