@@ -76,14 +76,28 @@ place_of strip origin count first row from i j s across down same begins left li
 
 -- ---- the masks of one part more
 -- a column of a part before this one
-in_part : (k part column many : ℕ) → k < part → column < many → k * many + column < part * many
-in_part k part column many h l = let room = part_within k part many h in omega (arith, room, l)
+in_part : (k part column each : ℕ) → k < part → column < each → k * each + column < part * each
+in_part k part column each h l = let room = part_within k part each h in omega (arith, room, l)
 
-module _ (polygon : Polygon) (origin : Origin) (c : Canvas) (row first many : ℕ) where
+-- a column of another part
+pub apart_part : (p part column k each : ℕ) → (p ≡ part → ⊥) → column < each → k < each → p * each + column ≡ part * each + k → ⊥
+apart_part p part column k each other h l e =
+    elim (cases_lt p part) [
+      | inl less ↦ let room = part_within p part each less in omega (arith, room, h, e)
+      | inr not_less ↦ elim (cases_lt part p) [
+        | inl more ↦ let room = part_within part p each more in omega (arith, room, l, e)
+        | inr same ↦ other (omega (arith, not_less, same))
+      ]
+    ]
+
+pub next_part : (part many : ℕ) → (part + 1) * many ≡ part * many + many
+next_part part many = grind arith
+
+module _ (polygon : Polygon) (origin : Origin) (c : Canvas) (row first many each : ℕ) where
   -- bit s of the masks says whether the polygon covers the sample
   abbrev Says : List (List ℕ) → ℕ → ℕ → ℕ → Type 0
   Says flags i j s =
-      IsBitSet (mask_at flags many (i / 8 - first) (j % 64 / 8) s) (8 * (j % 8) + i % 8)
+      IsBitSet (mask_at flags each (i / 8 - first) (j % 64 / 8) s) (8 * (j % 8) + i % 8)
       ↔ PolygonCovers polygon.rule (shape_of polygon).rings (screen_sample (pos i +ℤ origin.x) (pos j +ℤ origin.y) s c.count)
 
   -- the masks of the first parts
@@ -91,11 +105,11 @@ module _ (polygon : Polygon) (origin : Origin) (c : Canvas) (row first many : �
   AreMasksTo part flags = (i j s : ℕ) → IsStoredIn c row (row + 1) i j s → first ≤ i / 8 → i / 8 < first + many → s < 4 * part → Says flags i j s
 
   module _ (strip : Strip) (part n : ℕ) (mid new : List (List ℕ)) (across : strip.column ≡ origin.x +ℤ pos (8 * first)) (down : strip.row ≡ origin.y +ℤ pos (64 * row)) (same : strip.count ≡ c.count)
-      (begins : strip.from ≡ 4 * part) (fits : part * many + n ≤ length mid) (long : length new ≡ n) (is_many : n ≡ many)
+      (begins : strip.from ≡ 4 * part) (fits : part * each + n ≤ length mid) (long : length new ≡ n) (is_each : n ≡ each) (wide : many ≤ each)
       (masks : (s row column : ℕ) → s < part_size strip.count → row < 8 → column < many
       → IsBlockMask polygon.rule (polygon_edges (rings_from polygon.rings.corners.now polygon.rings.start polygon.rings.ends.now)) (strip_sample strip s (8 * row) (8 * column)) (slice_index (row_of new column) (4 * row + s))) where
     abbrev all : List (List ℕ)
-    all = put mid new (part * many) n
+    all = put mid new (part * each) n
 
     module _ (i j s : ℕ) (h : IsStoredIn c row (row + 1) i j s) (left : first ≤ i / 8) (right : i / 8 < first + many) where
       abbrev column : ℕ
@@ -116,20 +130,20 @@ module _ (polygon : Polygon) (origin : Origin) (c : Canvas) (row first many : �
           let quarter : s / 4 ≡ part = omega (arith, low, high) in
           let m = masks (s - 4 * part) (j % 64 / 8) column (rw same (omega (arith, low, end))) (omega arith) narrow (j % 8) (i % 8) (omega arith) (omega arith) in
           let sample = place_of strip origin c.count first row (4 * part) i j s across down same begins left line low in
-          let there : slice_index (row_of new column) (4 * (j % 64 / 8) + (s - 4 * part)) ≡ mask_at all many column (j % 64 / 8) s =
+          let there : slice_index (row_of new column) (4 * (j % 64 / 8) + (s - 4 * part)) ≡ mask_at all each column (j % 64 / 8) s =
           ap (λ k. slice_index (row_of new column) (4 * (j % 64 / 8) + k)) (sym index)
-          ∙ ap (λ (r : List ℕ). slice_index r word) (sym (put_here mid new (part * many) n [] fits long column (omega (arith, narrow, is_many))))
-          ∙ ap (λ p. slice_index (row_of all (p * many + column)) word) (sym quarter) in
+          ∙ ap (λ (r : List ℕ). slice_index r word) (sym (put_here mid new (part * each) n [] fits long column (omega (arith, narrow, is_each, wide))))
+          ∙ ap (λ p. slice_index (row_of all (p * each + column)) word) (sym quarter) in
           let said = subst (λ w. (bit_at w (8 * (j % 8) + i % 8) ≡ 1) ↔ PolygonCovers polygon.rule (shape_of polygon).rings (in_block (strip_sample strip (s - 4 * part) (8 * (j % 64 / 8)) (8 * column)) (j % 8) (i % 8))) there m in
-          let at = subst (λ (p : Position). (bit_at (mask_at all many column (j % 64 / 8) s) (8 * (j % 8) + i % 8) ≡ 1) ↔ PolygonCovers polygon.rule (shape_of polygon).rings p) sample said in
+          let at = subst (λ (p : Position). (bit_at (mask_at all each column (j % 64 / 8) s) (8 * (j % 8) + i % 8) ≡ 1) ↔ PolygonCovers polygon.rule (shape_of polygon).rings p) sample said in
           ((λ set. at.0 (is_one _ (8 * (j % 8) + i % 8) set)), (λ covers. is_set _ (8 * (j % 8) + i % 8) (at.1 covers)))
 
       -- in a part before it
       before : s < 4 * part → AreMasksTo part mid → Says all i j s
       before low are =
-          let inside = in_part (s / 4) part column many (omega (arith, low)) narrow in
-          let same_row : row_of all (s / 4 * many + column) ≡ row_of mid (s / 4 * many + column) =
-          put_elsewhere mid new (part * many) n [] fits long (s / 4 * many + column) (λ k l e. omega (arith, e, inside)) in
+          let inside = in_part (s / 4) part column each (omega (arith, low)) (omega (arith, narrow, wide)) in
+          let same_row : row_of all (s / 4 * each + column) ≡ row_of mid (s / 4 * each + column) =
+          put_elsewhere mid new (part * each) n [] fits long (s / 4 * each + column) (λ k l e. omega (arith, e, inside)) in
           subst (λ (r : List ℕ). IsBitSet (slice_index r word) (8 * (j % 8) + i % 8) ↔ PolygonCovers polygon.rule (shape_of polygon).rings (screen_sample (pos i +ℤ origin.x) (pos j +ℤ origin.y) s c.count))
           (sym same_row) (are i j s h left right low)
 
@@ -137,8 +151,8 @@ module _ (polygon : Polygon) (origin : Origin) (c : Canvas) (row first many : �
     masks_more are i j s h left right below = elim (cases_lt s (4 * part)) [ inl less ↦ before i j s h left right less are | inr more ↦ here i j s h left right more below ]
 
 -- ---- all masks
-module _ (polygon : Polygon) (origin : Origin) (c : Canvas) (row first many : ℕ) (masks : Masks) (columns : masks.columns ≡ many) (inside : first + many ≤ 8 * columns_of c) (in_picture : row < 64)
-    (are : AreMasksOfRow polygon origin c row first many masks.flags.now) where
+module _ (polygon : Polygon) (origin : Origin) (c : Canvas) (row first many each : ℕ) (masks : Masks) (columns : masks.each ≡ each) (inside : first + many ≤ 8 * columns_of c) (in_picture : row < 64)
+    (are : AreMasksOfRow polygon origin c row first many each masks.flags.now) where
   module _ (i j s : ℕ) (h : IsStoredIn c row (row + 1) i j s) (left : first ≤ i / 8) (right : i / 8 < first + many) where
     thin : i < 4096
     thin = let wide = c.width_fits in omega (arith, inside, right, wide)
@@ -146,7 +160,7 @@ module _ (polygon : Polygon) (origin : Origin) (c : Canvas) (row first many : �
     short : j < 4096
     short = let below = h.below in omega (arith, below, in_picture)
 
-    said : IsBitSet (mask_at masks.flags.now masks.columns (i / 8 - first) (j % 64 / 8) s) (8 * (j % 8) + i % 8)
+    said : IsBitSet (mask_at masks.flags.now masks.each (i / 8 - first) (j % 64 / 8) s) (8 * (j % 8) + i % 8)
         ↔ PolygonCovers polygon.rule (shape_of polygon).rings (screen_sample (pos i +ℤ origin.x) (pos j +ℤ origin.y) s c.count)
     said = rw columns (are i j s h left right)
 

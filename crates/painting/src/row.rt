@@ -3,14 +3,14 @@ ghost use Rattle.std.specs.Prelude.{◌≡◌, ℕ, ◌+◌, ◌*◌, ◌/◌, �
 ghost use Rattle.grid.specs.Samples.{parts_of, IsPart};
 ghost use Rattle.canvas.specs.Layout.{IsStoredIn, columns_of, rows_of, planes_of_row};
 ghost use Rattle.polygons.specs.declared.rule.Rule.TheVariants.{NonZero};
-ghost use Rattle.polygons.specs.Cells.{AreZeros};
+ghost use Rattle.polygons.specs.Cells.{flags_by, AreZeros};
 ghost use Rattle.polygons.specs.Runs.{AreRunsOf};
 ghost use Rattle.painting.specs.Painting.{IsOriginInBand};
-ghost use Rattle.painting.specs.Parts.{over_screen, AreMasksOfRow, MeetsHere, RowsPaint};
+ghost use Rattle.painting.specs.Parts.{over_screen, AreMasksAlone, AreMasksOfRow, MeetsHere, RowsPaint};
 
 use crate::masks::Masks;
 use crate::polygon::Polygon;
-use crate::scratch::clear;
+use crate::scratch::clear_masks;
 use crate::strip::paint_strip;
 use canvas::{Canvas, Origin};
 use lanes::{BlockSamples, Interpolants};
@@ -34,7 +34,8 @@ fn strip_at(canvas: &Canvas, origin: &Origin, first: u32, row: u32, from: u32) -
 }
 
 /// Sets the flags to the masks of the samples of a tile row that the polygon covers, in `many` columns of blocks from
-/// column `first` on: part by part, each of at most four samples of a pixel.
+/// column `first` on: part by part, each of at most four samples of a pixel. Of each part's flags the further columns are
+/// zeros again afterwards.
 fn cover_row(
     canvas: &Canvas,
     row: u32,
@@ -51,18 +52,19 @@ fn cover_row(
     requires columns { first + many ≤ 8 * columns_of canvas.now }
     requires origin { IsOriginInBand origin.now }
     requires runs { AreRunsOf runs.now polygon.now.rings }
-    requires parts { length flags.old ≡ parts_of canvas.now.count * many }
+    requires parts { length flags.old ≡ parts_of canvas.now.count * (flags_by polygon.now.rule * many) }
     requires flags { AreZeros flags.old }
-    requires counters { AreZeros counters.old }
     requires counted { polygon.now.rule ≡ NonZero → length counters.old ≡ many }
-    ensures masks { AreMasksOfRow polygon.now origin.now canvas.now row first many flags.new }
-    ensures counters { AreZeros counters.new }
+    ensures masks { AreMasksOfRow polygon.now origin.now canvas.now row first many (flags_by polygon.now.rule * many)
+        flags.new }
+    ensures others { AreMasksAlone many (flags_by polygon.now.rule * many) flags.new }
 {
+    let each = polygon.rule.flags() * many;
     for part in 0..canvas.count.parts() {
         let strip = strip_at(canvas, origin, first, row, 4 * part);
-        let from = part as usize * many;
+        let from = part as usize * each;
         cover_strip(
-            &mut flags[from..from + many],
+            &mut flags[from..from + each],
             counters,
             polygon.rule,
             &polygon.rings,
@@ -95,24 +97,24 @@ pub(crate) fn paint_row(
     requires runs { AreRunsOf runs.now polygon.now.rings }
     requires held { (i j s : ℕ) → IsStoredIn canvas.now row (row + 1) i j s →
         MeetsHere polygon.now origin.now canvas.now.count i j s → (first ≤ i / 8) × (i / 8 < first + many) }
-    requires parts { length flags.old ≡ parts_of canvas.now.count * many }
+    requires parts { length flags.old ≡ parts_of canvas.now.count * (flags_by polygon.now.rule * many) }
     requires flags { AreZeros flags.old }
-    requires counters { AreZeros counters.old }
     requires counted { polygon.now.rule ≡ NonZero → length counters.old ≡ many }
     requires samples { length samples.old ≡ planes_of_row canvas.now }
     ensures painted { RowsPaint triangle.now canvas.now row (row + 1)
         (MeetsHere polygon.now origin.now canvas.now.count) samples.old samples.new }
     ensures flags { AreZeros flags.new }
-    ensures counters { AreZeros counters.new }
 {
     cover_row(
         canvas, row, first, many, polygon, origin, runs, flags, counters,
     );
+    let each = polygon.rule.flags() * many;
     let masks = Masks {
         flags,
         columns: many,
+        each,
         count: canvas.count,
     };
     paint_strip(canvas, row, first, triangle, &masks, samples);
-    clear(flags);
+    clear_masks(flags, canvas.count.parts() as usize, many, each);
 }

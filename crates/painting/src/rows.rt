@@ -24,15 +24,13 @@ pub(crate) fn paint_rows(
     samples: &mut [BlockSamples],
 )
     requires origin { IsOriginInBand origin.now }
-    requires columns { flag_columns_of rows.now.canvas ≤ length flags.old }
+    requires columns { flag_columns_of polygon.now.rule rows.now.canvas ≤ length flags.old }
     requires flags { AreZeros flags.old }
-    requires counters { AreZeros counters.old }
     requires counted { polygon.now.rule ≡ NonZero → 8 * columns_of rows.now.canvas ≤ length counters.old }
     requires samples { length samples.old ≡ planes_of_rows rows.now.canvas rows.now.first rows.now.end }
     ensures painted { ArePainted (shape_of polygon.now ∷ []) origin.now rows.now.canvas rows.now.first rows.now.end
         samples.old samples.new }
     ensures flags { AreZeros flags.new }
-    ensures counters { AreZeros counters.new }
 {
     let triangle = Interpolants::new(&polygon.over_screen(origin));
     let window = Window::of(&polygon.rings.extent(), origin, &rows.canvas);
@@ -41,7 +39,7 @@ pub(crate) fn paint_rows(
     }
     runs.measure(&polygon.rings);
     let many = (window.right - window.left) as usize;
-    let flagged = rows.canvas.count.parts() as usize * many;
+    let flagged = rows.canvas.count.parts() as usize * (polygon.rule.flags() * many);
     let counted = many.min(counters.len());
     let each = rows.canvas.planes_of_row();
     for row in rows.first.max(window.top)..rows.end.min(window.bottom) {

@@ -66,6 +66,11 @@ pub record IsAlike (m : ℕ) (x y : ℤ) : Type 0 where
   pub times : ℤ
   pub is : x ≡ y +ℤ pos m *ℤ times
 
+-- How many flags a sample has by the rule.
+abbrev pub flags_by : Rule → ℕ
+flags_by EvenOdd = 1
+flags_by NonZero = 3
+
 -- How many columns of blocks there are.
 abbrev pub columns_in : Rule → List (List ℕ) → List (List ℕ) → ℕ
 columns_in EvenOdd flags counters = length flags

@@ -21,7 +21,6 @@ loop-number-preserved c =
       same = v.same;
       painted = painted_more (shape_in c.args.polygons.now c.args.style.now) c.loop-number.number origin rows.canvas rows.first rows.end c.args.piece.now.planes.now mid new v.painted one;
       flags = c.paint_rows.ensures.flags;
-      counters = c.paint_rows.ensures.counters;
     }
 
 pub returns-clause-painted : goal.returns-clause-painted

@@ -11,5 +11,4 @@ invariant-loop-number l = record {
   same : l.piece.planes.ghost_name ≡ l.fn.piece.planes.ghost_name;
   painted : ArePainted (map (shape_in l.polygons l.style) (range_with_len 0 l.number)) l.origin l.fn.piece.rows.canvas l.fn.piece.rows.first l.fn.piece.rows.end l.fn.piece.planes.now l.piece.planes.now;
   flags : AreZeros l.flags;
-  counters : AreZeros l.counters;
 }
