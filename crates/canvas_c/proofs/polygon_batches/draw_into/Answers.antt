@@ -74,7 +74,7 @@ returns-then-not-is_in_band-clause-judged c =
     let a = c.args.arrays.now in
     let x : FitsSigned w32 head.origin_x = search rules in
     let y : FitsSigned w32 head.origin_y = search rules in
-    let size : IsOwnSize a.struct_size 144 = search rules in
+    let size : IsOwnSize a.struct_size 144 = c.has_size.ensures.0 c.if-not-has_size.false in
     let sees : IsTrue c.is_in_band.result ↔ IsOriginInBand (origin_of head) = rw (to_z-of_z w32 head.origin_x x, to_z-of_z w32 head.origin_y y) at c.is_in_band.ensures in
     let lacks : ¬ IsOriginInBand (origin_of head) = search rules in
     rw c.from-then-not-is_in_band.ensures (record {
@@ -90,7 +90,7 @@ returns-then-not-has_scratch-clause-judged c =
     let counters : ℕ = length c.args.counters.now in
     let x : FitsSigned w32 head.origin_x = search rules in
     let y : FitsSigned w32 head.origin_y = search rules in
-    let size : IsOwnSize a.struct_size 144 = search rules in
+    let size : IsOwnSize a.struct_size 144 = c.has_size.ensures.0 c.if-not-has_size.false in
     let sees : IsTrue c.is_in_band.result ↔ IsOriginInBand (origin_of head) = rw (to_z-of_z w32 head.origin_x x, to_z-of_z w32 head.origin_y y) at c.is_in_band.ensures in
     let band : IsOriginInBand (origin_of head) = sees.0 (search rules) in
     let are = c.in_ok-rows.ensures.judged.1 in
@@ -111,7 +111,7 @@ returns-in-Err-clause-judged c =
     let counters : ℕ = length c.args.counters.now in
     let x : FitsSigned w32 head.origin_x = search rules in
     let y : FitsSigned w32 head.origin_y = search rules in
-    let size : IsOwnSize a.struct_size 144 = search rules in
+    let size : IsOwnSize a.struct_size 144 = c.has_size.ensures.0 c.if-not-has_size.false in
     let sees : IsTrue c.is_in_band.result ↔ IsOriginInBand (origin_of head) = rw (to_z-of_z w32 head.origin_x x, to_z-of_z w32 head.origin_y y) at c.is_in_band.ensures in
     let band : IsOriginInBand (origin_of head) = sees.0 (search rules) in
     let are = c.in_ok-rows.ensures.judged.1 in
@@ -133,7 +133,7 @@ draw_polygons-requires-clause-counted c nonzero =
     let long = length-take c.min-counted.result c.args.counters.now in
     elim enough.1 [
       | inl zero ↦ absurd (even_odd (sym (c.rule_of-rule.ensures ∙ ap rule_of zero) ∙ nonzero))
-      | inr more ↦ rw c.over-piece.ensures.rows (omega (arith, more, long, c.counter_columns-counted.ensures.value, c.clear_counters.ensures.len, c.min-counted.ensures))
+      | inr more ↦ rw c.over-piece.ensures.rows (omega (arith, more, long, c.counter_columns-counted.ensures.value, c.min-counted.ensures))
     ]
 
 pub returns-clause-judged : goal.returns-clause-judged
@@ -144,7 +144,7 @@ returns-clause-judged c =
     let counters : ℕ = length c.args.counters.now in
     let x : FitsSigned w32 head.origin_x = search rules in
     let y : FitsSigned w32 head.origin_y = search rules in
-    let size : IsOwnSize a.struct_size 144 = search rules in
+    let size : IsOwnSize a.struct_size 144 = c.has_size.ensures.0 c.if-not-has_size.false in
     let sees : IsTrue c.is_in_band.result ↔ IsOriginInBand (origin_of head) = rw (to_z-of_z w32 head.origin_x x, to_z-of_z w32 head.origin_y y) at c.is_in_band.ensures in
     let band : IsOriginInBand (origin_of head) = sees.0 (search rules) in
     let are = c.in_ok-rows.ensures.judged.1 in
