@@ -123,17 +123,25 @@
 --   bit_in_block: The bit of a pixel in its block.
 --   flag_of: The flag of sample s of the pixel in a row and a column.
 --   counter_at: The counter of that sample.
---   cell: What stands there for the rule: a flag, or a counter.
---   running_sum: The sum of the flags or counters of a row up to column k.
---   modulus: Flags are sums modulo 2, and counters modulo 2 ^ 32.
+--   down_flag: The flags of that sample by the nonzero rule: of an edge that runs downwards, of one that runs upwards, and of its counter.
+--   up_flag: 
+--   more_flag: 
+--   in_use: The number in a counter, if its flag is set, else 0.
+--   cell: What stands at a sample for the rule: a flag; or the first flag less the second, and the number in the counter.
+--   running_sum: The sum of what stands in a row up to column k.
+--   modulus: Flags are sums modulo 2, and windings modulo 2 ^ 32.
 --   IsAlike: The numbers differ by a multiple of m.
---   HasCounters: The nonzero rule has as many columns of counters as of flags.
---   AreMarked: A counter other than 0 has its flag set.
+--   flags_by: How many flags a sample has by the rule.
+--   columns_in: How many columns of blocks there are.
+--   HasCounters: The nonzero rule has three columns of flags and one of counters for each column of blocks.
+--   AreMarked: A counter is in use only if one of the other flags is set.
 --   signed: The number, or its opposite.
+--   IsCounted: An edge was counted at sample s of the pixel in a row and a column, by the nonzero rule: what stands there changed by 1 or -1, modulo 2 ^ 32.
 --   added_by: What an edge that runs downwards adds at the samples of one index, by row and column.
 --   IsAdded: To the sums of sample s in the rows from `first` to before `end` a number was added, by row and column; no other was changed.
 --   IsPlotted: To the sums at each sample of a strip a number was added, which depends on where the sample lies.
---   AreZeros: All flags or counters are 0.
+--   AreZeros: All flags are 0.
+--   AreZerosFrom: All flags from a column on are 0.
 --
 -- Plotting.antt
 --   AreSame: The cells are the same memory, and count by the same rule.
@@ -145,11 +153,14 @@
 --   IsNextCarry: The carry into the next word is the parity of the carry and of all flags of a row.
 --
 -- Summing.antt
---   run: The sum of a number and of the first n counters from `from` on, modulo 2 ^ 32.
+--   marks_in: The flags of word i of a column.
+--   IsMarked: A counter is in use only if one of the other flags is set.
+--   number_in: The number of cell i of a word, or more by a multiple of 2 ^ 32.
+--   run: The sum of a number and of n further ones from `from` on, modulo 2 ^ 32.
 --   nonzero_bit: 1 if the number is other than 0.
 --   change_bit: 1 if one of the numbers is 0 and the other is not.
---   change_at: Whether counter i of a word changes the sum of its row from 0 to another number, or from another number to 0: 1 or 0.
---   IsLevelMask: The mask of word i of a column if all of its counters are 0.
+--   change_at: Whether cell i of a word changes the sum of its row from 0 to another number, or from another number to 0: 1 or 0.
+--   IsLevelMask: The mask of word i of a column if it has no flags.
 
 pub mod Crossing
 pub mod Polygon
