@@ -58,10 +58,10 @@ columns_of_blocks width = 8 * ((width + 63) / 64)
 abbrev pub flag_columns_listed : CanvasHead → ℕ
 flag_columns_listed head = parts_of (pattern_of head.samples) * columns_of_blocks head.width
 
--- The scratch memory has as many columns of flags, and by the nonzero rule a column of counters for each column of blocks.
+-- The scratch memory has as many columns of flags, and by the nonzero rule as many of counters.
 pub record HasScratch (head : CanvasHead) (a : PolygonArrays) (flags counters : ℕ) : Type 0 where
   pub enough_flags : flag_columns_listed head ≤ flags
-  pub enough_counters : (a.fill_rule ≡ 0) ⊎ (columns_of_blocks head.width ≤ counters)
+  pub enough_counters : (a.fill_rule ≡ 0) ⊎ (flag_columns_listed head ≤ counters)
 
 -- The checks of a call that draws polygons.
 abbrev pub polygons_checks : CanvasHead → ℕ → Option ℕ → PolygonArrays → ℕ → ℕ → Checks Status

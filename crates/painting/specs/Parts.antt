@@ -16,7 +16,7 @@ use Rattle.shade.specs.declared.state.State.{State}
 use Rattle.shade.specs.Canvas.{IsCanvasDrawnAt}
 use Rattle.lanes.specs.declared.block_samples.BlockSamples.{BlockSamples}
 use Rattle.polygons.specs.declared.extent.Extent.{Extent}
-use Rattle.polygons.specs.ManyRows.{row_of}
+use Rattle.polygons.specs.Cells.{mask_at}
 use Rattle.polygons.specs.Polygon.{PolygonCovers}
 use Rattle.polygons.specs.Rings.{IsInExtent}
 use Rattle.polygons.specs.Screen.{screen_sample}
@@ -108,12 +108,7 @@ pub record RowsPaint (t : Placed) (c : Canvas) (first end : ℕ) (part : ℕ →
 abbrev pub flag_columns_of : Canvas → ℕ
 flag_columns_of c = parts_of c.count * (8 * columns_of c)
 
--- The mask of samples s of the block in a column and a row of blocks. For each part of at most four samples of a pixel there are `many`
--- columns of words, part by part. A column has four words for each row of blocks, one for each sample.
-abbrev pub mask_at : List (List ℕ) → ℕ → ℕ → ℕ → ℕ → ℕ
-mask_at flags many column row s = slice_index (row_of flags (s / 4 * many + column)) (4 * row + s % 4)
-
--- That mask among the masks of a tile row.
+-- The mask of sample s of the block in a column and a row of blocks, among the masks of a tile row.
 abbrev pub block_mask : Masks → ℕ → ℕ → ℕ → ℕ
 block_mask masks column row s = mask_at masks.flags.now masks.columns column row s
 

@@ -1,6 +1,5 @@
 //! Polygons in a caller's arrays, drawn one after another.
-ghost use Rattle.std.specs.Prelude.{◌≡◌, ◌+◌, ◌*◌, ◌<◌, ◌≤◌, length, slice_index};
-ghost use Rattle.canvas.specs.Layout.{columns_of};
+ghost use Rattle.std.specs.Prelude.{◌≡◌, ◌+◌, ◌<◌, ◌≤◌, length, slice_index};
 ghost use Rattle.polygons.specs.declared.rule.Rule.TheVariants.{NonZero};
 ghost use Rattle.polygons.specs.Cells.{AreZeros};
 ghost use Rattle.painting.specs.Batches.{HasColours, shape_in, shapes_of};
@@ -78,7 +77,7 @@ pub fn draw_polygons(
     requires columns { flag_columns_of piece.old.rows.canvas ≤ length flags.old }
     requires flags { AreZeros flags.old }
     requires counters { AreZeros counters.old }
-    requires counted { style.now.rule ≡ NonZero → 8 * columns_of piece.old.rows.canvas ≤ length counters.old }
+    requires counted { style.now.rule ≡ NonZero → flag_columns_of piece.old.rows.canvas ≤ length counters.old }
     ensures painted { ArePainted (shapes_of polygons.now style.now) origin.now piece.old.rows.canvas
         piece.old.rows.first piece.old.rows.end piece.old.planes.now piece.new.planes.now }
     ensures rows { piece.new.rows ≡ piece.old.rows }

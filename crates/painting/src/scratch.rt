@@ -1,6 +1,5 @@
 //! The scratch memory of polygons.
-ghost use Rattle.std.specs.Prelude.{◌≡◌, ℕ, ◌*◌, ◌≤◌, length, slice_index};
-ghost use Rattle.canvas.specs.Layout.{columns_of};
+ghost use Rattle.std.specs.Prelude.{◌≡◌, ℕ, ◌≤◌, length, slice_index};
 ghost use Rattle.polygons.specs.Cells.{AreZeros};
 ghost use Rattle.painting.specs.Parts.{flag_columns_of};
 
@@ -13,15 +12,16 @@ pub fn flag_columns(canvas: &Canvas) -> usize
     ensures value { result ≡ flag_columns_of canvas.now }
     ensures few { result ≤ 2048 }
 {
-    canvas.count.parts() as usize * counter_columns(canvas)
+    let blocks = 8 * canvas.column_count() as usize;
+    canvas.count.parts() as usize * blocks
 }
 
-/// How many columns of counters such a call needs by the nonzero rule: as many as there are columns of blocks.
+/// How many columns of counters such a call needs by the nonzero rule: as many as of flags.
 pub fn counter_columns(canvas: &Canvas) -> usize
-    ensures value { result ≡ 8 * columns_of canvas.now }
-    ensures few { result ≤ 512 }
+    ensures value { result ≡ flag_columns_of canvas.now }
+    ensures few { result ≤ 2048 }
 {
-    8 * canvas.column_count() as usize
+    flag_columns(canvas)
 }
 
 /// Sets all flags to 0.

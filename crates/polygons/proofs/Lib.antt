@@ -6,6 +6,7 @@ pub mod Cancel
 pub mod Outline
 pub mod Totals
 pub mod Plotted
+pub mod Parts
 pub mod ByteRows
 pub mod Filling
 pub mod Masks

@@ -1,5 +1,5 @@
 -- Flags and counters of the samples of a strip, which stand where edges are first crossed.
-use Rattle.std.specs.Prelude.{◌≡◌, ℕ, ◌+◌, ◌*◌, ◌/◌, ◌%◌, ◌^◌, ◌<◌, ◌≤◌, ℤ, pos, ◌+ℤ◌, ◌*ℤ◌, neg_ℤ, Bool, true, false, List, length, slice_index}
+use Rattle.std.specs.Prelude.{◌≡◌, ◌↔◌, ℕ, ◌+◌, ◌*◌, ◌/◌, ◌%◌, ◌^◌, ◌<◌, ◌≤◌, ℤ, pos, ◌+ℤ◌, ◌*ℤ◌, neg_ℤ, Bool, true, false, List, length, take, drop, slice_index}
 use Rattle.std.specs.Int.{bit_at}
 use Rattle.grid.specs.Position.{Position}
 use Rattle.grid.specs.Samples.{part_size}
@@ -12,6 +12,15 @@ use Rattle.polygons.specs.Columns.{along}
 use Rattle.polygons.specs.Rows.{sum_to, direction}
 use Rattle.polygons.specs.ManyRows.{row_of}
 use Rattle.polygons.specs.Strip.{strip_sample}
+
+-- The columns of a part. Each part of at most four samples of a pixel has n, and those of one part lie behind those of another.
+abbrev pub part_columns : List (List ℕ) → ℕ → ℕ → List (List ℕ)
+part_columns cells n part = take n (drop (part * n) cells)
+
+-- The mask of sample s of the block in a column and a row of blocks. For each part of at most four samples of a pixel there are `many`
+-- columns of words, part by part. A column has four words for each row of blocks, one for each sample.
+abbrev pub mask_at : List (List ℕ) → ℕ → ℕ → ℕ → ℕ → ℕ
+mask_at flags many column row s = slice_index (row_of flags (s / 4 * many + column)) (4 * row + s % 4)
 
 -- The word of a sample's row in a column of blocks: of each row of blocks there are four.
 abbrev pub word_of : ℕ → ℕ → ℕ
@@ -76,14 +85,19 @@ pub record IsAdded (rule : Rule) (s first end : ℕ) (number : ℕ → ℕ → �
   pub marked : AreMarked rule flags counters → AreMarked rule flags' counters'
   pub kept : rule ≡ EvenOdd → counters' ≡ counters
 
--- To the sums at each sample of a strip a number was added, which depends on where the sample lies.
-pub record IsPlotted (rule : Rule) (strip : Strip) (change : Position → ℤ) (flags counters flags' counters' : List (List ℕ)) : Type 0 where
+-- To the sums at each sample of a part of a strip a number was added, which depends on where the sample lies.
+pub record IsPlotted (rule : Rule) (strip : Strip) (part : ℕ) (change : Position → ℤ) (flags counters flags' counters' : List (List ℕ)) : Type 0 where
   pub flags_len : length flags' ≡ length flags
   pub counters_len : length counters' ≡ length counters
-  pub totals : (s row k : ℕ) → s < part_size strip.count → row < 64 → k < 8 * length flags → IsAlike (modulus rule) (running_sum rule flags' counters' s row k) (running_sum rule flags counters s row k +ℤ change (strip_sample strip s row k))
+  pub totals : (s row k : ℕ) → s < part_size strip.count → row < 64 → k < 8 * length flags → IsAlike (modulus rule) (running_sum rule flags' counters' s row k) (running_sum rule flags counters s row k +ℤ change (strip_sample strip (4 * part + s) row k))
   pub marked : AreMarked rule flags counters → AreMarked rule flags' counters'
   pub kept : rule ≡ EvenOdd → counters' ≡ counters
 
 -- All flags or counters are 0.
 abbrev pub AreZeros : List (List ℕ) → Type 0
 AreZeros cells = (column i : ℕ) → slice_index (row_of cells column) i ≡ 0
+
+-- Each bit of these masks says whether the sum of its row up to it is other than 0.
+abbrev pub AreSumMasks : Rule → List (List ℕ) → List (List ℕ) → List (List ℕ) → Type 0
+AreSumMasks rule flags counters masks =
+    (s row k : ℕ) → s < 4 → row < 64 → k < 8 * length flags → ((flag_of masks s row k ≡ 1) ↔ (IsAlike (modulus rule) (running_sum rule flags counters s row k) (pos 0) → ⊥))

@@ -101,8 +101,9 @@
 --   screen_sample: The position of sample s of pixel (i, j) of the screen, whose upper left corner is at (256 i, 256 j).
 --
 -- Strip.antt
---   start_of: Where the first pixel of a strip has sample s of the part.
---   strip_sample: Where the pixel in a row and a column of a strip has sample s of the part.
+--   start_of: Where the first pixel of a strip has sample s.
+--   strip_sample: Where the pixel in a row and a column of a strip has sample s.
+--   AreFirstRows: Of each sample of a part, the first row of a strip that is not above the height y.
 --
 -- Apart.antt
 --   IsAbove: Both ends are at the upper border of the strip, or above it.
@@ -119,6 +120,8 @@
 --   AreRunsOf: Each box holds the corners of its run and the one behind it.
 --
 -- Cells.antt
+--   part_columns: The columns of a part.
+--   mask_at: The mask of sample s of the block in a column and a row of blocks.
 --   word_of: The word of a sample's row in a column of blocks: of each row of blocks there are four.
 --   bit_in_block: The bit of a pixel in its block.
 --   flag_of: The flag of sample s of the pixel in a row and a column.
@@ -132,11 +135,15 @@
 --   signed: The number, or its opposite.
 --   added_by: What an edge that runs downwards adds at the samples of one index, by row and column.
 --   IsAdded: To the sums of sample s in the rows from `first` to before `end` a number was added, by row and column; no other was changed.
---   IsPlotted: To the sums at each sample of a strip a number was added, which depends on where the sample lies.
+--   IsPlotted: To the sums at each sample of a part of a strip a number was added, which depends on where the sample lies.
 --   AreZeros: All flags or counters are 0.
+--   AreSumMasks: Each bit of these masks says whether the sum of its row up to it is other than 0.
 --
 -- Plotting.antt
---   AreSame: The cells are the same memory, and count by the same rule.
+--   HasParts: Each part of a strip's samples has its columns, and by the nonzero rule as many of counters.
+--   AreSame: The cells are the same memory with the same parts, and count by the same rule.
+--   IsPlottedIn: To the sums at each sample of a part of the cells a number was added, which depends on where the sample lies.
+--   IsPartPlotted: To the sums at each sample of one part a number was added, and the other parts are unchanged.
 --   ArePlotted: To the sums at each sample of a strip a number was added, which depends on where the sample lies.
 --
 -- Spreading.antt

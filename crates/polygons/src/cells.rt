@@ -1,9 +1,8 @@
-//! The flags and counters of a strip's samples, by columns of blocks. A column has 32 words of flags: of each of its
+//! The flags and counters of a part of a strip's samples, by columns of blocks. A column has 32 words of flags: of each of its
 //! eight blocks one for each of four samples, whose bit 8 * row + column is that of a pixel. It has 64 counters for
 //! each word, one for each bit.
 ghost use Rattle.std.specs.Prelude.{◌≡◌, ℕ, ◌+◌, ◌*◌, ◌%◌, ◌^◌, ◌<◌, pos, negsuc, ◌+ℤ◌, cond, length};
 ghost use Rattle.polygons.specs.Rows.{from_column};
-ghost use Rattle.polygons.specs.declared.rule.Rule.TheVariants.{NonZero};
 ghost use Rattle.polygons.specs.Cells.{flag_of, counter_at, signed, HasCounters, IsAdded};
 
 use crate::rule::Rule;
@@ -14,13 +13,17 @@ pub type Flags = [u64; 32];
 /// The counters of a column of blocks.
 pub type Counters = [u32; 2048];
 
-/// The flags and counters of a strip, and the rule by which edges count there.
+/// The flags and counters of a strip, and the rule by which edges count there. Each part of at most four samples of a
+/// pixel has columns of its own, and those of one part lie behind those of another.
 #[derive(Drop)]
 pub(crate) struct Cells<'a> {
     pub rule: Rule,
+    /// How many columns of flags a part has.
+    pub columns: usize,
+    /// How many columns of counters a part has: as many by the nonzero rule, none by the even-odd rule.
+    pub counted: usize,
     pub flags: &'a mut [Flags],
     pub counters: &'a mut [Counters],
-    pub ghost columns: { rule ≡ NonZero → length counters.now ≡ length flags.now },
 }
 
 /// The word of a sample's row.

@@ -30,7 +30,7 @@ later_checks head ids a flags counters =
 
 -- as many columns of flags, and of counters if they are needed
 abbrev IsEnough : CanvasHead → PolygonArrays → ℕ → ℕ → Type 0
-IsEnough head a flags counters = (flag_columns_listed head ≤ flags) × ((a.fill_rule ≡ 0) ⊎ (columns_of_blocks head.width ≤ counters))
+IsEnough head a flags counters = (flag_columns_listed head ≤ flags) × ((a.fill_rule ≡ 0) ⊎ (flag_columns_listed head ≤ counters))
 
 scratch_of : (head : CanvasHead) (a : PolygonArrays) (flags counters : ℕ) → IsEnough head a flags counters → HasScratch head a flags counters
 scratch_of head a flags counters h = record { enough_flags = h.0; enough_counters = h.1 }
@@ -72,7 +72,7 @@ returns-then-not-is_in_band-clause-judged c =
     let a = c.args.arrays.now in
     let x : FitsSigned w32 head.origin_x = search rules in
     let y : FitsSigned w32 head.origin_y = search rules in
-    let size : IsOwnSize a.struct_size 144 = search rules in
+    let size : IsOwnSize a.struct_size 144 = c.has_size.ensures.0 c.if-not-has_size.false in
     let sees : IsTrue c.is_in_band.result ↔ IsOriginInBand (origin_of head) = rw (to_z-of_z w32 head.origin_x x, to_z-of_z w32 head.origin_y y) at c.is_in_band.ensures in
     let lacks : ¬ IsOriginInBand (origin_of head) = search rules in
     rw c.from-then-not-is_in_band.ensures (record {
@@ -88,11 +88,11 @@ returns-then-not-has_scratch-clause-judged c =
     let counters : ℕ = length c.args.counters.now in
     let x : FitsSigned w32 head.origin_x = search rules in
     let y : FitsSigned w32 head.origin_y = search rules in
-    let size : IsOwnSize a.struct_size 144 = search rules in
+    let size : IsOwnSize a.struct_size 144 = c.has_size.ensures.0 c.if-not-has_size.false in
     let sees : IsTrue c.is_in_band.result ↔ IsOriginInBand (origin_of head) = rw (to_z-of_z w32 head.origin_x x, to_z-of_z w32 head.origin_y y) at c.is_in_band.ensures in
     let band : IsOriginInBand (origin_of head) = sees.0 (search rules) in
     let are = c.in_ok-rows.ensures.judged.1 in
-    let counted : c.counter_columns-counted.result ≡ columns_of_blocks head.width = c.counter_columns-counted.ensures.value ∙ ap (λ w. 8 * ((w + 63) / 64)) are.width in
+    let counted : c.counter_columns-counted.result ≡ flag_columns_listed head = same_flags c.in_ok-rows.rows.canvas head are.width are.count c.counter_columns-counted.ensures.value in
     let flagged : c.flag_columns-flagged.result ≡ flag_columns_listed head = same_flags c.in_ok-rows.rows.canvas head are.width are.count c.flag_columns-flagged.ensures.value in
     let enough : IsTrue c.has_scratch.result ↔ IsEnough head a flags counters = rw (flagged, counted) at c.has_scratch.ensures in
     let lacks : ¬ IsEnough head a flags counters = search rules in
@@ -109,11 +109,11 @@ returns-in-Err-clause-judged c =
     let counters : ℕ = length c.args.counters.now in
     let x : FitsSigned w32 head.origin_x = search rules in
     let y : FitsSigned w32 head.origin_y = search rules in
-    let size : IsOwnSize a.struct_size 144 = search rules in
+    let size : IsOwnSize a.struct_size 144 = c.has_size.ensures.0 c.if-not-has_size.false in
     let sees : IsTrue c.is_in_band.result ↔ IsOriginInBand (origin_of head) = rw (to_z-of_z w32 head.origin_x x, to_z-of_z w32 head.origin_y y) at c.is_in_band.ensures in
     let band : IsOriginInBand (origin_of head) = sees.0 (search rules) in
     let are = c.in_ok-rows.ensures.judged.1 in
-    let counted : c.counter_columns-counted.result ≡ columns_of_blocks head.width = c.counter_columns-counted.ensures.value ∙ ap (λ w. 8 * ((w + 63) / 64)) are.width in
+    let counted : c.counter_columns-counted.result ≡ flag_columns_listed head = same_flags c.in_ok-rows.rows.canvas head are.width are.count c.counter_columns-counted.ensures.value in
     let flagged : c.flag_columns-flagged.result ≡ flag_columns_listed head = same_flags c.in_ok-rows.rows.canvas head are.width are.count c.flag_columns-flagged.ensures.value in
     let enough : IsTrue c.has_scratch.result ↔ IsEnough head a flags counters = rw (flagged, counted) at c.has_scratch.ensures in
     let scratch = scratch_of head a flags counters (enough.0 (search rules)) in
@@ -142,11 +142,11 @@ returns-clause-judged c =
     let counters : ℕ = length c.args.counters.now in
     let x : FitsSigned w32 head.origin_x = search rules in
     let y : FitsSigned w32 head.origin_y = search rules in
-    let size : IsOwnSize a.struct_size 144 = search rules in
+    let size : IsOwnSize a.struct_size 144 = c.has_size.ensures.0 c.if-not-has_size.false in
     let sees : IsTrue c.is_in_band.result ↔ IsOriginInBand (origin_of head) = rw (to_z-of_z w32 head.origin_x x, to_z-of_z w32 head.origin_y y) at c.is_in_band.ensures in
     let band : IsOriginInBand (origin_of head) = sees.0 (search rules) in
     let are = c.in_ok-rows.ensures.judged.1 in
-    let counted : c.counter_columns-counted.result ≡ columns_of_blocks head.width = c.counter_columns-counted.ensures.value ∙ ap (λ w. 8 * ((w + 63) / 64)) are.width in
+    let counted : c.counter_columns-counted.result ≡ flag_columns_listed head = same_flags c.in_ok-rows.rows.canvas head are.width are.count c.counter_columns-counted.ensures.value in
     let flagged : c.flag_columns-flagged.result ≡ flag_columns_listed head = same_flags c.in_ok-rows.rows.canvas head are.width are.count c.flag_columns-flagged.ensures.value in
     let enough : IsTrue c.has_scratch.result ↔ IsEnough head a flags counters = rw (flagged, counted) at c.has_scratch.ensures in
     let scratch = scratch_of head a flags counters (enough.0 (search rules)) in
