@@ -676,21 +676,22 @@ typedef struct trirast_polygons {
                                      * may run either way round */
 } trirast_polygons;
 
-/* Scratch memory of a column of 8 pixels of a canvas, in bytes: one flag of each sample of a part of at most four samples
- * of a pixel, and by the nonzero rule its counters. */
+/* Scratch memory of a part of at most four samples of a pixel in a column of 8 pixels of a canvas, in bytes: one flag of
+ * each sample, and by the nonzero rule its counters. */
 #define TRIRAST_FLAGS_BYTES 256
 #define TRIRAST_COUNTERS_BYTES 8192
 
 /* Returns the bytes of scratch memory of a call that draws polygons by this rule on this canvas: for each 8 pixels of
- * its width, rounded up to whole tiles, 256 bytes for each part of at most four samples of a pixel; and by the nonzero
- * rule three times that and 8,192 more. So for 1,024 pixels that is 32 KB or 1.1 MB, and with 16 samples 128 KB or
- * 1.4 MB. Returns 0 if there is no such canvas. */
+ * its width, rounded up to whole tiles, 256 bytes for each part of at most four samples of a pixel, and by the nonzero
+ * rule 2 * 256 + 8,192 more for each part. So for 1,024 pixels that is 32 KB or 1.1 MB, and with 16 samples 128 KB or
+ * 4.6 MB. Returns 0 if there is no such canvas. */
 inline size_t trirast_polygons_scratch(const trirast_canvas *canvas, trirast_fill_rule fill_rule) {
     const size_t columns =
         ((size_t)canvas->width + TRIRAST_TILE_SIZE - 1) / TRIRAST_TILE_SIZE * (TRIRAST_TILE_SIZE / 8);
-    const size_t flags = columns * (canvas->samples > 4 ? canvas->samples / 4 : 1) * TRIRAST_FLAGS_BYTES;
+    const size_t of_parts = columns * (canvas->samples > 4 ? canvas->samples / 4 : 1);
     if (trirast_canvas_size(canvas) == 0) return 0;
-    return fill_rule == TRIRAST_FILL_EVEN_ODD ? flags : 3 * flags + columns * TRIRAST_COUNTERS_BYTES;
+    return of_parts * (fill_rule == TRIRAST_FILL_EVEN_ODD ? TRIRAST_FLAGS_BYTES
+                                                          : 3 * TRIRAST_FLAGS_BYTES + TRIRAST_COUNTERS_BYTES);
 }
 
 trirast_status trirast_proved_canvas_draw_polygons(trirast_canvas *canvas, const trirast_polygons *polygons,

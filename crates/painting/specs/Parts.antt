@@ -17,8 +17,7 @@ use Rattle.shade.specs.Canvas.{IsCanvasDrawnAt}
 use Rattle.lanes.specs.declared.block_samples.BlockSamples.{BlockSamples}
 use Rattle.polygons.specs.declared.extent.Extent.{Extent}
 use Rattle.polygons.specs.declared.rule.Rule.{Rule}
-use Rattle.polygons.specs.Cells.{flags_by}
-use Rattle.polygons.specs.ManyRows.{row_of}
+use Rattle.polygons.specs.Cells.{flags_by, mask_at}
 use Rattle.polygons.specs.Polygon.{PolygonCovers}
 use Rattle.polygons.specs.Rings.{IsInExtent}
 use Rattle.polygons.specs.Screen.{screen_sample}
@@ -111,16 +110,11 @@ pub record RowsPaint (t : Placed) (c : Canvas) (first end : ℕ) (part : ℕ →
 abbrev pub flag_columns_of : Rule → Canvas → ℕ
 flag_columns_of rule c = parts_of c.count * (flags_by rule * (8 * columns_of c))
 
--- The mask of samples s of the block in a column and a row of blocks. For each part of at most four samples of a pixel there are `each`
--- columns of words, part by part. A column has four words for each row of blocks, one for each sample.
-abbrev pub mask_at : List (List ℕ) → ℕ → ℕ → ℕ → ℕ → ℕ
-mask_at flags each column row s = slice_index (row_of flags (s / 4 * each + column)) (4 * row + s % 4)
+-- How many columns of counters the canvas needs by the nonzero rule. For each part there is one for each column of blocks.
+abbrev pub counter_columns_of : Canvas → ℕ
+counter_columns_of c = parts_of c.count * (8 * columns_of c)
 
--- Of each part's columns those from this one on are zeros.
-abbrev pub AreMasksAlone : ℕ → ℕ → List (List ℕ) → Type 0
-AreMasksAlone many each flags = (part column i : ℕ) → many ≤ column → column < each → slice_index (row_of flags (part * each + column)) i ≡ 0
-
--- That mask among the masks of a tile row.
+-- The mask of sample s of the block in a column and a row of blocks, among the masks of a tile row.
 abbrev pub block_mask : Masks → ℕ → ℕ → ℕ → ℕ
 block_mask masks column row s = mask_at masks.flags.now masks.each column row s
 

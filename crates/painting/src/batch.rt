@@ -1,11 +1,10 @@
 //! Polygons in a caller's arrays, drawn one after another.
-ghost use Rattle.std.specs.Prelude.{◌≡◌, ◌+◌, ◌*◌, ◌<◌, ◌≤◌, length, slice_index};
-ghost use Rattle.canvas.specs.Layout.{columns_of};
+ghost use Rattle.std.specs.Prelude.{◌≡◌, ◌+◌, ◌<◌, ◌≤◌, length, slice_index};
 ghost use Rattle.polygons.specs.declared.rule.Rule.TheVariants.{NonZero};
 ghost use Rattle.polygons.specs.Cells.{AreZeros};
 ghost use Rattle.painting.specs.Batches.{HasColours, shape_in, shapes_of};
 ghost use Rattle.painting.specs.Painting.{ArePainted, IsOriginInBand, shape_of};
-ghost use Rattle.painting.specs.Parts.{flag_columns_of};
+ghost use Rattle.painting.specs.Parts.{flag_columns_of, counter_columns_of};
 
 use crate::polygon::Polygon;
 use crate::rows::paint_rows;
@@ -78,7 +77,7 @@ pub fn draw_polygons(
     requires origin { IsOriginInBand origin.now }
     requires columns { flag_columns_of style.now.rule piece.old.rows.canvas ≤ length flags.old }
     requires flags { AreZeros flags.old }
-    requires counted { style.now.rule ≡ NonZero → 8 * columns_of piece.old.rows.canvas ≤ length counters.old }
+    requires counted { style.now.rule ≡ NonZero → counter_columns_of piece.old.rows.canvas ≤ length counters.old }
     ensures painted { ArePainted (shapes_of polygons.now style.now) origin.now piece.old.rows.canvas
         piece.old.rows.first piece.old.rows.end piece.old.planes.now piece.new.planes.now }
     ensures rows { piece.new.rows ≡ piece.old.rows }

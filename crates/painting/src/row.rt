@@ -1,12 +1,12 @@
 //! The samples of a tile row.
 ghost use Rattle.std.specs.Prelude.{◌≡◌, ℕ, ◌+◌, ◌*◌, ◌/◌, ◌<◌, ◌≤◌, pos, ◌+ℤ◌, length};
-ghost use Rattle.grid.specs.Samples.{parts_of, IsPart};
+ghost use Rattle.grid.specs.Samples.{parts_of};
 ghost use Rattle.canvas.specs.Layout.{IsStoredIn, columns_of, rows_of, planes_of_row};
 ghost use Rattle.polygons.specs.declared.rule.Rule.TheVariants.{NonZero};
-ghost use Rattle.polygons.specs.Cells.{flags_by, AreZeros};
+ghost use Rattle.polygons.specs.Cells.{flags_by, AreZeros, AreMasksAlone};
 ghost use Rattle.polygons.specs.Runs.{AreRunsOf};
 ghost use Rattle.painting.specs.Painting.{IsOriginInBand};
-ghost use Rattle.painting.specs.Parts.{over_screen, AreMasksAlone, AreMasksOfRow, MeetsHere, RowsPaint};
+ghost use Rattle.painting.specs.Parts.{over_screen, AreMasksOfRow, MeetsHere, RowsPaint};
 
 use crate::masks::Masks;
 use crate::polygon::Polygon;
@@ -14,28 +14,25 @@ use crate::scratch::clear_masks;
 use crate::strip::paint_strip;
 use canvas::{Canvas, Origin};
 use lanes::{BlockSamples, Interpolants};
-use polygons::{Counters, Flags, Runs, Strip, cover_strip};
+use polygons::{Counters, Flags, Runs, Strip, cover_parts};
 
-/// The strip of a tile row that begins with block `first`, with the part of its samples that begins with sample `from`.
-fn strip_at(canvas: &Canvas, origin: &Origin, first: u32, row: u32, from: u32) -> Strip
+/// The strip of a tile row that begins with block `first`.
+fn strip_at(canvas: &Canvas, origin: &Origin, first: u32, row: u32) -> Strip
     requires origin { IsOriginInBand origin.now }
     requires column { first < 512 }
     requires row { row < 64 }
-    requires part { IsPart canvas.now.count from }
     ensures place { (result.column ≡ origin.now.x +ℤ pos (8 * first)) × (result.row ≡ origin.now.y +ℤ pos (64 * row)) }
-    ensures part { (result.count ≡ canvas.now.count) × (result.from ≡ from) }
+    ensures count { result.count ≡ canvas.now.count }
 {
     Strip {
         column: origin.x + 8 * first as i32,
         row: origin.y + 64 * row as i32,
         count: canvas.count,
-        from,
     }
 }
 
 /// Sets the flags to the masks of the samples of a tile row that the polygon covers, in `many` columns of blocks from
-/// column `first` on: part by part, each of at most four samples of a pixel. Of each part's flags the further columns are
-/// zeros again afterwards.
+/// column `first` on. Of each part's flags the further columns are zeros again afterwards.
 fn cover_row(
     canvas: &Canvas,
     row: u32,
@@ -54,28 +51,26 @@ fn cover_row(
     requires runs { AreRunsOf runs.now polygon.now.rings }
     requires parts { length flags.old ≡ parts_of canvas.now.count * (flags_by polygon.now.rule * many) }
     requires flags { AreZeros flags.old }
-    requires counted { polygon.now.rule ≡ NonZero → length counters.old ≡ many }
+    requires counted { polygon.now.rule ≡ NonZero → length counters.old ≡ parts_of canvas.now.count * many }
     ensures masks { AreMasksOfRow polygon.now origin.now canvas.now row first many (flags_by polygon.now.rule * many)
         flags.new }
     ensures others { AreMasksAlone many (flags_by polygon.now.rule * many) flags.new }
 {
-    let each = polygon.rule.flags() * many;
-    for part in 0..canvas.count.parts() {
-        let strip = strip_at(canvas, origin, first, row, 4 * part);
-        let from = part as usize * each;
-        cover_strip(
-            &mut flags[from..from + each],
-            counters,
-            polygon.rule,
-            &polygon.rings,
-            runs,
-            &strip,
-        );
-    }
+    let strip = strip_at(canvas, origin, first, row);
+    cover_parts(
+        flags,
+        counters,
+        polygon.rule,
+        &polygon.rings,
+        runs,
+        &strip,
+        many,
+    );
 }
 
 /// Draws the polygon at the samples of a tile row, by the masks of its samples in `many` columns of blocks from column
-/// `first` on, which hold all that it meets. There are as many columns of flags for each part of a pixel's samples.
+/// `first` on, which hold all that it meets. For each part of a pixel's samples there is a column of flags for each of
+/// these and each flag that a sample has, and by the nonzero rule a column of counters for each of these.
 pub(crate) fn paint_row(
     canvas: &Canvas,
     row: u32,
@@ -99,7 +94,7 @@ pub(crate) fn paint_row(
         MeetsHere polygon.now origin.now canvas.now.count i j s → (first ≤ i / 8) × (i / 8 < first + many) }
     requires parts { length flags.old ≡ parts_of canvas.now.count * (flags_by polygon.now.rule * many) }
     requires flags { AreZeros flags.old }
-    requires counted { polygon.now.rule ≡ NonZero → length counters.old ≡ many }
+    requires counted { polygon.now.rule ≡ NonZero → length counters.old ≡ parts_of canvas.now.count * many }
     requires samples { length samples.old ≡ planes_of_row canvas.now }
     ensures painted { RowsPaint triangle.now canvas.now row (row + 1)
         (MeetsHere polygon.now origin.now canvas.now.count) samples.old samples.new }

@@ -1,8 +1,7 @@
 //! The scratch memory of polygons.
 ghost use Rattle.std.specs.Prelude.{◌≡◌, ◌*◌, ◌≤◌, length};
-ghost use Rattle.canvas.specs.Layout.{columns_of};
-ghost use Rattle.polygons.specs.Cells.{AreZeros};
-ghost use Rattle.painting.specs.Parts.{flag_columns_of, AreMasksAlone};
+ghost use Rattle.polygons.specs.Cells.{AreZeros, AreMasksAlone};
+ghost use Rattle.painting.specs.Parts.{flag_columns_of, counter_columns_of};
 
 use canvas::Canvas;
 use polygons::{Flags, Rule};
@@ -13,15 +12,17 @@ pub fn flag_columns(canvas: &Canvas, rule: Rule) -> usize
     ensures value { result ≡ flag_columns_of rule canvas.now }
     ensures few { result ≤ 6144 }
 {
-    canvas.count.parts() as usize * (rule.flags() * counter_columns(canvas))
+    let blocks = 8 * canvas.column_count() as usize;
+    canvas.count.parts() as usize * (rule.flags() * blocks)
 }
 
-/// How many columns of counters such a call needs by the nonzero rule: as many as there are columns of blocks.
+/// How many columns of counters such a call needs by the nonzero rule: for each part one for each column of blocks.
 pub fn counter_columns(canvas: &Canvas) -> usize
-    ensures value { result ≡ 8 * columns_of canvas.now }
-    ensures few { result ≤ 512 }
+    ensures value { result ≡ counter_columns_of canvas.now }
+    ensures few { result ≤ 2048 }
 {
-    8 * canvas.column_count() as usize
+    let blocks = 8 * canvas.column_count() as usize;
+    canvas.count.parts() as usize * blocks
 }
 
 /// Sets all flags to 0.

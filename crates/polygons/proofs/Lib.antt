@@ -7,6 +7,7 @@ pub mod Outline
 pub mod Totals
 pub mod Windings
 pub mod Plotted
+pub mod Parts
 pub mod ByteRows
 pub mod Filling
 pub mod Masks

@@ -1,7 +1,7 @@
 -- Flags and counters of the samples of a strip, which stand where edges are first crossed. By the even-odd rule a flag says whether an odd
 -- number of edges is first crossed there. By the nonzero rule the first columns of flags are those of a first edge that runs downwards, as
 -- many further ones those of a first edge that runs upwards, and as many again those of counters in use, which count all other edges.
-use Rattle.std.specs.Prelude.{◌≡◌, ℕ, zero, suc, ◌+◌, ◌*◌, ◌/◌, ◌%◌, ◌^◌, ◌<◌, ◌≤◌, ℤ, pos, ◌+ℤ◌, ◌-ℤ◌, ◌*ℤ◌, neg_ℤ, Bool, true, false, List, length, slice_index}
+use Rattle.std.specs.Prelude.{◌≡◌, ◌↔◌, ℕ, zero, suc, ◌+◌, ◌*◌, ◌/◌, ◌%◌, ◌^◌, ◌<◌, ◌≤◌, ℤ, pos, ◌+ℤ◌, ◌-ℤ◌, ◌*ℤ◌, neg_ℤ, Bool, true, false, List, length, take, drop, slice_index}
 use Rattle.std.specs.Int.{bit_at}
 use Rattle.grid.specs.Position.{Position}
 use Rattle.grid.specs.Samples.{part_size}
@@ -14,6 +14,15 @@ use Rattle.polygons.specs.Columns.{along}
 use Rattle.polygons.specs.Rows.{sum_to, direction}
 use Rattle.polygons.specs.ManyRows.{row_of}
 use Rattle.polygons.specs.Strip.{strip_sample}
+
+-- The columns of a part. Each part of at most four samples of a pixel has n, and those of one part lie behind those of another.
+abbrev pub part_columns : List (List ℕ) → ℕ → ℕ → List (List ℕ)
+part_columns cells n part = take n (drop (part * n) cells)
+
+-- The mask of sample s of the block in a column and a row of blocks. For each part of at most four samples of a pixel there are `many`
+-- columns of words, part by part. A column has four words for each row of blocks, one for each sample.
+abbrev pub mask_at : List (List ℕ) → ℕ → ℕ → ℕ → ℕ → ℕ
+mask_at flags many column row s = slice_index (row_of flags (s / 4 * many + column)) (4 * row + s % 4)
 
 -- The word of a sample's row in a column of blocks: of each row of blocks there are four.
 abbrev pub word_of : ℕ → ℕ → ℕ
@@ -31,13 +40,15 @@ flag_of flags s row k = bit_at (slice_index (row_of flags (k / 8)) (word_of s ro
 abbrev pub counter_at : List (List ℕ) → ℕ → ℕ → ℕ → ℕ
 counter_at counters s row k = slice_index (row_of counters (k / 8)) (64 * word_of s row + bit_in_block row k)
 
--- The flags of that sample by the nonzero rule: of an edge that runs downwards, of one that runs upwards, and of its counter.
+-- The first flag of that sample by the nonzero rule, of an edge that runs downwards.
 abbrev pub down_flag : List (List ℕ) → List (List ℕ) → ℕ → ℕ → ℕ → ℕ
 down_flag flags counters s row k = flag_of flags s row k
 
+-- The second one, of an edge that runs upwards.
 abbrev pub up_flag : List (List ℕ) → List (List ℕ) → ℕ → ℕ → ℕ → ℕ
 up_flag flags counters s row k = flag_of flags s row (k + 8 * length counters)
 
+-- The third one, of a counter in use.
 abbrev pub more_flag : List (List ℕ) → List (List ℕ) → ℕ → ℕ → ℕ → ℕ
 more_flag flags counters s row k = flag_of flags s row (k + 16 * length counters)
 
@@ -92,7 +103,8 @@ abbrev pub signed : Bool → ℤ → ℤ
 signed true z = z
 signed false z = neg_ℤ z
 
--- An edge was counted at sample s of the pixel in a row and a column, by the nonzero rule: what stands there changed by 1 or -1, modulo 2 ^ 32.
+-- An edge was counted by the nonzero rule at sample s of the pixel in a row and a column. What stands there changed by 1 or -1, modulo
+-- 2 ^ 32.
 pub record IsCounted (flags counters flags' counters' : List (List ℕ)) (s row k : ℕ) (down : Bool) : Type 0 where
   pub here : IsAlike (2 ^ 32) (cell NonZero flags' counters' s row k) (cell NonZero flags counters s row k +ℤ signed down (pos 1))
   pub others : (r j m : ℕ) → r < 4 → j < 64 → m < 8 * length counters → (r ≡ s → j ≡ row → m ≡ k → ⊥) → cell NonZero flags' counters' r j m ≡ cell NonZero flags counters r j m
@@ -110,11 +122,11 @@ pub record IsAdded (rule : Rule) (s first end : ℕ) (number : ℕ → ℕ → �
   pub others : (r row k : ℕ) → r < 4 → row < 64 → k < 8 * columns_in rule flags counters → (r ≡ s → first ≤ row → row < end → ⊥) → running_sum rule flags' counters' r row k ≡ running_sum rule flags counters r row k
   pub marked : AreMarked rule flags counters → AreMarked rule flags' counters'
 
--- To the sums at each sample of a strip a number was added, which depends on where the sample lies.
-pub record IsPlotted (rule : Rule) (strip : Strip) (change : Position → ℤ) (flags counters flags' counters' : List (List ℕ)) : Type 0 where
+-- To the sums at each sample of a part of a strip a number was added, which depends on where the sample lies.
+pub record IsPlotted (rule : Rule) (strip : Strip) (part : ℕ) (change : Position → ℤ) (flags counters flags' counters' : List (List ℕ)) : Type 0 where
   pub flags_len : length flags' ≡ length flags
   pub counters_len : length counters' ≡ length counters
-  pub totals : (s row k : ℕ) → s < part_size strip.count → row < 64 → k < 8 * columns_in rule flags counters → IsAlike (modulus rule) (running_sum rule flags' counters' s row k) (running_sum rule flags counters s row k +ℤ change (strip_sample strip s row k))
+  pub totals : (s row k : ℕ) → s < part_size strip.count → row < 64 → k < 8 * columns_in rule flags counters → IsAlike (modulus rule) (running_sum rule flags' counters' s row k) (running_sum rule flags counters s row k +ℤ change (strip_sample strip (4 * part + s) row k))
   pub marked : AreMarked rule flags counters → AreMarked rule flags' counters'
 
 -- All flags are 0.
@@ -124,3 +136,13 @@ AreZeros flags = (column i : ℕ) → slice_index (row_of flags column) i ≡ 0
 -- All flags from a column on are 0.
 abbrev pub AreZerosFrom : ℕ → List (List ℕ) → Type 0
 AreZerosFrom first flags = (column i : ℕ) → first ≤ column → slice_index (row_of flags column) i ≡ 0
+
+-- Of each part's columns those from this one on are zeros. A part has `each` of them.
+abbrev pub AreMasksAlone : ℕ → ℕ → List (List ℕ) → Type 0
+AreMasksAlone many each flags = (part column i : ℕ) → many ≤ column → column < each → slice_index (row_of flags (part * each + column)) i ≡ 0
+
+-- Each bit of these masks says whether the sum of its row up to it is other than 0.
+abbrev pub AreSumMasks : Rule → List (List ℕ) → List (List ℕ) → List (List ℕ) → Type 0
+AreSumMasks rule flags counters masks =
+    (s row k : ℕ) → s < 4 → row < 64 → k < 8 * columns_in rule flags counters
+    → ((flag_of masks s row k ≡ 1) ↔ (IsAlike (modulus rule) (running_sum rule flags counters s row k) (pos 0) → ⊥))

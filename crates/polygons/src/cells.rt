@@ -1,4 +1,4 @@
-//! The flags and counters of a strip's samples, by columns of blocks. A column has 32 words of flags: of each of its
+//! The flags and counters of a part of a strip's samples, by columns of blocks. A column has 32 words of flags: of each of its
 //! eight blocks one for each of four samples, whose bit 8 * row + column is that of a pixel. By the nonzero rule there
 //! are three times as many columns of flags: of a first edge that runs downwards, of a first one that runs upwards, and
 //! of counters in use. Most samples need no counter, so few of these are ever read. There are 64 for each word, one for
@@ -6,7 +6,7 @@
 ghost use Rattle.std.specs.Prelude.{◌≡◌, ℕ, ◌+◌, ◌*◌, ◌%◌, ◌^◌, ◌<◌, pos, negsuc, ◌+ℤ◌, cond, length};
 ghost use Rattle.polygons.specs.Rows.{from_column};
 ghost use Rattle.polygons.specs.declared.rule.Rule.TheVariants.{NonZero};
-ghost use Rattle.polygons.specs.Cells.{flag_of, counter_at, more_flag, in_use, columns_in, signed, HasCounters, IsCounted, IsAdded};
+ghost use Rattle.polygons.specs.Cells.{flags_by, flag_of, counter_at, more_flag, in_use, signed, HasCounters, IsCounted, IsAdded};
 
 use crate::rule::Rule;
 
@@ -16,26 +16,21 @@ pub type Flags = [u64; 32];
 /// The counters of a column of blocks.
 pub type Counters = [u32; 2048];
 
-/// The flags and counters of a strip, and the rule by which edges count there.
+/// The flags and counters of a strip, and the rule by which edges count there. Each part of at most four samples of a
+/// pixel has columns of its own, and those of one part lie behind those of another.
 #[derive(Drop)]
 pub(crate) struct Cells<'a> {
     pub rule: Rule,
+    /// How many columns of blocks there are.
+    pub columns: usize,
+    /// How many columns of flags a part has: one for each column of blocks and each flag that a sample has.
+    pub flagged: usize,
+    /// How many columns of counters a part has: as many as of blocks by the nonzero rule, none by the even-odd rule.
+    pub counted: usize,
     pub flags: &'a mut [Flags],
     pub counters: &'a mut [Counters],
-    pub ghost columns: { rule ≡ NonZero → length flags.now ≡ 3 * length counters.now },
-}
-
-impl Cells<'_> {
-    /// How many columns of blocks there are.
-    #[inline(always)]
-    pub(crate) fn columns(&self) -> usize
-        ensures { result ≡ columns_in self.now.rule self.now.flags.now self.now.counters.now }
-    {
-        match self.rule {
-            Rule::EvenOdd => self.flags.len(),
-            Rule::NonZero => self.counters.len(),
-        }
-    }
+    pub ghost all_flags: { flagged ≡ flags_by rule * columns },
+    pub ghost all_counters: { rule ≡ NonZero → counted ≡ columns },
 }
 
 /// The word of a sample's row.

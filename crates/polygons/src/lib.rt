@@ -41,4 +41,4 @@ pub use rings::Rings;
 pub use rule::Rule;
 pub use runs::Runs;
 pub use strip::Strip;
-pub use strip_masks::cover_strip;
+pub use strip_masks::cover_parts;

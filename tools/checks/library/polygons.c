@@ -225,8 +225,8 @@ static void compare_scratch(void) {
     report("scratch memory that is too small, misaligned or not there is refused");
 }
 
-// The size of scratch memory: flags for each part of at most four samples of a pixel, three times by the nonzero rule, and
-// counters once.
+// The size of scratch memory: flags for each part of at most four samples of a pixel, and by the nonzero rule three times
+// as many and counters.
 static void compare_scratch_sizes(void) {
     static const uint32_t counts[] = {0, 1, 2, 4, 8, 16};
     static const size_t parts[] = {1, 1, 1, 1, 2, 4};
@@ -234,11 +234,11 @@ static void compare_scratch_sizes(void) {
         const trirast_canvas canvas = {.width = WIDTH, .height = HEIGHT, .samples = counts[k]};
         expect(trirast_polygons_scratch(&canvas, TRIRAST_FILL_EVEN_ODD) == 16 * 256 * parts[k],
                "flags for %u samples", counts[k]);
-        expect(trirast_polygons_scratch(&canvas, TRIRAST_FILL_NONZERO) == 16 * (768 * parts[k] + 8192),
+        expect(trirast_polygons_scratch(&canvas, TRIRAST_FILL_NONZERO) == 16 * (3 * 256 + 8192) * parts[k],
                "flags and counters for %u samples", counts[k]);
     }
-    report("scratch memory has flags for each part of at most four samples, three times by the nonzero rule, and "
-           "counters once");
+    report("scratch memory has flags for each part of at most four samples, and by the nonzero rule three times as many "
+           "and counters");
 }
 
 static void compare_messages(void) {

@@ -11,12 +11,12 @@ use Rattle.canvas.specs.declared.canvas.Canvas.{Canvas}
 use Rattle.grid.specs.Samples.{parts_of, pattern_of}
 use Rattle.grid.specs.declared.sample_count.SampleCount.{SampleCount}
 use Rattle.painting.specs.Painting.{ArePainted, IsOriginInBand}
-use Rattle.painting.specs.Parts.{flag_columns_of}
+use Rattle.painting.specs.Parts.{flag_columns_of, counter_columns_of}
 use Rattle.c_abi.specs.declared.status.Status.{Status}
 use Rattle.c_abi.specs.declared.status.Status.TheVariants.{BadBatch, BadPosition, BadStructSize, BufferTooSmall}
 use Rattle.c_abi.specs.Sizes.{IsOwnSize}
 use Rattle.canvas_c.specs.Pieces.{has_alpha, piece_checks}
-use Rattle.canvas_c.specs.PolygonChecks.{origin_of, rule_of, columns_of_blocks, flag_columns_listed, shapes_listed, AreGood, HasScratch}
+use Rattle.canvas_c.specs.PolygonChecks.{origin_of, rule_of, columns_of_blocks, flag_columns_listed, counter_columns_listed, shapes_listed, AreGood, HasScratch}
 use Rattle.canvas_c.specs.declared.polygon_arrays.PolygonArrays.{PolygonArrays}
 use Rattle.canvas_c.specs.declared.piece.CanvasHead.{CanvasHead}
 use Rattle.canvas_c.proofs.Ended.{piece_fault}
@@ -32,7 +32,7 @@ later_checks head ids a flags counters =
 
 -- as many columns of flags, and of counters if they are needed
 abbrev IsEnough : CanvasHead → PolygonArrays → ℕ → ℕ → Type 0
-IsEnough head a flags counters = (flag_columns_listed head a ≤ flags) × ((a.fill_rule ≡ 0) ⊎ (columns_of_blocks head.width ≤ counters))
+IsEnough head a flags counters = (flag_columns_listed head a ≤ flags) × ((a.fill_rule ≡ 0) ⊎ (counter_columns_listed head ≤ counters))
 
 scratch_of : (head : CanvasHead) (a : PolygonArrays) (flags counters : ℕ) → IsEnough head a flags counters → HasScratch head a flags counters
 scratch_of head a flags counters h = record { enough_flags = h.0; enough_counters = h.1 }
@@ -46,6 +46,9 @@ even_odd e = cc
 -- the columns of the canvas that the caller names
 same_flags : (canvas : Canvas) (head : CanvasHead) (a : PolygonArrays) (rule : Rule) → {n : ℕ} → canvas.width ≡ head.width → canvas.count ≡ pattern_of head.samples → rule ≡ rule_of a.fill_rule → n ≡ flag_columns_of rule canvas → n ≡ flag_columns_listed head a
 same_flags canvas head a rule w m r e = e ∙ (λ i. parts_of (m i) * (flags_by (r i) * columns_of_blocks (w i)))
+
+same_counters : (canvas : Canvas) (head : CanvasHead) → {n : ℕ} → canvas.width ≡ head.width → canvas.count ≡ pattern_of head.samples → n ≡ counter_columns_of canvas → n ≡ counter_columns_listed head
+same_counters canvas head w m e = e ∙ (λ i. parts_of (m i) * columns_of_blocks (w i))
 
 pub returns-in_err-rows-clause-judged : goal.returns-in_err-rows-clause-judged
 returns-in_err-rows-clause-judged c =
@@ -94,7 +97,7 @@ returns-then-not-has_scratch-clause-judged c =
     let sees : IsTrue c.is_in_band.result ↔ IsOriginInBand (origin_of head) = rw (to_z-of_z w32 head.origin_x x, to_z-of_z w32 head.origin_y y) at c.is_in_band.ensures in
     let band : IsOriginInBand (origin_of head) = sees.0 (search rules) in
     let are = c.in_ok-rows.ensures.judged.1 in
-    let counted : c.counter_columns-counted.result ≡ columns_of_blocks head.width = c.counter_columns-counted.ensures.value ∙ ap (λ w. 8 * ((w + 63) / 64)) are.width in
+    let counted : c.counter_columns-counted.result ≡ counter_columns_listed head = same_counters c.in_ok-rows.rows.canvas head are.width are.count c.counter_columns-counted.ensures.value in
     let flagged : c.flag_columns-flagged.result ≡ flag_columns_listed head a = same_flags c.in_ok-rows.rows.canvas head a _ are.width are.count c.rule_of-rule.ensures c.flag_columns-flagged.ensures.value in
     let enough : IsTrue c.has_scratch.result ↔ IsEnough head a flags counters = rw (flagged, counted) at c.has_scratch.ensures in
     let lacks : ¬ IsEnough head a flags counters = search rules in
@@ -115,7 +118,7 @@ returns-in-Err-clause-judged c =
     let sees : IsTrue c.is_in_band.result ↔ IsOriginInBand (origin_of head) = rw (to_z-of_z w32 head.origin_x x, to_z-of_z w32 head.origin_y y) at c.is_in_band.ensures in
     let band : IsOriginInBand (origin_of head) = sees.0 (search rules) in
     let are = c.in_ok-rows.ensures.judged.1 in
-    let counted : c.counter_columns-counted.result ≡ columns_of_blocks head.width = c.counter_columns-counted.ensures.value ∙ ap (λ w. 8 * ((w + 63) / 64)) are.width in
+    let counted : c.counter_columns-counted.result ≡ counter_columns_listed head = same_counters c.in_ok-rows.rows.canvas head are.width are.count c.counter_columns-counted.ensures.value in
     let flagged : c.flag_columns-flagged.result ≡ flag_columns_listed head a = same_flags c.in_ok-rows.rows.canvas head a _ are.width are.count c.rule_of-rule.ensures c.flag_columns-flagged.ensures.value in
     let enough : IsTrue c.has_scratch.result ↔ IsEnough head a flags counters = rw (flagged, counted) at c.has_scratch.ensures in
     let scratch = scratch_of head a flags counters (enough.0 (search rules)) in
@@ -148,7 +151,7 @@ returns-clause-judged c =
     let sees : IsTrue c.is_in_band.result ↔ IsOriginInBand (origin_of head) = rw (to_z-of_z w32 head.origin_x x, to_z-of_z w32 head.origin_y y) at c.is_in_band.ensures in
     let band : IsOriginInBand (origin_of head) = sees.0 (search rules) in
     let are = c.in_ok-rows.ensures.judged.1 in
-    let counted : c.counter_columns-counted.result ≡ columns_of_blocks head.width = c.counter_columns-counted.ensures.value ∙ ap (λ w. 8 * ((w + 63) / 64)) are.width in
+    let counted : c.counter_columns-counted.result ≡ counter_columns_listed head = same_counters c.in_ok-rows.rows.canvas head are.width are.count c.counter_columns-counted.ensures.value in
     let flagged : c.flag_columns-flagged.result ≡ flag_columns_listed head a = same_flags c.in_ok-rows.rows.canvas head a _ are.width are.count c.rule_of-rule.ensures c.flag_columns-flagged.ensures.value in
     let enough : IsTrue c.has_scratch.result ↔ IsEnough head a flags counters = rw (flagged, counted) at c.has_scratch.ensures in
     let scratch = scratch_of head a flags counters (enough.0 (search rules)) in

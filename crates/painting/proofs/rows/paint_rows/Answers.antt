@@ -70,7 +70,7 @@ paint_row-requires-clause-held c i j s h m =
     (inside.0, omega (arith, inside.1, c.if-window.false))
 
 pub paint_row-requires-clause-flags : goal.paint_row-requires-clause-flags
-paint_row-requires-clause-flags c = zeros_of_part c.loop-row.flags (c.parts.result * (c.flags.result * (c.of-window.result.right - c.of-window.result.left))) c.loop-row.invariant.flags
+paint_row-requires-clause-flags c = zeros_of_part c.loop-row.flags (c.parts-parts.result * (c.flags.result * (c.of-window.result.right - c.of-window.result.left))) c.loop-row.invariant.flags
 
 pub loop-row-preserved : goal.loop-row-preserved
 loop-row-preserved c =
@@ -86,9 +86,9 @@ loop-row-preserved c =
     let many : a + each - a ≡ planes_of_row rows.canvas = omega (arith, c.planes_of_row-each.ensures.value) in
     let at : a ≡ (row - rows.first) * planes_of_row rows.canvas = ap (λ n. (row - rows.first) * n) c.planes_of_row-each.ensures.value in
     let room = part_within (row - rows.first) (rows.end - rows.first) (planes_of_row rows.canvas) (omega (arith, from, below)) in
-    let flagged : ℕ = c.parts.result * (c.flags.result * (w.right - w.left)) in
+    let flagged : ℕ = c.parts-parts.result * (c.flags.result * (w.right - w.left)) in
     let flags_fit : flagged ≤ length c.loop-row.flags =
-    enough_flags rows.canvas.count polygon.rule c.parts.result c.flags.result (w.right - w.left) (8 * columns_of rows.canvas) (length c.loop-row.flags) c.parts.ensures c.flags.ensures.value (omega (arith, c.of-window.ensures.columns)) (omega (arith, c.requires.columns, c.loop-row.auto.flags)) in
+    enough_flags rows.canvas.count polygon.rule c.parts-parts.result c.flags.result (w.right - w.left) (8 * columns_of rows.canvas) (length c.loop-row.flags) c.parts-parts.ensures c.flags.ensures.value (omega (arith, c.of-window.ensures.columns)) (omega (arith, c.requires.columns, c.loop-row.auto.flags)) in
     record {
       painted = one_row_more c.new-triangle.result rows.canvas rows.first rows.end row from (MeetsHere polygon origin rows.canvas.count) c.loop-row.samples c.paint_row.new.samples (a + each - a) a
           (omega (arith, room, many, at, c.requires.samples, c.loop-row.auto.samples)) (omega (arith, c.paint_row.auto.samples, room, many, at, c.requires.samples, c.loop-row.auto.samples)) many at c.paint_row.ensures.painted c.args.samples.now c.loop-row.invariant.painted;

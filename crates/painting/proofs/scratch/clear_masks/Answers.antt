@@ -4,8 +4,7 @@ use Rattle.std.proofs.lemmas.List.{length-take, length-drop}
 use Rattle.polygons.specs.ManyRows.{row_of}
 use Rattle.canvas.proofs.Cut.{put, put_here, put_elsewhere}
 use Rattle.canvas.proofs.Places.{part_within}
-use Rattle.painting.proofs.RowMasks.{apart_part, next_part}
-use Rattle.painting.proofs.Zeros.{all}
+use Rattle.painting.proofs.Zeros.{all, apart_part, next_part}
 use Rattle.painting.proofs.scratch.clear_masks.Goals as goal
 
 pub loop-part-preserved : goal.loop-part-preserved

@@ -1,6 +1,6 @@
 use Rattle.std.proofs.Common.{◌≡◌, ℕ, ◌*◌, ◌<◌, slice_index}
 use Rattle.polygons.specs.ManyRows.{row_of}
-use Rattle.painting.specs.Parts.{AreMasksAlone}
+use Rattle.polygons.specs.Cells.{AreMasksAlone}
 use Rattle.painting.proofs.scratch.clear_masks.Given as goal
 
 abbrev pub invariant-loop-part : goal.invariant-loop-part
