@@ -676,21 +676,22 @@ typedef struct trirast_polygons {
                                      * may run either way round */
 } trirast_polygons;
 
-/* Scratch memory of a column of 8 pixels of a canvas, in bytes: the flags of a part of at most four samples of a pixel,
- * and by the nonzero rule its counters. */
+/* Scratch memory of a part of at most four samples of a pixel in a column of 8 pixels of a canvas, in bytes: one flag of
+ * each sample, and by the nonzero rule its counters. */
 #define TRIRAST_FLAGS_BYTES 256
 #define TRIRAST_COUNTERS_BYTES 8192
 
 /* Returns the bytes of scratch memory of a call that draws polygons by this rule on this canvas: for each 8 pixels of
  * its width, rounded up to whole tiles, 256 bytes for each part of at most four samples of a pixel, and by the nonzero
- * rule 8,192 more. So for 1,024 pixels that is 32 KB or 1 MB, and with 16 samples 128 KB or 1.1 MB. Returns 0 if there
- * is no such canvas. */
+ * rule 2 * 256 + 8,192 more for each part. So for 1,024 pixels that is 32 KB or 1.1 MB, and with 16 samples 128 KB or
+ * 4.6 MB. Returns 0 if there is no such canvas. */
 inline size_t trirast_polygons_scratch(const trirast_canvas *canvas, trirast_fill_rule fill_rule) {
     const size_t columns =
         ((size_t)canvas->width + TRIRAST_TILE_SIZE - 1) / TRIRAST_TILE_SIZE * (TRIRAST_TILE_SIZE / 8);
-    const size_t flags = columns * (canvas->samples > 4 ? canvas->samples / 4 : 1) * TRIRAST_FLAGS_BYTES;
+    const size_t of_parts = columns * (canvas->samples > 4 ? canvas->samples / 4 : 1);
     if (trirast_canvas_size(canvas) == 0) return 0;
-    return fill_rule == TRIRAST_FILL_EVEN_ODD ? flags : flags + columns * TRIRAST_COUNTERS_BYTES;
+    return of_parts * (fill_rule == TRIRAST_FILL_EVEN_ODD ? TRIRAST_FLAGS_BYTES
+                                                          : 3 * TRIRAST_FLAGS_BYTES + TRIRAST_COUNTERS_BYTES);
 }
 
 trirast_status trirast_proved_canvas_draw_polygons(trirast_canvas *canvas, const trirast_polygons *polygons,
@@ -703,8 +704,9 @@ trirast_status trirast_proved_canvas_draw_polygons(trirast_canvas *canvas, const
  * @canvas: the tile rows. Threads may draw the same polygons on pieces of a canvas, each with scratch
  * memory of its own.
  * @polygons: what is drawn on them.
- * @scratch: memory that the call uses, aligned to 8. What is in it before does not matter. After TRIRAST_STATUS_OK its
- *     first trirast_polygons_scratch(canvas, polygons->fill_rule) bytes are zeros; otherwise it is unchanged.
+ * @scratch: memory that the call uses, aligned to 8. What is in it before does not matter. What is in its first
+ *     trirast_polygons_scratch(canvas, polygons->fill_rule) bytes after TRIRAST_STATUS_OK is unspecified; otherwise it is
+ *     unchanged.
  * @scratch_size: its bytes: at least that number.
  * @error: why nothing was drawn, or NULL.
  *
@@ -726,7 +728,8 @@ trirast_status trirast_proved_canvas_draw_polygons(trirast_canvas *canvas, const
  * - TRIRAST_BATCH_TOO_FEW_DEPTHS if there are depths, but fewer than polygons. */
 inline trirast_status trirast_canvas_draw_polygons(trirast_canvas *canvas, const trirast_polygons *polygons,
                                                    void *scratch, size_t scratch_size, trirast_error *error) {
-    const size_t flags = trirast_polygons_scratch(canvas, TRIRAST_FILL_EVEN_ODD);
+    const size_t each = polygons->fill_rule == TRIRAST_FILL_EVEN_ODD ? 1 : 3;
+    const size_t flags = each * trirast_polygons_scratch(canvas, TRIRAST_FILL_EVEN_ODD);
     const size_t size = trirast_polygons_scratch(canvas, (trirast_fill_rule)polygons->fill_rule);
     const int fits = (uintptr_t)scratch % 8 == 0 && scratch_size >= size;
     /* Scratch memory of no bytes may be NULL, to which nothing is added. */
@@ -751,7 +754,8 @@ trirast_status trirast_proved_canvas_draw_polygon_ids(trirast_canvas *canvas, co
 inline trirast_status trirast_canvas_draw_polygon_ids(trirast_canvas *canvas, const trirast_polygons *polygons,
                                                       uint32_t first_id, void *scratch, size_t scratch_size,
                                                       trirast_error *error) {
-    const size_t flags = trirast_polygons_scratch(canvas, TRIRAST_FILL_EVEN_ODD);
+    const size_t each = polygons->fill_rule == TRIRAST_FILL_EVEN_ODD ? 1 : 3;
+    const size_t flags = each * trirast_polygons_scratch(canvas, TRIRAST_FILL_EVEN_ODD);
     const size_t size = trirast_polygons_scratch(canvas, (trirast_fill_rule)polygons->fill_rule);
     const int fits = (uintptr_t)scratch % 8 == 0 && scratch_size >= size;
     /* Scratch memory of no bytes may be NULL, to which nothing is added. */

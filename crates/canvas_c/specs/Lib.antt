@@ -63,7 +63,8 @@
 --   AreGood: The polygons can be drawn, in their colours or by ids.
 --   columns_of_blocks: How many columns of blocks a canvas of this width has.
 --   flag_columns_listed: How many columns of flags polygons on the canvas need.
---   HasScratch: The scratch memory has as many columns of flags, and by the nonzero rule a column of counters for each column of blocks.
+--   counter_columns_listed: How many columns of counters they need by the nonzero rule.
+--   HasScratch: The scratch memory has as many columns of flags, and by the nonzero rule of counters.
 --   polygons_checks: The checks of a call that draws polygons.
 --   array_fault: What is wrong with arrays of polygons, by its number and with the index of the ring, the polygon or the corner.
 --   colours_cause: There are too few colours, or an id would have more than 24 bits.

@@ -7,6 +7,7 @@ use Rattle.batch.specs.Causes.{number_of}
 use Rattle.batch.specs.States.{state_checks}
 use Rattle.model.specs.Checking.{Checks, done, check, followed_by, reported_as, Pass, FirstIs}
 use Rattle.polygons.specs.Arrays.{ArePolygons, IsWrong}
+use Rattle.polygons.specs.Cells.{flags_by}
 use Rattle.polygons.specs.declared.arrays.ArraysError.{ArraysError}
 use Rattle.polygons.specs.declared.arrays.ArraysError.TheVariants.{TooManyCorners, Ring, CornersLeft, Polygon, RingsLeft, OutOfBand}
 use Rattle.polygons.specs.declared.rule.Rule.{Rule}
@@ -53,15 +54,19 @@ pub record AreGood (ids : Option ℕ) (a : PolygonArrays) : Type 0 where
 abbrev pub columns_of_blocks : ℕ → ℕ
 columns_of_blocks width = 8 * ((width + 63) / 64)
 
--- How many columns of flags polygons on the canvas need. For each part of at most four samples of a pixel there are as many as columns of
--- blocks. 0 samples are one.
-abbrev pub flag_columns_listed : CanvasHead → ℕ
-flag_columns_listed head = parts_of (pattern_of head.samples) * columns_of_blocks head.width
+-- How many columns of flags polygons on the canvas need. For each part of at most four samples of a pixel there is one for each column of
+-- blocks and each flag that a sample has by the rule. 0 samples are one.
+abbrev pub flag_columns_listed : CanvasHead → PolygonArrays → ℕ
+flag_columns_listed head a = parts_of (pattern_of head.samples) * (flags_by (rule_of a.fill_rule) * columns_of_blocks head.width)
 
--- The scratch memory has as many columns of flags, and by the nonzero rule a column of counters for each column of blocks.
+-- How many columns of counters they need by the nonzero rule. For each part there is one for each column of blocks.
+abbrev pub counter_columns_listed : CanvasHead → ℕ
+counter_columns_listed head = parts_of (pattern_of head.samples) * columns_of_blocks head.width
+
+-- The scratch memory has as many columns of flags, and by the nonzero rule of counters.
 pub record HasScratch (head : CanvasHead) (a : PolygonArrays) (flags counters : ℕ) : Type 0 where
-  pub enough_flags : flag_columns_listed head ≤ flags
-  pub enough_counters : (a.fill_rule ≡ 0) ⊎ (columns_of_blocks head.width ≤ counters)
+  pub enough_flags : flag_columns_listed head a ≤ flags
+  pub enough_counters : (a.fill_rule ≡ 0) ⊎ (counter_columns_listed head ≤ counters)
 
 -- The checks of a call that draws polygons.
 abbrev pub polygons_checks : CanvasHead → ℕ → Option ℕ → PolygonArrays → ℕ → ℕ → Checks Status

@@ -10,7 +10,7 @@ use crate::polygon_arrays::{PolygonArrays, is_in_band, rule_of};
 use c_abi::{CallError, Error, Status, report};
 use canvas::Origin;
 use lanes::BlockSamples;
-use painting::{Style, clear, clear_counters, counter_columns, draw_polygons, flag_columns};
+use painting::{Style, clear, counter_columns, draw_polygons, flag_columns};
 use polygons::{Counters, Flags};
 
 /// Draws polygons, in their colours or by ids.
@@ -40,7 +40,8 @@ fn draw_into(
     if !is_in_band(&origin) {
         return Err(CallError::from(Status::BadPosition));
     }
-    let flagged = flag_columns(&rows.canvas);
+    let rule = rule_of(arrays.fill_rule);
+    let flagged = flag_columns(&rows.canvas, rule);
     let counted = counter_columns(&rows.canvas);
     if !arrays.has_scratch(flagged, counted, flags.len(), counters.len()) {
         return Err(CallError::from(Status::BufferTooSmall));
@@ -50,7 +51,7 @@ fn draw_into(
         Err(fault) => return Err(CallError::of_batch(fault)),
     };
     let style = Style {
-        rule: rule_of(arrays.fill_rule),
+        rule,
         colours: arrays.colours,
         depths: arrays.depths,
         ids,
@@ -60,7 +61,6 @@ fn draw_into(
     clear(flags);
     let counted = counted.min(counters.len());
     let counters = &mut counters[..counted];
-    clear_counters(counters);
     let mut piece = rows.over(planes);
     draw_polygons(&mut piece, &polygons, &style, &origin, flags, counters);
     Ok(())

@@ -1,16 +1,15 @@
 -- What the bits of a tile row's masks say.
-use Rattle.std.proofs.Common.{◌≡◌, ◌↔◌, inl, inr, sym, subst, ap, ◌∙◌, arith, ℕ, ◌+◌, ◌-◌, ◌*◌, ◌/◌, ◌%◌, ◌^◌, ◌<◌, ◌≤◌, List, [], length, slice_index, IsBitSet, ℤ, pos, ◌+ℤ◌, ◌*ℤ◌}
-use Rattle.std.proofs.lemmas.Bool.{cases_lt}
+use Rattle.std.proofs.Common.{◌≡◌, ◌↔◌, subst, arith, ℕ, ◌+◌, ◌-◌, ◌*◌, ◌/◌, ◌%◌, ◌^◌, ◌<◌, ◌≤◌, List, slice_index, IsBitSet, ℤ, pos, ◌+ℤ◌, ◌*ℤ◌}
 use Rattle.std.proofs.lemmas.Int.{ints, clamps}
 use Rattle.std.specs.Int.{bit_at}
 use Rattle.grid.specs.Position.{Position}
-use Rattle.grid.specs.Samples.{part_size, offsets_x, offsets_y}
+use Rattle.grid.specs.Samples.{count_of, offsets_x, offsets_y}
 use Rattle.grid.specs.declared.sample_count.SampleCount.{SampleCount}
 use Rattle.lanes.specs.declared.block_samples.BlockSamples.{BlockSamples}
 use Rattle.shade.specs.declared.state.State.{State}
 use Rattle.polygons.specs.declared.strip.Strip.{Strip}
 use Rattle.polygons.specs.Blocks.{in_block, IsBlockMask}
-use Rattle.polygons.specs.ManyRows.{row_of}
+use Rattle.polygons.specs.Cells.{mask_at}
 use Rattle.polygons.specs.Polygon.{PolygonCovers, polygon_edges}
 use Rattle.polygons.specs.Rings.{rings_from}
 use Rattle.polygons.specs.Screen.{screen_sample}
@@ -21,14 +20,11 @@ use Rattle.canvas.specs.declared.canvas.Canvas.{Canvas}
 use Rattle.canvas.specs.declared.window.Origin.{Origin}
 use Rattle.canvas.specs.Layout.{IsStoredIn, columns_of}
 use Rattle.canvas.specs.Window.{moved_state}
-use Rattle.canvas.proofs.Cut.{put, put_here, put_elsewhere}
-use Rattle.canvas.proofs.Places.{part_within}
 use Rattle.painting.specs.declared.masks.Masks.{Masks}
 use Rattle.painting.specs.declared.polygon.Polygon.{Polygon}
 use Rattle.painting.specs.Painting.{IsInScissor, shape_of}
-use Rattle.painting.specs.Parts.{over_screen, mask_at, AreMasksOfRow, IsFlagged, MeetsHere, RowsPaint}
+use Rattle.painting.specs.Parts.{over_screen, AreMasksOfRow, IsFlagged, MeetsHere, RowsPaint}
 use Rattle.painting.proofs.Joined.{rows_same}
-use Rattle.painting.proofs.SampleParts.{part_end}
 
 -- the state as seen from the origin lets the same samples be drawn
 allows_here : (state : State) (x y : ℤ) (i j s : ℕ) → i < 4096 → j < 4096 → Allows (moved_state x y state) i j s → IsInScissor state.scissor (pos i +ℤ x) (pos j +ℤ y)
@@ -53,17 +49,15 @@ here_allows state x y i j s h l q m = record {
 }
 
 -- where a bit's sample lies
-place_of : (strip : Strip) (origin : Origin) (count : SampleCount) (first row from i j s : ℕ) → strip.column ≡ origin.x +ℤ pos (8 * first) → strip.row ≡ origin.y +ℤ pos (64 * row) → strip.count ≡ count → strip.from ≡ from
-    → first ≤ i / 8 → j / 64 ≡ row → from ≤ s
-    → in_block (strip_sample strip (s - from) (8 * (j % 64 / 8)) (8 * (i / 8 - first))) (j % 8) (i % 8) ≡ screen_sample (pos i +ℤ origin.x) (pos j +ℤ origin.y) s count
-place_of strip origin count first row from i j s across down same begins left line low =
-    let index : strip.from + (s - from) ≡ s = omega (arith, begins, low) in
-    let ox : slice_index (offsets_x strip.count) (strip.from + (s - from)) ≡ slice_index (offsets_x count) s = λ k. slice_index (offsets_x (same k)) (index k) in
-    let oy : slice_index (offsets_y strip.count) (strip.from + (s - from)) ≡ slice_index (offsets_y count) s = λ k. slice_index (offsets_y (same k)) (index k) in
-    let x : ((pos 256 *ℤ strip.column +ℤ pos (slice_index (offsets_x strip.count) (strip.from + (s - from)))) +ℤ pos 256 *ℤ pos (8 * (i / 8 - first))) +ℤ pos 256 *ℤ pos (i % 8)
-    ≡ pos 256 *ℤ (pos i +ℤ origin.x) +ℤ pos (slice_index (offsets_x count) s) = at_x strip.column origin.x first i (slice_index (offsets_x strip.count) (strip.from + (s - from))) (slice_index (offsets_x count) s) across ox left in
-    let y : ((pos 256 *ℤ strip.row +ℤ pos (slice_index (offsets_y strip.count) (strip.from + (s - from)))) +ℤ pos (256 * (8 * (j % 64 / 8)))) +ℤ pos (256 * (j % 8))
-    ≡ pos 256 *ℤ (pos j +ℤ origin.y) +ℤ pos (slice_index (offsets_y count) s) = at_y strip.row origin.y row j (slice_index (offsets_y strip.count) (strip.from + (s - from))) (slice_index (offsets_y count) s) down oy line in
+place_of : (strip : Strip) (origin : Origin) (count : SampleCount) (first row i j s : ℕ) → strip.column ≡ origin.x +ℤ pos (8 * first) → strip.row ≡ origin.y +ℤ pos (64 * row) → strip.count ≡ count → first ≤ i / 8 → j / 64 ≡ row
+    → in_block (strip_sample strip s (8 * (j % 64 / 8)) (8 * (i / 8 - first))) (j % 8) (i % 8) ≡ screen_sample (pos i +ℤ origin.x) (pos j +ℤ origin.y) s count
+place_of strip origin count first row i j s across down same left line =
+    let ox : slice_index (offsets_x strip.count) s ≡ slice_index (offsets_x count) s = λ k. slice_index (offsets_x (same k)) s in
+    let oy : slice_index (offsets_y strip.count) s ≡ slice_index (offsets_y count) s = λ k. slice_index (offsets_y (same k)) s in
+    let x : ((pos 256 *ℤ strip.column +ℤ pos (slice_index (offsets_x strip.count) s)) +ℤ pos 256 *ℤ pos (8 * (i / 8 - first))) +ℤ pos 256 *ℤ pos (i % 8) ≡ pos 256 *ℤ (pos i +ℤ origin.x) +ℤ pos (slice_index (offsets_x count) s) =
+    at_x strip.column origin.x first i (slice_index (offsets_x strip.count) s) (slice_index (offsets_x count) s) across ox left in
+    let y : ((pos 256 *ℤ strip.row +ℤ pos (slice_index (offsets_y strip.count) s)) +ℤ pos (256 * (8 * (j % 64 / 8)))) +ℤ pos (256 * (j % 8)) ≡ pos 256 *ℤ (pos j +ℤ origin.y) +ℤ pos (slice_index (offsets_y count) s) =
+    at_y strip.row origin.y row j (slice_index (offsets_y strip.count) s) (slice_index (offsets_y count) s) down oy line in
     λ k. record { x = x k; y = y k }
   where
     at_x : (column x : ℤ) (first i o p : ℕ) → column ≡ x +ℤ pos (8 * first) → o ≡ p → first ≤ i / 8
@@ -74,71 +68,22 @@ place_of strip origin count first row from i j s across down same begins left li
         → ((pos 256 *ℤ line +ℤ pos o) +ℤ pos (256 * (8 * (j % 64 / 8)))) +ℤ pos (256 * (j % 8)) ≡ pos 256 *ℤ (pos j +ℤ y) +ℤ pos p
     at_y line y row j o p e f l = omega (arith, ints)
 
--- ---- the masks of one part more
--- a column of a part before this one
-in_part : (k part column many : ℕ) → k < part → column < many → k * many + column < part * many
-in_part k part column many h l = let room = part_within k part many h in omega (arith, room, l)
-
-module _ (polygon : Polygon) (origin : Origin) (c : Canvas) (row first many : ℕ) where
-  -- bit s of the masks says whether the polygon covers the sample
-  abbrev Says : List (List ℕ) → ℕ → ℕ → ℕ → Type 0
-  Says flags i j s =
-      IsBitSet (mask_at flags many (i / 8 - first) (j % 64 / 8) s) (8 * (j % 8) + i % 8)
-      ↔ PolygonCovers polygon.rule (shape_of polygon).rings (screen_sample (pos i +ℤ origin.x) (pos j +ℤ origin.y) s c.count)
-
-  -- the masks of the first parts
-  abbrev pub AreMasksTo : ℕ → List (List ℕ) → Type 0
-  AreMasksTo part flags = (i j s : ℕ) → IsStoredIn c row (row + 1) i j s → first ≤ i / 8 → i / 8 < first + many → s < 4 * part → Says flags i j s
-
-  module _ (strip : Strip) (part n : ℕ) (mid new : List (List ℕ)) (across : strip.column ≡ origin.x +ℤ pos (8 * first)) (down : strip.row ≡ origin.y +ℤ pos (64 * row)) (same : strip.count ≡ c.count)
-      (begins : strip.from ≡ 4 * part) (fits : part * many + n ≤ length mid) (long : length new ≡ n) (is_many : n ≡ many)
-      (masks : (s row column : ℕ) → s < part_size strip.count → row < 8 → column < many
-      → IsBlockMask polygon.rule (polygon_edges (rings_from polygon.rings.corners.now polygon.rings.start polygon.rings.ends.now)) (strip_sample strip s (8 * row) (8 * column)) (slice_index (row_of new column) (4 * row + s))) where
-    abbrev all : List (List ℕ)
-    all = put mid new (part * many) n
-
-    module _ (i j s : ℕ) (h : IsStoredIn c row (row + 1) i j s) (left : first ≤ i / 8) (right : i / 8 < first + many) where
-      abbrev column : ℕ
-      column = i / 8 - first
-
-      abbrev word : ℕ
-      word = 4 * (j % 64 / 8) + s % 4
-
-      narrow : column < many
-      narrow = omega (arith, left, right)
-
-      -- in this part
-      here : 4 * part ≤ s → s < 4 * (part + 1) → Says all i j s
-      here low high =
-          let line : j / 64 ≡ row = (let lower = h.from in let below = h.below in omega (arith, lower, below)) in
-          let end = part_end c.count part s h.is_sample high in
-          let index : s % 4 ≡ s - 4 * part = omega (arith, low, high) in
-          let quarter : s / 4 ≡ part = omega (arith, low, high) in
-          let m = masks (s - 4 * part) (j % 64 / 8) column (rw same (omega (arith, low, end))) (omega arith) narrow (j % 8) (i % 8) (omega arith) (omega arith) in
-          let sample = place_of strip origin c.count first row (4 * part) i j s across down same begins left line low in
-          let there : slice_index (row_of new column) (4 * (j % 64 / 8) + (s - 4 * part)) ≡ mask_at all many column (j % 64 / 8) s =
-          ap (λ k. slice_index (row_of new column) (4 * (j % 64 / 8) + k)) (sym index)
-          ∙ ap (λ (r : List ℕ). slice_index r word) (sym (put_here mid new (part * many) n [] fits long column (omega (arith, narrow, is_many))))
-          ∙ ap (λ p. slice_index (row_of all (p * many + column)) word) (sym quarter) in
-          let said = subst (λ w. (bit_at w (8 * (j % 8) + i % 8) ≡ 1) ↔ PolygonCovers polygon.rule (shape_of polygon).rings (in_block (strip_sample strip (s - 4 * part) (8 * (j % 64 / 8)) (8 * column)) (j % 8) (i % 8))) there m in
-          let at = subst (λ (p : Position). (bit_at (mask_at all many column (j % 64 / 8) s) (8 * (j % 8) + i % 8) ≡ 1) ↔ PolygonCovers polygon.rule (shape_of polygon).rings p) sample said in
-          ((λ set. at.0 (is_one _ (8 * (j % 8) + i % 8) set)), (λ covers. is_set _ (8 * (j % 8) + i % 8) (at.1 covers)))
-
-      -- in a part before it
-      before : s < 4 * part → AreMasksTo part mid → Says all i j s
-      before low are =
-          let inside = in_part (s / 4) part column many (omega (arith, low)) narrow in
-          let same_row : row_of all (s / 4 * many + column) ≡ row_of mid (s / 4 * many + column) =
-          put_elsewhere mid new (part * many) n [] fits long (s / 4 * many + column) (λ k l e. omega (arith, e, inside)) in
-          subst (λ (r : List ℕ). IsBitSet (slice_index r word) (8 * (j % 8) + i % 8) ↔ PolygonCovers polygon.rule (shape_of polygon).rings (screen_sample (pos i +ℤ origin.x) (pos j +ℤ origin.y) s c.count))
-          (sym same_row) (are i j s h left right low)
-
-    pub masks_more : AreMasksTo part mid → AreMasksTo (part + 1) all
-    masks_more are i j s h left right below = elim (cases_lt s (4 * part)) [ inl less ↦ before i j s h left right less are | inr more ↦ here i j s h left right more below ]
+-- the masks of a strip are those of the tile row
+pub masks_of_row : (polygon : Polygon) (origin : Origin) (c : Canvas) (row first many each : ℕ) (strip : Strip) (flags : List (List ℕ)) → strip.column ≡ origin.x +ℤ pos (8 * first) → strip.row ≡ origin.y +ℤ pos (64 * row) → strip.count ≡ c.count
+    → ((s row column : ℕ) → s < count_of strip.count → row < 8 → column < many
+    → IsBlockMask polygon.rule (polygon_edges (rings_from polygon.rings.corners.now polygon.rings.start polygon.rings.ends.now)) (strip_sample strip s (8 * row) (8 * column)) (mask_at flags each column row s))
+    → AreMasksOfRow polygon origin c row first many each flags
+masks_of_row polygon origin c row first many each strip flags across down same masks i j s h left right =
+    let line : j / 64 ≡ row = (let lower = h.from in let below = h.below in omega (arith, lower, below)) in
+    let column : ℕ = i / 8 - first in
+    let m = masks s (j % 64 / 8) column (rw same h.is_sample) (omega arith) (omega (arith, left, right)) (j % 8) (i % 8) (omega arith) (omega arith) in
+    let sample = place_of strip origin c.count first row i j s across down same left line in
+    let at = subst (λ (p : Position). (bit_at (mask_at flags each column (j % 64 / 8) s) (8 * (j % 8) + i % 8) ≡ 1) ↔ PolygonCovers polygon.rule (shape_of polygon).rings p) sample m in
+    ((λ set. at.0 (is_one _ (8 * (j % 8) + i % 8) set)), (λ covers. is_set _ (8 * (j % 8) + i % 8) (at.1 covers)))
 
 -- ---- all masks
-module _ (polygon : Polygon) (origin : Origin) (c : Canvas) (row first many : ℕ) (masks : Masks) (columns : masks.columns ≡ many) (inside : first + many ≤ 8 * columns_of c) (in_picture : row < 64)
-    (are : AreMasksOfRow polygon origin c row first many masks.flags.now) where
+module _ (polygon : Polygon) (origin : Origin) (c : Canvas) (row first many each : ℕ) (masks : Masks) (columns : masks.each ≡ each) (inside : first + many ≤ 8 * columns_of c) (in_picture : row < 64)
+    (are : AreMasksOfRow polygon origin c row first many each masks.flags.now) where
   module _ (i j s : ℕ) (h : IsStoredIn c row (row + 1) i j s) (left : first ≤ i / 8) (right : i / 8 < first + many) where
     thin : i < 4096
     thin = let wide = c.width_fits in omega (arith, inside, right, wide)
@@ -146,7 +91,7 @@ module _ (polygon : Polygon) (origin : Origin) (c : Canvas) (row first many : �
     short : j < 4096
     short = let below = h.below in omega (arith, below, in_picture)
 
-    said : IsBitSet (mask_at masks.flags.now masks.columns (i / 8 - first) (j % 64 / 8) s) (8 * (j % 8) + i % 8)
+    said : IsBitSet (mask_at masks.flags.now masks.each (i / 8 - first) (j % 64 / 8) s) (8 * (j % 8) + i % 8)
         ↔ PolygonCovers polygon.rule (shape_of polygon).rings (screen_sample (pos i +ℤ origin.x) (pos j +ℤ origin.y) s c.count)
     said = rw columns (are i j s h left right)
 

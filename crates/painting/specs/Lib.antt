@@ -24,8 +24,8 @@
 --   KeepsOtherBlocks: The samples of all blocks of the tile but block k are unchanged.
 --   RowsPaint: The triangle is drawn at those samples of the tile rows that are in this part, and the others are unchanged.
 --   flag_columns_of: How many columns of flags the canvas needs.
---   mask_at: The mask of samples s of the block in a column and a row of blocks.
---   block_mask: That mask among the masks of a tile row.
+--   counter_columns_of: How many columns of counters the canvas needs by the nonzero rule.
+--   block_mask: The mask of sample s of the block in a column and a row of blocks, among the masks of a tile row.
 --   IsAllowed: The state lets the sample of the tile be drawn.
 --   AllowsTile: The state lets each sample of the tile be drawn.
 --   number_in_tile: The number of block (bx, by) among the 64 of its tile, row by row.

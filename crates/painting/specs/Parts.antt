@@ -17,7 +17,8 @@ use Rattle.shade.specs.Canvas.{IsCanvasDrawnAt}
 use Rattle.shade.specs.Placed.{rgba_of}
 use Rattle.lanes.specs.declared.block_samples.BlockSamples.{BlockSamples}
 use Rattle.polygons.specs.declared.extent.Extent.{Extent}
-use Rattle.polygons.specs.ManyRows.{row_of}
+use Rattle.polygons.specs.declared.rule.Rule.{Rule}
+use Rattle.polygons.specs.Cells.{flags_by, mask_at}
 use Rattle.polygons.specs.Polygon.{PolygonCovers}
 use Rattle.polygons.specs.Rings.{IsInExtent}
 use Rattle.polygons.specs.Screen.{screen_sample}
@@ -105,18 +106,18 @@ pub record RowsPaint (t : Placed) (c : Canvas) (first end : ℕ) (part : ℕ →
   pub met : (i j s : ℕ) → IsStoredIn c first end i j s → part i j s → IsCanvasDrawnAt t (sample_position i j s c.count) (stored c first old i j s) (stored c first new i j s)
   pub missed : (i j s : ℕ) → IsStoredIn c first end i j s → ¬ part i j s → stored c first new i j s ≡ stored c first old i j s
 
--- How many columns of flags the canvas needs. For each part of at most four samples of a pixel there are as many as columns of blocks.
-abbrev pub flag_columns_of : Canvas → ℕ
-flag_columns_of c = parts_of c.count * (8 * columns_of c)
+-- How many columns of flags the canvas needs. For each part of at most four samples of a pixel there is one for each column of blocks and
+-- each flag that a sample has by the rule.
+abbrev pub flag_columns_of : Rule → Canvas → ℕ
+flag_columns_of rule c = parts_of c.count * (flags_by rule * (8 * columns_of c))
 
--- The mask of samples s of the block in a column and a row of blocks. For each part of at most four samples of a pixel there are `many`
--- columns of words, part by part. A column has four words for each row of blocks, one for each sample.
-abbrev pub mask_at : List (List ℕ) → ℕ → ℕ → ℕ → ℕ → ℕ
-mask_at flags many column row s = slice_index (row_of flags (s / 4 * many + column)) (4 * row + s % 4)
+-- How many columns of counters the canvas needs by the nonzero rule. For each part there is one for each column of blocks.
+abbrev pub counter_columns_of : Canvas → ℕ
+counter_columns_of c = parts_of c.count * (8 * columns_of c)
 
--- That mask among the masks of a tile row.
+-- The mask of sample s of the block in a column and a row of blocks, among the masks of a tile row.
 abbrev pub block_mask : Masks → ℕ → ℕ → ℕ → ℕ
-block_mask masks column row s = mask_at masks.flags.now masks.columns column row s
+block_mask masks column row s = mask_at masks.flags.now masks.each column row s
 
 -- The state lets the sample of the tile be drawn.
 abbrev pub IsAllowed : State → Tile → ℕ → ℕ → ℕ → Type 0
@@ -182,11 +183,11 @@ abbrev pub MeetsHere : Polygon → Origin → SampleCount → ℕ → ℕ → �
 MeetsHere polygon origin count i j s = MeetsSample (shape_of polygon) count (pos i +ℤ origin.x) (pos j +ℤ origin.y) s
 
 -- The flags are the masks of the samples of a tile row that the polygon covers. There are `many` columns of blocks, from column `first`
--- on.
-abbrev pub AreMasksOfRow : Polygon → Origin → Canvas → ℕ → ℕ → ℕ → List (List ℕ) → Type 0
-AreMasksOfRow polygon origin c row first many flags =
+-- on, and `each` columns of flags for each part.
+abbrev pub AreMasksOfRow : Polygon → Origin → Canvas → ℕ → ℕ → ℕ → ℕ → List (List ℕ) → Type 0
+AreMasksOfRow polygon origin c row first many each flags =
     (i j s : ℕ) → IsStoredIn c row (row + 1) i j s → first ≤ i / 8 → i / 8 < first + many
-    → (IsBitSet (mask_at flags many (i / 8 - first) (j % 64 / 8) s) (8 * (j % 8) + i % 8) ↔ PolygonCovers polygon.rule (shape_of polygon).rings (screen_sample (pos i +ℤ origin.x) (pos j +ℤ origin.y) s c.count))
+    → (IsBitSet (mask_at flags each (i / 8 - first) (j % 64 / 8) s) (8 * (j % 8) + i % 8) ↔ PolygonCovers polygon.rule (shape_of polygon).rings (screen_sample (pos i +ℤ origin.x) (pos j +ℤ origin.y) s c.count))
 
 -- Each sample of the canvas that lies in the box is in a column of blocks and a tile row of the window.
 abbrev pub HoldsSamples : Window → Extent → Origin → Canvas → Type 0

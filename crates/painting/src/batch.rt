@@ -1,11 +1,10 @@
 //! Polygons in a caller's arrays, drawn one after another.
-ghost use Rattle.std.specs.Prelude.{◌≡◌, ◌+◌, ◌*◌, ◌<◌, ◌≤◌, length, slice_index};
-ghost use Rattle.canvas.specs.Layout.{columns_of};
+ghost use Rattle.std.specs.Prelude.{◌≡◌, ◌+◌, ◌<◌, ◌≤◌, length, slice_index};
 ghost use Rattle.polygons.specs.declared.rule.Rule.TheVariants.{NonZero};
 ghost use Rattle.polygons.specs.Cells.{AreZeros};
 ghost use Rattle.painting.specs.Batches.{HasColours, shape_in, shapes_of};
 ghost use Rattle.painting.specs.Painting.{ArePainted, IsOriginInBand, shape_of};
-ghost use Rattle.painting.specs.Parts.{flag_columns_of};
+ghost use Rattle.painting.specs.Parts.{flag_columns_of, counter_columns_of};
 
 use crate::group::Group;
 use crate::polygon::Polygon;
@@ -63,8 +62,9 @@ impl Style<'_> {
 }
 
 /// Draws polygons, one after another, at each sample of these tile rows of a canvas whose upper left pixel is `origin`
-/// on the screen: what stood there is what each is merged with. There are at least `flag_columns` columns of flags, and
-/// for the nonzero rule `counter_columns` columns of counters. All are zeros, and are zeros again afterwards.
+/// on the screen: what stood there is what each is merged with. There are at least `flag_columns` columns of flags, which
+/// are zeros, and are zeros again afterwards, and for the nonzero rule `counter_columns` columns of counters, whatever is
+/// in them.
 pub fn draw_polygons(
     piece: &mut Piece<'_>,
     polygons: &Polygons<'_>,
@@ -75,16 +75,14 @@ pub fn draw_polygons(
 )
     requires colours { HasColours style.now.ids style.now.colours.now (length polygons.now.polygon_ends.now) }
     requires origin { IsOriginInBand origin.now }
-    requires columns { flag_columns_of piece.old.rows.canvas ≤ length flags.old }
+    requires columns { flag_columns_of style.now.rule piece.old.rows.canvas ≤ length flags.old }
     requires flags { AreZeros flags.old }
-    requires counters { AreZeros counters.old }
-    requires counted { style.now.rule ≡ NonZero → 8 * columns_of piece.old.rows.canvas ≤ length counters.old }
+    requires counted { style.now.rule ≡ NonZero → counter_columns_of piece.old.rows.canvas ≤ length counters.old }
     ensures painted { ArePainted (shapes_of polygons.now style.now) origin.now piece.old.rows.canvas
         piece.old.rows.first piece.old.rows.end piece.old.planes.now piece.new.planes.now }
     ensures rows { piece.new.rows ≡ piece.old.rows }
     ensures same { piece.new.planes.ghost_name ≡ piece.old.planes.ghost_name }
     ensures flags { AreZeros flags.new }
-    ensures counters { AreZeros counters.new }
 {
     let mut runs = Runs::none();
     let mut group = Group::none();

@@ -1,11 +1,11 @@
 //! Polygons that are drawn together, tile row by tile row, so that a row's samples stay in the cache of a processor.
-ghost use Rattle.std.specs.Prelude.{◌≡◌, ◌↔◌, ◌+◌, ◌-◌, ◌*◌, ◌/◌, ◌<◌, ◌≤◌, length, slice_index, IsTrue};
-ghost use Rattle.canvas.specs.Layout.{columns_of, planes_of_row, planes_of_rows};
+ghost use Rattle.std.specs.Prelude.{◌≡◌, ◌↔◌, ◌+◌, ◌-◌, ◌/◌, ◌<◌, ◌≤◌, length, slice_index, IsTrue};
+ghost use Rattle.canvas.specs.Layout.{planes_of_row, planes_of_rows};
 ghost use Rattle.polygons.specs.declared.rule.Rule.TheVariants.{NonZero};
 ghost use Rattle.polygons.specs.Cells.{AreZeros};
 ghost use Rattle.painting.specs.Batches.{HasColours, shapes_between};
 ghost use Rattle.painting.specs.Painting.{ArePainted, IsOriginInBand, shape_of};
-ghost use Rattle.painting.specs.Parts.{flag_columns_of, LiesInRows};
+ghost use Rattle.painting.specs.Parts.{flag_columns_of, counter_columns_of, LiesInRows};
 
 use crate::batch::Style;
 use crate::polygon::Polygon;
@@ -131,15 +131,13 @@ impl Group {
         requires within { self.now.end ≤ length polygons.now.polygon_ends.now }
         requires colours { HasColours style.now.ids style.now.colours.now (length polygons.now.polygon_ends.now) }
         requires origin { IsOriginInBand origin.now }
-        requires columns { flag_columns_of canvas.now ≤ length flags.old }
+        requires columns { flag_columns_of style.now.rule canvas.now ≤ length flags.old }
         requires flags { AreZeros flags.old }
-        requires counters { AreZeros counters.old }
-        requires counted { style.now.rule ≡ NonZero → 8 * columns_of canvas.now ≤ length counters.old }
+        requires counted { style.now.rule ≡ NonZero → counter_columns_of canvas.now ≤ length counters.old }
         requires samples { length samples.old ≡ planes_of_row canvas.now }
         ensures painted { ArePainted (shapes_between polygons.now style.now self.now.first self.now.end) origin.now canvas.now
             row (row + 1) samples.old samples.new }
         ensures flags { AreZeros flags.new }
-        ensures counters { AreZeros counters.new }
     {
         let rows = TileRows {
             canvas: *canvas,
@@ -171,15 +169,13 @@ impl Group {
         requires within { self.now.end ≤ length polygons.now.polygon_ends.now }
         requires colours { HasColours style.now.ids style.now.colours.now (length polygons.now.polygon_ends.now) }
         requires origin { IsOriginInBand origin.now }
-        requires columns { flag_columns_of rows.now.canvas ≤ length flags.old }
+        requires columns { flag_columns_of style.now.rule rows.now.canvas ≤ length flags.old }
         requires flags { AreZeros flags.old }
-        requires counters { AreZeros counters.old }
-        requires counted { style.now.rule ≡ NonZero → 8 * columns_of rows.now.canvas ≤ length counters.old }
+        requires counted { style.now.rule ≡ NonZero → counter_columns_of rows.now.canvas ≤ length counters.old }
         requires samples { length samples.old ≡ planes_of_rows rows.now.canvas rows.now.first rows.now.end }
         ensures painted { ArePainted (shapes_between polygons.now style.now self.now.first self.now.end) origin.now
             rows.now.canvas rows.now.first rows.now.end samples.old samples.new }
         ensures flags { AreZeros flags.new }
-        ensures counters { AreZeros counters.new }
     {
         if self.end == self.first + 1 {
             let polygon = style.polygon(polygons, self.first);

@@ -20,4 +20,4 @@ mod whole;
 mod window;
 
 pub use batch::{Style, draw_polygons};
-pub use scratch::{clear, clear_counters, counter_columns, flag_columns};
+pub use scratch::{clear, counter_columns, flag_columns};

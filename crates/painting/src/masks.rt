@@ -6,16 +6,19 @@ use grid::SampleCount;
 use polygons::Flags;
 
 /// The masks of the blocks of a tile row, of all samples of a pixel. For each part of at most four samples there are
-/// as many columns of words as columns of blocks, part by part.
+/// a column of words for each column of blocks, part by part.
 #[derive(Clone, Copy, Debug)]
 pub(crate) struct Masks<'a> {
     /// The words: of each row of blocks a column has four.
     pub flags: &'a [Flags],
     /// How many columns of blocks there are.
     pub columns: usize,
+    /// How many columns of words a part has: the first ones are those of its masks.
+    pub each: usize,
     /// How many samples a pixel has.
     pub count: SampleCount,
-    pub ghost all: { parts_of count * columns ≤ length flags.now },
+    pub ghost all: { parts_of count * each ≤ length flags.now },
+    pub ghost wide: { columns ≤ each },
 }
 
 /// Whether a bit is set.
@@ -54,7 +57,7 @@ impl Masks<'_> {
         requires part { part < parts_of self.now.count }
         ensures { (s : ℕ) → s < 4 → slice_index result s ≡ block_mask self.now column row (4 * part + s) }
     {
-        let words = &self.flags[part as usize * self.columns + column];
+        let words = &self.flags[part as usize * self.each + column];
         let at = 4 * row;
         [words[at], words[at + 1], words[at + 2], words[at + 3]]
     }
@@ -98,7 +101,7 @@ impl Masks<'_> {
     {
         let mut words = [0; 16];
         for s in 0..self.count.count() {
-            let of_part = &self.flags[(s / 4) as usize * self.columns + column];
+            let of_part = &self.flags[(s / 4) as usize * self.each + column];
             words[s as usize] = of_part[4 * row + (s % 4) as usize];
         }
         words

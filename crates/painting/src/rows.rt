@@ -1,10 +1,10 @@
 //! The samples of tile rows.
-ghost use Rattle.std.specs.Prelude.{◌≡◌, ◌*◌, ◌≤◌, [], ◌∷◌, length};
-ghost use Rattle.canvas.specs.Layout.{columns_of, planes_of_rows};
+ghost use Rattle.std.specs.Prelude.{◌≡◌, ◌≤◌, [], ◌∷◌, length};
+ghost use Rattle.canvas.specs.Layout.{planes_of_rows};
 ghost use Rattle.polygons.specs.declared.rule.Rule.TheVariants.{NonZero};
 ghost use Rattle.polygons.specs.Cells.{AreZeros};
 ghost use Rattle.painting.specs.Painting.{ArePainted, IsOriginInBand, shape_of};
-ghost use Rattle.painting.specs.Parts.{flag_columns_of};
+ghost use Rattle.painting.specs.Parts.{flag_columns_of, counter_columns_of};
 
 use crate::polygon::Polygon;
 use crate::row::paint_row;
@@ -24,15 +24,13 @@ pub(crate) fn paint_rows(
     samples: &mut [BlockSamples],
 )
     requires origin { IsOriginInBand origin.now }
-    requires columns { flag_columns_of rows.now.canvas ≤ length flags.old }
+    requires columns { flag_columns_of polygon.now.rule rows.now.canvas ≤ length flags.old }
     requires flags { AreZeros flags.old }
-    requires counters { AreZeros counters.old }
-    requires counted { polygon.now.rule ≡ NonZero → 8 * columns_of rows.now.canvas ≤ length counters.old }
+    requires counted { polygon.now.rule ≡ NonZero → counter_columns_of rows.now.canvas ≤ length counters.old }
     requires samples { length samples.old ≡ planes_of_rows rows.now.canvas rows.now.first rows.now.end }
     ensures painted { ArePainted (shape_of polygon.now ∷ []) origin.now rows.now.canvas rows.now.first rows.now.end
         samples.old samples.new }
     ensures flags { AreZeros flags.new }
-    ensures counters { AreZeros counters.new }
 {
     let triangle = Interpolants::new(&polygon.over_screen(origin));
     let window = Window::of(&polygon.rings.extent(), origin, &rows.canvas);
@@ -41,8 +39,9 @@ pub(crate) fn paint_rows(
     }
     runs.measure(&polygon.rings);
     let many = (window.right - window.left) as usize;
-    let flagged = rows.canvas.count.parts() as usize * many;
-    let counted = many.min(counters.len());
+    let parts = rows.canvas.count.parts() as usize;
+    let flagged = parts * (polygon.rule.flags() * many);
+    let counted = (parts * many).min(counters.len());
     let each = rows.canvas.planes_of_row();
     for row in rows.first.max(window.top)..rows.end.min(window.bottom) {
         let from = (row - rows.first) as usize * each;

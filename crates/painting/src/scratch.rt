@@ -1,27 +1,28 @@
 //! The scratch memory of polygons.
-ghost use Rattle.std.specs.Prelude.{◌≡◌, ℕ, ◌*◌, ◌≤◌, length, slice_index};
-ghost use Rattle.canvas.specs.Layout.{columns_of};
-ghost use Rattle.polygons.specs.Cells.{AreZeros};
-ghost use Rattle.painting.specs.Parts.{flag_columns_of};
+ghost use Rattle.std.specs.Prelude.{◌≡◌, ◌*◌, ◌≤◌, length};
+ghost use Rattle.polygons.specs.Cells.{AreZeros, AreMasksAlone};
+ghost use Rattle.painting.specs.Parts.{flag_columns_of, counter_columns_of};
 
 use canvas::Canvas;
-use polygons::{Counters, Flags};
+use polygons::{Flags, Rule};
 
-/// How many columns of flags a call needs that draws polygons on the canvas: for each part of at most four samples of a
-/// pixel as many as there are columns of blocks.
-pub fn flag_columns(canvas: &Canvas) -> usize
-    ensures value { result ≡ flag_columns_of canvas.now }
-    ensures few { result ≤ 2048 }
+/// How many columns of flags a call needs that draws polygons on the canvas by this rule: for each part of at most four
+/// samples of a pixel, one for each column of blocks and each flag that a sample has.
+pub fn flag_columns(canvas: &Canvas, rule: Rule) -> usize
+    ensures value { result ≡ flag_columns_of rule canvas.now }
+    ensures few { result ≤ 6144 }
 {
-    canvas.count.parts() as usize * counter_columns(canvas)
+    let blocks = 8 * canvas.column_count() as usize;
+    canvas.count.parts() as usize * (rule.flags() * blocks)
 }
 
-/// How many columns of counters such a call needs by the nonzero rule: as many as there are columns of blocks.
+/// How many columns of counters such a call needs by the nonzero rule: for each part one for each column of blocks.
 pub fn counter_columns(canvas: &Canvas) -> usize
-    ensures value { result ≡ 8 * columns_of canvas.now }
-    ensures few { result ≤ 512 }
+    ensures value { result ≡ counter_columns_of canvas.now }
+    ensures few { result ≤ 2048 }
 {
-    8 * canvas.column_count() as usize
+    let blocks = 8 * canvas.column_count() as usize;
+    canvas.count.parts() as usize * blocks
 }
 
 /// Sets all flags to 0.
@@ -34,21 +35,15 @@ pub fn clear(flags: &mut [Flags])
     }
 }
 
-/// Sets the counters of a column to 0.
-fn clear_column(counters: &mut Counters)
-    ensures { (i : ℕ) → slice_index counters.new i ≡ 0 }
+/// Sets the masks of all parts to 0. Each has `each` columns of flags, of which the first `many` are those of its masks.
+pub(crate) fn clear_masks(flags: &mut [Flags], parts: usize, many: usize, each: usize)
+    requires wide { many ≤ each }
+    requires columns { length flags.old ≡ parts * each }
+    requires others { AreMasksAlone many each flags.old }
+    ensures { AreZeros flags.new }
 {
-    for counter in counters.iter_mut() {
-        *counter = 0;
-    }
-}
-
-/// Sets all counters to 0.
-pub fn clear_counters(counters: &mut [Counters])
-    ensures len { length counters.new ≡ length counters.old }
-    ensures zeros { AreZeros counters.new }
-{
-    for column in counters.iter_mut() {
-        clear_column(column);
+    for part in 0..parts {
+        let from = part * each;
+        clear(&mut flags[from..from + many]);
     }
 }

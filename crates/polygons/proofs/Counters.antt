@@ -24,6 +24,10 @@ sum-add f g h (suc n) e =
     let q = e n (omega arith) in
     omega (arith, ints)
 
+pub sum-same : (f g : ℕ → ℤ) (n : ℕ) → ((k : ℕ) → k < n → g k ≡ f k) → sum_to g n ≡ sum_to f n
+sum-same f g zero h = refl
+sum-same f g (suc n) h = let i = sum-same f g n (λ k l. h k (omega arith)) in let e = h n (omega arith) in omega (arith, ints)
+
 pub sum-none : (f : ℕ → ℤ) (n : ℕ) → ((k : ℕ) → k < n → f k ≡ pos 0) → sum_to f n ≡ pos 0
 sum-none f zero h = refl
 sum-none f (suc n) h =
@@ -56,9 +60,9 @@ sum-number_after c v (suc n) h = elim (cases_eq n c) [
     not_last : (n : ℕ) → c < suc n → (n ≡ c → ⊥) → c < n
     not_last n l e = elim (cases_lt c n) [ inl m ↦ m | inr m ↦ absurd (e (omega arith)) ]
 
-pub sums-added : (f g : ℕ → ℤ) (c : ℕ) (v : ℤ) (k : ℕ) → ((j : ℕ) → g j ≡ f j +ℤ number_at c v j) → sum_to g (k + 1) ≡ sum_to f (k + 1) +ℤ from_column (pos c) v k
+pub sums-added : (f g : ℕ → ℤ) (c : ℕ) (v : ℤ) (k : ℕ) → ((j : ℕ) → j < k + 1 → g j ≡ f j +ℤ number_at c v j) → sum_to g (k + 1) ≡ sum_to f (k + 1) +ℤ from_column (pos c) v k
 sums-added f g c v k h =
-    let a = sum-add f g (number_at c v) (k + 1) (λ j l. h j) in
+    let a = sum-add f g (number_at c v) (k + 1) h in
     elim (cases_lt k c) [
       | inl m ↦
           let b = sum-number_before c v (k + 1) (omega arith) in

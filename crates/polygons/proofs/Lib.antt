@@ -5,7 +5,9 @@ pub mod Counts
 pub mod Cancel
 pub mod Outline
 pub mod Totals
+pub mod Windings
 pub mod Plotted
+pub mod Parts
 pub mod ByteRows
 pub mod Filling
 pub mod Masks

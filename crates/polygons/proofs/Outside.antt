@@ -41,16 +41,16 @@ direction_right e p h k = none e p (not_down e p h k) (sym (opposite e p).down �
 
 -- ---- where samples of a strip lie
 pub sample_y : (strip : Strip) (s row k : ℕ) (y : ℤ) → row < 64 → (pos 256 *ℤ strip.row +ℤ pos 16384) ≤ℤ y → (strip_sample strip s row k).y <ℤ y
-sample_y strip s row k y h l = let o = offset_y strip.count (strip.from + s) in omega (arith, ints)
+sample_y strip s row k y h l = let o = offset_y strip.count s in omega (arith, ints)
 
 pub sample_below : (strip : Strip) (s row k : ℕ) (y : ℤ) → y ≤ℤ (pos 256 *ℤ strip.row) → y ≤ℤ (strip_sample strip s row k).y
-sample_below strip s row k y h = let o = offset_y strip.count (strip.from + s) in omega (arith, ints)
+sample_below strip s row k y h = let o = offset_y strip.count s in omega (arith, ints)
 
 pub sample_x : (strip : Strip) (s row k : ℕ) (x : ℤ) → (pos 256 *ℤ strip.column +ℤ pos (256 * (k + 1))) ≤ℤ x → (strip_sample strip s row k).x <ℤ x
-sample_x strip s row k x h = let o = offset_x strip.count (strip.from + s) in omega (arith, ints)
+sample_x strip s row k x h = let o = offset_x strip.count s in omega (arith, ints)
 
 pub sample_right : (strip : Strip) (s row k : ℕ) (x : ℤ) → x ≤ℤ (pos 256 *ℤ strip.column) → x ≤ℤ (strip_sample strip s row k).x
-sample_right strip s row k x h = let o = offset_x strip.count (strip.from + s) in omega (arith, ints)
+sample_right strip s row k x h = let o = offset_x strip.count s in omega (arith, ints)
 
 pub crossed_nowhere : (e : Edge) (strip : Strip) (columns s row k : ℕ) → IsApart e strip columns → row < 64 → k < 8 * columns → direction e (strip_sample strip s row k) ≡ pos 0
 crossed_nowhere e strip columns s row k apart h l = elim apart [

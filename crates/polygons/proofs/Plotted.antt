@@ -2,6 +2,7 @@
 use Rattle.std.proofs.Common.{◌≡◌, inl, inr, refl, sym, subst, ap, ◌∙◌, arith, ℕ, zero, suc, ◌+◌, ◌*◌, ◌<◌, ◌≤◌, Bool, true, false, List, [], ◌∷◌, ◌++◌, length, drop, get_or, drop-cons, add-one, ℤ, pos, w32, w64, to_z, of_z, FitsSigned, ◌+ℤ◌, ◌-ℤ◌, ◌*ℤ◌, ◌<ℤ◌, ◌≤ℤ◌}
 use Rattle.std.proofs.lemmas.Int.{ints}
 use Rattle.std.proofs.lemmas.Bool.{cases_eq, cases_lt}
+use Rattle.std.proofs.lemmas.List.{length-take}
 use Rattle.grid.specs.Position.{Position, IsInBand}
 use Rattle.grid.proofs.Ring.{var, plus, times, ring}
 use Rattle.grid.specs.Samples.{part_size}
@@ -18,8 +19,8 @@ use Rattle.polygons.specs.Crossing.{winding}
 use Rattle.polygons.specs.Polygon.{path_edges, path_end, ring_edges, polygon_edges}
 use Rattle.polygons.specs.Rows.{direction, from_column}
 use Rattle.polygons.specs.Strip.{strip_sample}
-use Rattle.polygons.specs.Cells.{modulus, signed, added_by, running_sum, IsAlike, IsAdded, HasCounters, AreMarked, IsPlotted}
-use Rattle.polygons.specs.Plotting.{ArePlotted}
+use Rattle.polygons.specs.Cells.{part_columns, modulus, signed, added_by, running_sum, IsAlike, IsAdded, HasCounters, AreMarked, IsPlotted, columns_in, flags_by}
+use Rattle.polygons.specs.Plotting.{AreSame, ArePlotted, HasParts}
 use Rattle.polygons.proofs.Exact.{exact64}
 use Rattle.polygons.proofs.Counters.{direction-from, direction-none}
 use Rattle.polygons.proofs.Cancel.{one_down, one_up}
@@ -27,11 +28,11 @@ use Rattle.polygons.proofs.Counts.{downs-ring, ups-ring}
 
 pub has_counters : (rule : Rule) (f c f' c' : List (List ℕ)) → length f' ≡ length f → length c' ≡ length c → HasCounters rule f c → HasCounters rule f' c'
 has_counters EvenOdd f c f' c' e g h = tt
-has_counters NonZero f c f' c' e g h = g ∙ h ∙ sym e
+has_counters NonZero f c f' c' e g h = e ∙ h ∙ ap (λ n. 3 * n) (sym g)
 
-pub counted : (rule : Rule) (f c : List (List ℕ)) → (rule ≡ NonZero → length c ≡ length f) → HasCounters rule f c
-counted EvenOdd f c h = tt
-counted NonZero f c h = h refl
+pub same_columns : (rule : Rule) (f c f' c' : List (List ℕ)) → length f' ≡ length f → length c' ≡ length c → columns_in rule f' c' ≡ columns_in rule f c
+same_columns EvenOdd f c f' c' e g = e
+same_columns NonZero f c f' c' e g = g
 
 -- the height of a row
 pub row_height : (y s : ℤ) (n : ℕ) → y ≡ s → n < 65 → IsInBand s → IsInBand (s +ℤ pos (256 * n))
@@ -91,9 +92,8 @@ added_none rule s first number f c = record {
   flags_len = refl;
   counters_len = refl;
   here = λ row k h l m. absurd (omega arith);
-  others = λ r row k h l n. refl;
+  others = λ r row k h l m n. refl;
   marked = λ h. h;
-  kept = λ e. refl;
 }
 
 pub added_as : (rule : Rule) (s first end : ℕ) (number other : ℕ → ℕ → ℤ) (f c f' c' : List (List ℕ)) → ((row k : ℕ) → first ≤ row → row < end → number row k ≡ other row k)
@@ -104,7 +104,6 @@ added_as rule s first end number other f c f' c' e h = record {
   here = λ row k l m n. alike_from (modulus rule) _ _ _ _ _ _ refl refl (e row k l m) (h.here row k l m n);
   others = h.others;
   marked = h.marked;
-  kept = h.kept;
 }
 
 pub added_both : (rule : Rule) (s first mid end : ℕ) (number : ℕ → ℕ → ℤ) (a b c d e i : List (List ℕ)) → s < 4 → first ≤ mid → mid ≤ end → end ≤ 64
@@ -113,13 +112,15 @@ added_both rule s first mid end number a b c d e i s_small rise more most h k = 
   flags_len = k.flags_len ∙ h.flags_len;
   counters_len = k.counters_len ∙ h.counters_len;
   here = λ row j l m n. elim (cases_lt row mid) [
-    | inl p ↦ alike_moved (modulus rule) _ _ _ (sym (k.others s row j s_small (omega arith) (λ _ x _. omega arith))) (h.here row j l p n)
-    | inr p ↦ alike_from (modulus rule) _ _ _ _ _ _ refl (h.others s row j s_small (omega arith) (λ _ _ x. omega arith)) refl (k.here row j p m (let q = h.flags_len in omega arith))
+    | inl p ↦ alike_moved (modulus rule) _ _ _ (sym (k.others s row j s_small (omega arith) (inside j n) (λ _ x _. omega arith))) (h.here row j l p n)
+    | inr p ↦ alike_from (modulus rule) _ _ _ _ _ _ refl (h.others s row j s_small (omega arith) n (λ _ _ x. omega arith)) refl (k.here row j p m (inside j n))
   ];
-  others = λ r row j l m n. k.others r row j l m (λ x y z. n x (omega arith) z) ∙ h.others r row j l m (λ x y z. n x y (omega arith));
+  others = λ r row j l m b n. k.others r row j l m (inside j b) (λ x y z. n x (omega arith) z) ∙ h.others r row j l m b (λ x y z. n x y (omega arith));
   marked = λ x. k.marked (h.marked x);
-  kept = λ x. k.kept x ∙ h.kept x;
 }
+  where
+    inside : (j : ℕ) → j < 8 * columns_in rule a b → j < 8 * columns_in rule c d
+    inside j l = let q = same_columns rule a b c d h.flags_len h.counters_len in omega arith
 
 -- rows in which nothing is added
 pub added_all : (rule : Rule) (s first end : ℕ) (number : ℕ → ℕ → ℤ) (f c f' c' : List (List ℕ)) → s < 4 → ((row k : ℕ) → row < first → number row k ≡ pos 0)
@@ -128,73 +129,138 @@ added_all rule s first end number f c f' c' s_small above under h = record {
   flags_len = h.flags_len;
   counters_len = h.counters_len;
   here = λ row k _ l m. elim (cases_lt row first) [
-    | inl p ↦ alike_none (modulus rule) _ _ _ (h.others s row k s_small l (λ _ x _. omega arith)) (above row k p)
+    | inl p ↦ alike_none (modulus rule) _ _ _ (h.others s row k s_small l m (λ _ x _. omega arith)) (above row k p)
     | inr p ↦ elim (cases_lt row end) [
       | inl q ↦ h.here row k p q m
-      | inr q ↦ alike_none (modulus rule) _ _ _ (h.others s row k s_small l (λ _ _ x. omega arith)) (under row k q l)
+      | inr q ↦ alike_none (modulus rule) _ _ _ (h.others s row k s_small l m (λ _ _ x. omega arith)) (under row k q l)
     ]
   ];
-  others = λ r row k l m n. h.others r row k l m (λ x _ _. n x (omega arith) m);
+  others = λ r row k l m b n. h.others r row k l m b (λ x _ _. n x (omega arith) m);
   marked = h.marked;
-  kept = h.kept;
 }
 
--- ---- the samples of a strip, one index after another
+-- ---- the samples of a part of a strip, one index after another
 -- what holds once the first n of them are done
-pub record AreSamplesAdded (rule : Rule) (strip : Strip) (change : Position → ℤ) (n : ℕ) (f c f' c' : List (List ℕ)) : Type 0 where
+pub record AreSamplesAdded (rule : Rule) (strip : Strip) (part : ℕ) (change : Position → ℤ) (n : ℕ) (f c f' c' : List (List ℕ)) : Type 0 where
   pub flags_len : length f' ≡ length f
   pub counters_len : length c' ≡ length c
-  pub done : (s row k : ℕ) → s < n → s < 4 → row < 64 → k < 8 * length f → IsAlike (modulus rule) (running_sum rule f' c' s row k) (running_sum rule f c s row k +ℤ change (strip_sample strip s row k))
-  pub rest : (s row k : ℕ) → n ≤ s → s < 4 → row < 64 → running_sum rule f' c' s row k ≡ running_sum rule f c s row k
-  pub kept : rule ≡ EvenOdd → c' ≡ c
+  pub done : (s row k : ℕ) → s < n → s < 4 → row < 64 → k < 8 * columns_in rule f c → IsAlike (modulus rule) (running_sum rule f' c' s row k) (running_sum rule f c s row k +ℤ change (strip_sample strip (4 * part + s) row k))
+  pub rest : (s row k : ℕ) → n ≤ s → s < 4 → row < 64 → k < 8 * columns_in rule f c → running_sum rule f' c' s row k ≡ running_sum rule f c s row k
   pub marked : AreMarked rule f c → AreMarked rule f' c'
 
-pub no_samples : (rule : Rule) (strip : Strip) (change : Position → ℤ) (f c : List (List ℕ)) → AreSamplesAdded rule strip change 0 f c f c
-no_samples rule strip change f c = record {
+pub no_samples : (rule : Rule) (strip : Strip) (part : ℕ) (change : Position → ℤ) (f c : List (List ℕ)) → AreSamplesAdded rule strip part change 0 f c f c
+no_samples rule strip part change f c = record {
   flags_len = refl;
   counters_len = refl;
   done = λ s row k h. absurd (omega arith);
-  rest = λ s row k h l m. refl;
-  kept = λ e. refl;
+  rest = λ s row k h l m b. refl;
   marked = λ h. h;
 }
 
-pub one_sample_more : (rule : Rule) (strip : Strip) (change : Position → ℤ) (n : ℕ) (number : ℕ → ℕ → ℤ) (f c f' c' f'' c'' : List (List ℕ)) → n < 4 → ((row k : ℕ) → number row k ≡ change (strip_sample strip n row k))
-    → AreSamplesAdded rule strip change n f c f' c' → IsAdded rule n 0 64 number f' c' f'' c'' → AreSamplesAdded rule strip change (n + 1) f c f'' c''
-one_sample_more rule strip change n number f c f' c' f'' c'' n_small is v p = record {
+pub one_sample_more : (rule : Rule) (strip : Strip) (part : ℕ) (change : Position → ℤ) (n : ℕ) (number : ℕ → ℕ → ℤ) (f c f' c' f'' c'' : List (List ℕ)) → n < 4
+    → ((row k : ℕ) → number row k ≡ change (strip_sample strip (4 * part + n) row k)) → AreSamplesAdded rule strip part change n f c f' c' → IsAdded rule n 0 64 number f' c' f'' c''
+    → AreSamplesAdded rule strip part change (n + 1) f c f'' c''
+one_sample_more rule strip part change n number f c f' c' f'' c'' n_small is v p = record {
   flags_len = p.flags_len ∙ v.flags_len;
   counters_len = p.counters_len ∙ v.counters_len;
   done = λ s row k x y h i. elim (cases_eq s n) [
     | inl q ↦
-        let a = p.here row k (omega arith) h (let l = v.flags_len in omega arith) in
-        let at_n = alike_from (modulus rule) _ _ _ _ _ _ refl (v.rest n row k (omega arith) n_small h) (is row k) a in
-        subst (λ (j : ℕ). IsAlike (modulus rule) (running_sum rule f'' c'' j row k) (running_sum rule f c j row k +ℤ change (strip_sample strip j row k))) (sym q) at_n
-    | inr q ↦ alike_moved (modulus rule) _ _ _ (sym (p.others s row k y h (λ z _ _. q z))) (v.done s row k (before_of s n x q) y h i)
+        let a = p.here row k (omega arith) h (inside k i) in
+        let at_n = alike_from (modulus rule) _ _ _ _ _ _ refl (v.rest n row k (omega arith) n_small h i) (is row k) a in
+        subst (λ (j : ℕ). IsAlike (modulus rule) (running_sum rule f'' c'' j row k) (running_sum rule f c j row k +ℤ change (strip_sample strip (4 * part + j) row k))) (sym q) at_n
+    | inr q ↦ alike_moved (modulus rule) _ _ _ (sym (p.others s row k y h (inside k i) (λ z _ _. q z))) (v.done s row k (before_of s n x q) y h i)
   ];
-  rest = λ s row k x y h. p.others s row k y h (λ z _ _. omega arith) ∙ v.rest s row k (omega arith) y h;
-  kept = λ e. p.kept e ∙ v.kept e;
+  rest = λ s row k x y h i. p.others s row k y h (inside k i) (λ z _ _. omega arith) ∙ v.rest s row k (omega arith) y h i;
   marked = λ h. p.marked (v.marked h);
 }
+  where
+    inside : (k : ℕ) → k < 8 * columns_in rule f c → k < 8 * columns_in rule f' c'
+    inside k l = let q = same_columns rule f c f' c' v.flags_len v.counters_len in omega arith
 
-pub all_samples : (rule : Rule) (strip : Strip) (change : Position → ℤ) (n : ℕ) (f c f' c' : List (List ℕ)) → part_size strip.count ≤ n → AreSamplesAdded rule strip change n f c f' c' → IsPlotted rule strip change f c f' c'
-all_samples rule strip change n f c f' c' all v = record {
+pub all_samples : (rule : Rule) (strip : Strip) (part : ℕ) (change : Position → ℤ) (n : ℕ) (f c f' c' : List (List ℕ)) → part_size strip.count ≤ n → AreSamplesAdded rule strip part change n f c f' c'
+    → IsPlotted rule strip part change f c f' c'
+all_samples rule strip part change n f c f' c' all v = record {
   flags_len = v.flags_len;
   counters_len = v.counters_len;
   totals = λ s row k x y z. v.done s row k (omega arith) (let few = part_small strip.count in omega arith) y z;
   marked = v.marked;
-  kept = v.kept;
 }
 
+-- ---- what is added to a part
+pub times_sum : (n a b : ℤ) → n *ℤ (a +ℤ b) ≡ n *ℤ a +ℤ n *ℤ b
+times_sum n a b = ring (n ∷ a ∷ b ∷ []) (times (var 0) (plus (var 1) (var 2))) (plus (times (var 0) (var 1)) (times (var 0) (var 2))) refl
+
+alike_both : (m : ℕ) (x y z u v w : ℤ) → IsAlike m x (y +ℤ u) → IsAlike m y (z +ℤ v) → w ≡ v +ℤ u → IsAlike m x (z +ℤ w)
+alike_both m x y z u v w h k e = record { times = h.times +ℤ k.times; is = let i = h.is in let j = k.is in let d = times_sum (pos m) h.times k.times in omega (arith, ints) }
+
+module _ (rule : Rule) (strip : Strip) (part : ℕ) where
+  part_on : (f g : Position → ℤ) (a b a' b' : List (List ℕ)) → ((s row k : ℕ) → row < 64 → k < 8 * columns_in rule a b → f (strip_sample strip s row k) ≡ g (strip_sample strip s row k))
+      → IsPlotted rule strip part f a b a' b' → IsPlotted rule strip part g a b a' b'
+  part_on f g a b a' b' e h = record {
+    flags_len = h.flags_len;
+    counters_len = h.counters_len;
+    totals = λ s row k x y z. alike_from (modulus rule) _ _ _ _ _ _ refl refl (e (4 * part + s) row k y z) (h.totals s row k x y z);
+    marked = h.marked;
+  }
+
+  -- an edge that is crossed at no sample of the part
+  pub part_nowhere : (f : Position → ℤ) (a b : List (List ℕ)) → ((s row k : ℕ) → s < part_size strip.count → row < 64 → k < 8 * columns_in rule a b → f (strip_sample strip (4 * part + s) row k) ≡ pos 0) → IsPlotted rule strip part f a b a b
+  part_nowhere f a b e = record {
+    flags_len = refl;
+    counters_len = refl;
+    totals = λ s row k x y z. alike_none (modulus rule) _ _ _ refl (e s row k x y z);
+    marked = λ h. h;
+  }
+
+  part_both : (f g both : Position → ℤ) (a b a' b' a'' b'' : List (List ℕ)) → ((p : Position) → both p ≡ f p +ℤ g p) → IsPlotted rule strip part f a b a' b' → IsPlotted rule strip part g a' b' a'' b''
+      → IsPlotted rule strip part both a b a'' b''
+  part_both f g both a b a' b' a'' b'' sum h k = record {
+    flags_len = k.flags_len ∙ h.flags_len;
+    counters_len = k.counters_len ∙ h.counters_len;
+    totals = λ s row j x y z. let p = strip_sample strip (4 * part + s) row j in alike_both (modulus rule) _ _ _ _ _ (both p) (k.totals s row j x y (let q = same_columns rule a b a' b' h.flags_len h.counters_len in omega arith)) (h.totals s row j x y z) (sum p);
+    marked = λ l. k.marked (h.marked l);
+  }
+
+  -- as another struct has it
+  pub part_moved : (g : Position → ℤ) (r : Rule) (m m' n n' : ℕ) (f c f' c' : List (List ℕ)) → r ≡ rule → m' ≡ m → n' ≡ n
+      → IsPlotted r strip part g (part_columns f m' part) (part_columns c n' part) (part_columns f' m' part) (part_columns c' n' part) → IsPlotted rule strip part g (part_columns f m part) (part_columns c n part) (part_columns f' m part) (part_columns c' n part)
+  part_moved g r m m' n n' f c f' c' e h k p =
+      subst (λ (i : ℕ). IsPlotted rule strip part g (part_columns f m part) (part_columns c i part) (part_columns f' m part) (part_columns c' i part)) k
+      (subst (λ (i : ℕ). IsPlotted rule strip part g (part_columns f i part) (part_columns c n' part) (part_columns f' i part) (part_columns c' n' part)) h
+      (subst (λ (q : Rule). IsPlotted q strip part g (part_columns f m' part) (part_columns c n' part) (part_columns f' m' part) (part_columns c' n' part)) e p))
+
 -- ---- what is added to a strip
-pub plotted_on : (strip : Strip) (f g : Position → ℤ) (a b : Cells) → ((s row k : ℕ) → row < 64 → k < 8 * length a.flags.now → f (strip_sample strip s row k) ≡ g (strip_sample strip s row k)) → ArePlotted strip f a b → ArePlotted strip g a b
+pub all_same : (a : Cells) → AreSame a a
+all_same a = record { rule = refl; columns = refl; flagged = refl; counted = refl; flags = refl; counters = refl; flags_len = refl; counters_len = refl }
+
+pub same_both : (a b c : Cells) → AreSame a b → AreSame b c → AreSame a c
+same_both a b c h k = record {
+  rule = k.rule ∙ h.rule;
+  columns = k.columns ∙ h.columns;
+  flagged = k.flagged ∙ h.flagged;
+  counted = k.counted ∙ h.counted;
+  flags = k.flags ∙ h.flags;
+  counters = k.counters ∙ h.counters;
+  flags_len = k.flags_len ∙ h.flags_len;
+  counters_len = k.counters_len ∙ h.counters_len;
+}
+
+pub parts_kept : (strip : Strip) (a b : Cells) → AreSame a b → HasParts strip a → HasParts strip b
+parts_kept strip a b same h = record {
+  flags = rw (same.flagged, same.flags_len) h.flags;
+  counters = rw (same.counted, same.counters_len) h.counters;
+}
+
+pub few_columns : (a : Cells) (part k : ℕ) → k < 8 * columns_in a.rule (part_columns a.flags.now a.flagged part) (part_columns a.counters.now a.counted part) → k < 8 * a.columns
+few_columns a part k = by_rule a.rule a.all_flags a.all_counters
+  where
+    by_rule : (rule : Rule) → a.flagged ≡ flags_by rule * a.columns → (rule ≡ NonZero → a.counted ≡ a.columns) → k < 8 * columns_in rule (part_columns a.flags.now a.flagged part) (part_columns a.counters.now a.counted part) → k < 8 * a.columns
+    by_rule EvenOdd flags counters h = omega (arith, h, flags, length-take a.flagged (drop (part * a.flagged) a.flags.now))
+    by_rule NonZero flags counters h = omega (arith, h, counters refl, length-take a.counted (drop (part * a.counted) a.counters.now))
+
+pub plotted_on : (strip : Strip) (f g : Position → ℤ) (a b : Cells) → ((s row k : ℕ) → row < 64 → k < 8 * a.columns → f (strip_sample strip s row k) ≡ g (strip_sample strip s row k)) → ArePlotted strip f a b → ArePlotted strip g a b
 plotted_on strip f g a b e h = record {
-  plotted = record {
-    flags_len = h.plotted.flags_len;
-    counters_len = h.plotted.counters_len;
-    totals = λ s row k x y z. alike_from (modulus a.rule) _ _ _ _ _ _ refl refl (e s row k y z) (h.plotted.totals s row k x y z);
-    marked = h.plotted.marked;
-    kept = h.plotted.kept;
-  };
+  plotted = λ part l. part_on a.rule strip part f g _ _ _ _ (λ s row k x y. e s row k x (few_columns a part k y)) (h.plotted part l);
   same = h.same;
 }
 
@@ -202,44 +268,21 @@ pub plotted_as : (strip : Strip) (f g : Position → ℤ) (a b : Cells) → ((p 
 plotted_as strip f g a b e h = plotted_on strip f g a b (λ s row k x y. e (strip_sample strip s row k)) h
 
 -- an edge that is crossed at no sample of the strip
-pub plotted_nowhere : (strip : Strip) (f : Position → ℤ) (a : Cells) → ((s row k : ℕ) → s < part_size strip.count → row < 64 → k < 8 * length a.flags.now → f (strip_sample strip s row k) ≡ pos 0) → ArePlotted strip f a a
-plotted_nowhere strip f a e = record {
-  plotted = record {
-    flags_len = refl;
-    counters_len = refl;
-    totals = λ s row k x y z. alike_none (modulus a.rule) _ _ _ refl (e s row k x y z);
-    marked = λ h. h;
-    kept = λ e. refl;
-  };
-  same = (refl, (refl, refl));
+pub plotted_apart : (strip : Strip) (f : Position → ℤ) (a : Cells) → ((s row k : ℕ) → row < 64 → k < 8 * a.columns → f (strip_sample strip s row k) ≡ pos 0) → ArePlotted strip f a a
+plotted_apart strip f a e = record {
+  plotted = λ part l. part_nowhere a.rule strip part f _ _ (λ s row k _ x y. e (4 * part + s) row k x (few_columns a part k y));
+  same = all_same a;
 }
-
-pub plotted_apart : (strip : Strip) (f : Position → ℤ) (a : Cells) → ((s row k : ℕ) → row < 64 → k < 8 * length a.flags.now → f (strip_sample strip s row k) ≡ pos 0) → ArePlotted strip f a a
-plotted_apart strip f a e = plotted_nowhere strip f a (λ s row k _ x y. e s row k x y)
 
 pub plotted_none : (strip : Strip) (f : Position → ℤ) (a : Cells) → ((p : Position) → f p ≡ pos 0) → ArePlotted strip f a a
 plotted_none strip f a e = plotted_apart strip f a (λ s row k x y. e (strip_sample strip s row k))
 
-pub times_sum : (n a b : ℤ) → n *ℤ (a +ℤ b) ≡ n *ℤ a +ℤ n *ℤ b
-times_sum n a b = ring (n ∷ a ∷ b ∷ []) (times (var 0) (plus (var 1) (var 2))) (plus (times (var 0) (var 1)) (times (var 0) (var 2))) refl
-
-alike_both : (m : ℕ) (x y z u v w : ℤ) → IsAlike m x (y +ℤ u) → IsAlike m y (z +ℤ v) → w ≡ v +ℤ u → IsAlike m x (z +ℤ w)
-alike_both m x y z u v w h k e = record { times = h.times +ℤ k.times; is = let i = h.is in let j = k.is in let d = times_sum (pos m) h.times k.times in omega (arith, ints) }
-
 pub plotted_both : (strip : Strip) (f g both : Position → ℤ) (a b c : Cells) → ((p : Position) → both p ≡ f p +ℤ g p) → ArePlotted strip f a b → ArePlotted strip g b c → ArePlotted strip both a c
-plotted_both strip f g both a b c sum h k =
-    let first = h.plotted in
-    let then : IsPlotted a.rule strip g b.flags.now b.counters.now c.flags.now c.counters.now = subst (λ (r : Rule). IsPlotted r strip g b.flags.now b.counters.now c.flags.now c.counters.now) h.same.0 k.plotted in
-    record {
-      plotted = record {
-        flags_len = then.flags_len ∙ first.flags_len;
-        counters_len = then.counters_len ∙ first.counters_len;
-        totals = λ s row j x y z. let p = strip_sample strip s row j in alike_both (modulus a.rule) _ _ _ _ _ (both p) (then.totals s row j x y (let l = first.flags_len in omega arith)) (first.totals s row j x y z) (sum p);
-        marked = λ l. then.marked (first.marked l);
-        kept = λ l. then.kept l ∙ first.kept l;
-      };
-      same = (k.same.0 ∙ h.same.0, (k.same.1.0 ∙ h.same.1.0, k.same.1.1 ∙ h.same.1.1));
-    }
+plotted_both strip f g both a b c sum h k = record {
+  plotted = λ part l. part_both a.rule strip part f g both _ _ _ _ _ _ sum (h.plotted part l)
+      (part_moved a.rule strip part g b.rule a.flagged b.flagged a.counted b.counted b.flags.now b.counters.now c.flags.now c.counters.now h.same.rule h.same.flagged h.same.counted (k.plotted part l));
+  same = same_both a b c h.same k.same;
+}
 
 -- ---- the edges of paths and rings
 pub winding-cons : (e : Edge) (es : List Edge) (p : Position) → winding (e ∷ es) p ≡ direction e p +ℤ winding es p

@@ -1,35 +1,39 @@
 -- Counters that are summed from the left, modulo 2 ^ 32.
-use Rattle.std.proofs.Common.{◌≡◌, ◌≢◌, inl, inr, refl, sym, ap, ◌∙◌, arith, ℕ, zero, suc, ◌+◌, ◌*◌, ◌/◌, ◌%◌, ◌^◌, ◌<◌, ◌≤◌, ◌⊎◌, ◌↔◌, subst, Bool, true, false, cond, eqb, List, [], ◌∷◌, length, add-one, set, slice_index, get_or-set_same, get_or-set_other, ℤ, pos, neg_ℤ, ◌+ℤ◌, ◌-ℤ◌, ◌*ℤ◌}
+use Rattle.std.proofs.Common.{◌≡◌, ◌≢◌, inl, inr, refl, sym, ap, ◌∙◌, arith, ℕ, zero, suc, ◌+◌, ◌*◌, ◌/◌, ◌%◌, ◌^◌, ◌<◌, ◌≤◌, ◌⊎◌, ◌↔◌, subst, Bool, true, false, cond, eqb, List, [], ◌∷◌, ◌++◌, length, add-one, set, slice_index, get_or-set_same, get_or-set_other, ℤ, pos, neg_ℤ, ◌+ℤ◌, ◌-ℤ◌, ◌*ℤ◌}
 use Rattle.std.proofs.lemmas.Int.{ints}
 use Rattle.std.proofs.lemmas.Bool.Decides.{eqb_tells}
+use Rattle.std.proofs.lemmas.List.{get_or_append_left, get_or-append-add}
 use Rattle.std.specs.Int.{bit_at}
+use Rattle.polygons.specs.declared.marks.Marks.{Marks}
 use Rattle.polygons.specs.declared.rule.Rule.TheVariants.{NonZero}
 use Rattle.polygons.specs.Rows.{sum_to}
 use Rattle.polygons.specs.ManyRows.{row_of}
-use Rattle.polygons.specs.Cells.{word_of, bit_in_block, flag_of, counter_at, cell, IsAlike, AreMarked}
-use Rattle.polygons.specs.Summing.{run, nonzero_bit}
+use Rattle.polygons.specs.Cells.{word_of, counter_at, down_flag, up_flag, more_flag, in_use, cell, IsAlike, AreMarked}
+use Rattle.polygons.specs.Summing.{run, number_in, marks_in, nonzero_bit, IsMarked}
 use Rattle.polygons.proofs.Plotted.{times_sum}
 
-pub run-same : (xs ys : List ℕ) (from a b n : ℕ) → b ≡ a → ((k : ℕ) → k < n → slice_index ys (from + k) ≡ slice_index xs (from + k)) → run ys from b n ≡ run xs from a n
-run-same xs ys from a b zero e h = e
-run-same xs ys from a b (suc n) e h =
-    let i = run-same xs ys from a b n e (λ k l. h k (omega arith)) in
+pub run-same : (f g : ℕ → ℕ) (from a b n : ℕ) → b ≡ a → ((k : ℕ) → k < n → g (from + k) ≡ f (from + k)) → run g from b n ≡ run f from a n
+run-same f g from a b zero e h = e
+run-same f g from a b (suc n) e h =
+    let i = run-same f g from a b n e (λ k l. h k (omega arith)) in
     let x = h n (omega arith) in
     λ j. (i j + x j) % 2 ^ 32
 
-pub run-none : (xs : List ℕ) (from start n : ℕ) → start < 2 ^ 32 → ((k : ℕ) → k < n → slice_index xs (from + k) ≡ 0) → run xs from start n ≡ start
-run-none xs from start zero small h = refl
-run-none xs from start (suc n) small h =
-    let i = run-none xs from start n small (λ k l. h k (omega arith)) in
+pub run-none : (numbers : ℕ → ℕ) (from start n : ℕ) → start < 2 ^ 32 → ((k : ℕ) → k < n → numbers (from + k) ≡ 0) → run numbers from start n ≡ start
+run-none numbers from start zero small h = refl
+run-none numbers from start (suc n) small h =
+    let i = run-none numbers from start n small (λ k l. h k (omega arith)) in
     let x = h n (omega arith) in
     omega arith
 
-pub run_alike : (xs : List ℕ) (from start n : ℕ) → IsAlike (2 ^ 32) (pos (run xs from start n)) (pos start +ℤ sum_to (λ k. pos (slice_index xs (from + k))) n)
-run_alike xs from start zero = record { times = pos 0; is = omega (arith, ints) }
-run_alike xs from start (suc n) =
-    let i = run_alike xs from start n in
+pub run_alike : (numbers : ℕ → ℕ) (cells : ℕ → ℤ) (from start n : ℕ) → ((k : ℕ) → k < n → IsAlike (2 ^ 32) (pos (numbers (from + k))) (cells k)) → IsAlike (2 ^ 32) (pos (run numbers from start n)) (pos start +ℤ sum_to cells n)
+run_alike numbers cells from start zero h = record { times = pos 0; is = omega (arith, ints) }
+run_alike numbers cells from start (suc n) h =
+    let i = run_alike numbers cells from start n (λ k l. h k (omega arith)) in
     let e = i.is in
-    record { times = i.times -ℤ pos ((run xs from start n + slice_index xs (from + n)) / 2 ^ 32); is = omega (arith, ints) }
+    let c = h n (omega arith) in
+    let f = c.is in
+    record { times = (i.times +ℤ c.times) -ℤ pos ((run numbers from start n + numbers (from + n)) / 2 ^ 32); is = omega (arith, ints) }
 
 -- ---- one element that is set
 pub set_same : (xs : List ℕ) (n x i : ℕ) → n < length xs → i ≡ n → slice_index (set xs n x) i ≡ x
@@ -43,6 +47,11 @@ past_end [] i h = refl
 past_end (x ∷ xs) zero h = absurd (omega arith)
 past_end (x ∷ xs) (suc i) h = past_end xs i (omega arith)
 
+pub no_row : (xs : List (List ℕ)) (column i : ℕ) → length xs ≤ column → slice_index (row_of xs column) i ≡ 0
+no_row [] column i h = refl
+no_row (x ∷ xs) zero i h = absurd (omega arith)
+no_row (x ∷ xs) (suc column) i h = no_row xs column i (omega arith)
+
 -- ---- sums of a strip
 pub sum-append : (f : ℕ → ℤ) (m n : ℕ) → sum_to f (m + n) ≡ sum_to f m +ℤ sum_to (λ k. f (m + k)) n
 sum-append f m zero = let e : m + 0 ≡ m = omega arith in rw e (omega (arith, ints))
@@ -51,12 +60,8 @@ sum-append f m (suc n) =
     let e : m + suc n ≡ suc (m + n) = omega arith in
     rw e (omega (arith, ints))
 
-pub sum-same-to : (f g : ℕ → ℤ) (n : ℕ) → ((k : ℕ) → k < n → g k ≡ f k) → sum_to g n ≡ sum_to f n
-sum-same-to f g zero h = refl
-sum-same-to f g (suc n) h = let i = sum-same-to f g n (λ k l. h k (omega arith)) in let e = h n (omega arith) in omega (arith, ints)
-
-pub run_small : (xs : List ℕ) (from start n : ℕ) → run xs from start (n + 1) < 2 ^ 32
-run_small xs from start n = rw add-one (omega arith)
+pub run_small : (numbers : ℕ → ℕ) (from start n : ℕ) → run numbers from start (n + 1) < 2 ^ 32
+run_small numbers from start n = rw add-one (omega arith)
 
 pub alike_more : (m : ℕ) (x y z t : ℤ) → IsAlike m x (y +ℤ z) → IsAlike m y t → IsAlike m x (t +ℤ z)
 alike_more m x y z t h k = record { times = h.times +ℤ k.times; is = let i = h.is in let j = k.is in let d = times_sum (pos m) h.times k.times in omega (arith, ints) }
@@ -79,35 +84,82 @@ nonzero_or_not x t a b small e (inr k) =
 pub nonzero_iff : (x : ℕ) (t : ℤ) → x < 2 ^ 32 → IsAlike (2 ^ 32) (pos x) t → (nonzero_bit x ≡ 1) ↔ (IsAlike (2 ^ 32) t (pos 0) → ⊥)
 nonzero_iff x t small h = nonzero_or_not x t h.times (eqb x 0) small h.is (eqb_tells x 0)
 
--- ---- a column of a strip
-pub marks_of_column : (flags counters : List (List ℕ)) (n i r j : ℕ) → AreMarked NonZero flags counters → i < 32 → r < 8 → j < 8
-    → bit_at (slice_index (row_of flags n) i) (8 * r + j) ≡ 0 → slice_index (row_of counters n) (8 * (8 * i + r) + j) ≡ 0
-marks_of_column flags counters n i r j marked li lr lj z =
-    let s : ℕ = i % 4 in
-    let row : ℕ = 8 * (i / 4) + r in
-    let k : ℕ = 8 * n + j in
-    let a : k / 8 ≡ n = omega arith in
-    let w : word_of s row ≡ i = omega arith in
-    let p : bit_in_block row k ≡ 8 * r + j = omega arith in
-    let d : 64 * word_of s row + bit_in_block row k ≡ 8 * (8 * i + r) + j = omega arith in
-    let f : flag_of flags s row k ≡ bit_at (slice_index (row_of flags n) i) (8 * r + j) = λ x. bit_at (slice_index (row_of flags (a x)) (w x)) (p x) in
-    let g : counter_at counters s row k ≡ slice_index (row_of counters n) (8 * (8 * i + r) + j) = λ x. slice_index (row_of counters (a x)) (d x) in
-    sym g ∙ marked s row k (omega arith) (omega arith) (f ∙ z)
+-- ---- a column of a strip, whose flags lie in three lists
+-- the number of a cell
+number_alike : (d u m c : ℕ) → IsAlike (2 ^ 32) (pos (d + 4294967295 * u + in_use m c)) ((pos d -ℤ pos u) +ℤ pos (in_use m c))
+number_alike d u m c = record { times = pos u; is = omega (arith, ints) }
 
-count_in : (flags counters : List (List ℕ)) (s row n k : ℕ) → k < 8 → cell NonZero flags counters s row (8 * n + k) ≡ pos (slice_index (row_of counters n) (8 * (8 * word_of s row + row % 8) + k))
-count_in flags counters s row n k h =
-    let a : (8 * n + k) / 8 ≡ n = omega arith in
-    let d : 64 * word_of s row + bit_in_block row (8 * n + k) ≡ 8 * (8 * word_of s row + row % 8) + k = omega arith in
-    λ x. pos (slice_index (row_of counters (a x)) (d x))
+module _ (downs ups more counters : List (List ℕ)) (downs_len : length downs ≡ length counters) (ups_len : length ups ≡ length counters) where
+  abbrev flags : List (List ℕ)
+  flags = downs ++ (ups ++ more)
 
--- the sum of a row, if the sums so far are those of the columns before
-pub column_sum : (flags counters : List (List ℕ)) (s row n start m : ℕ) → m ≤ 8 → IsAlike (2 ^ 32) (pos start) (sum_to (cell NonZero flags counters s row) (8 * n))
-    → IsAlike (2 ^ 32) (pos (run (row_of counters n) (8 * (8 * word_of s row + row % 8)) start m)) (sum_to (cell NonZero flags counters s row) (8 * n + m))
-column_sum flags counters s row n start m h start_is =
-    let from = 8 * (8 * word_of s row + row % 8) in
-    let a = run_alike (row_of counters n) from start m in
-    let b = alike_more (2 ^ 32) _ _ _ _ a start_is in
-    let c = sum-append (cell NonZero flags counters s row) (8 * n) m in
-    let d = sum-same-to (λ k. cell NonZero flags counters s row (8 * n + k)) (λ k. pos (slice_index (row_of counters n) (from + k))) m (λ k l. sym (count_in flags counters s row n k (omega arith))) in
-    let e = c ∙ ap (λ (z : ℤ). sum_to (cell NonZero flags counters s row) (8 * n) +ℤ z) (sym d) in
-    subst (λ (z : ℤ). IsAlike (2 ^ 32) (pos (run (row_of counters n) from start m)) z) (sym e) b
+  first_columns : (n : ℕ) → n < length counters → row_of flags n ≡ row_of downs n
+  first_columns n h = get_or_append_left downs (ups ++ more) [] n (omega arith)
+
+  next_columns : (n : ℕ) → n < length counters → row_of flags (n + length counters) ≡ row_of ups n
+  next_columns n h =
+      let place : n + length counters ≡ length downs + n = omega arith in
+      ap (row_of flags) place ∙ get_or-append-add downs (ups ++ more) n [] ∙ get_or_append_left ups more [] n (omega arith)
+
+  last_columns : (n : ℕ) → n < length counters → row_of flags (n + 2 * length counters) ≡ row_of more n
+  last_columns n h =
+      let place : n + 2 * length counters ≡ length downs + (length ups + n) = omega arith in
+      ap (row_of flags) place ∙ get_or-append-add downs (ups ++ more) (length ups + n) [] ∙ get_or-append-add ups more n []
+
+  -- the flags of word i of a column
+  abbrev marks : ℕ → ℕ → Marks
+  marks n i = marks_in (row_of downs n) (row_of ups n) (row_of more n) i
+
+  down_in : (s row n k : ℕ) → n < length counters → k < 8 → down_flag flags counters s row (8 * n + k) ≡ bit_at (marks n (word_of s row)).downs (8 * (row % 8) + k)
+  down_in s row n k h l =
+      let a : (8 * n + k) / 8 ≡ n = omega arith in
+      let b : (8 * n + k) % 8 ≡ k = omega arith in
+      (λ j. bit_at (slice_index (row_of flags (a j)) (word_of s row)) (8 * (row % 8) + b j)) ∙ ap (λ ws. bit_at (slice_index ws (word_of s row)) (8 * (row % 8) + k)) (first_columns n h)
+
+  up_in : (s row n k : ℕ) → n < length counters → k < 8 → up_flag flags counters s row (8 * n + k) ≡ bit_at (marks n (word_of s row)).ups (8 * (row % 8) + k)
+  up_in s row n k h l =
+      let a : (8 * n + k + 8 * length counters) / 8 ≡ n + length counters = omega arith in
+      let b : (8 * n + k + 8 * length counters) % 8 ≡ k = omega arith in
+      (λ j. bit_at (slice_index (row_of flags (a j)) (word_of s row)) (8 * (row % 8) + b j)) ∙ ap (λ ws. bit_at (slice_index ws (word_of s row)) (8 * (row % 8) + k)) (next_columns n h)
+
+  more_in : (s row n k : ℕ) → n < length counters → k < 8 → more_flag flags counters s row (8 * n + k) ≡ bit_at (marks n (word_of s row)).more (8 * (row % 8) + k)
+  more_in s row n k h l =
+      let a : (8 * n + k + 16 * length counters) / 8 ≡ n + 2 * length counters = omega arith in
+      let b : (8 * n + k + 16 * length counters) % 8 ≡ k = omega arith in
+      (λ j. bit_at (slice_index (row_of flags (a j)) (word_of s row)) (8 * (row % 8) + b j)) ∙ ap (λ ws. bit_at (slice_index ws (word_of s row)) (8 * (row % 8) + k)) (last_columns n h)
+
+  counter_in : (s row n k : ℕ) → k < 8 → counter_at counters s row (8 * n + k) ≡ slice_index (row_of counters n) (64 * word_of s row + (8 * (row % 8) + k))
+  counter_in s row n k l =
+      let a : (8 * n + k) / 8 ≡ n = omega arith in
+      let b : (8 * n + k) % 8 ≡ k = omega arith in
+      λ j. slice_index (row_of counters (a j)) (64 * word_of s row + (8 * (row % 8) + b j))
+
+  pub marked_in : (n i : ℕ) → AreMarked NonZero flags counters → n < length counters → i < 32 → IsMarked (marks n i)
+  marked_in n i marked h l b b_small d u =
+      let s : ℕ = i % 4 in
+      let row : ℕ = 8 * (i / 4) + b / 8 in
+      let k : ℕ = b % 8 in
+      let w : word_of s row ≡ i = omega arith in
+      let p : 8 * (row % 8) + k ≡ b = omega arith in
+      let d' : bit_at (marks n (word_of s row)).downs (8 * (row % 8) + k) ≡ 0 = (λ j. bit_at (marks n (w j)).downs (p j)) ∙ d in
+      let u' : bit_at (marks n (word_of s row)).ups (8 * (row % 8) + k) ≡ 0 = (λ j. bit_at (marks n (w j)).ups (p j)) ∙ u in
+      let m : more_flag flags counters s row (8 * n + k) ≡ 0 = marked s row (8 * n + k) (omega arith) (omega arith) (omega arith) (down_in s row n k h (omega arith) ∙ d') (up_in s row n k h (omega arith) ∙ u') in
+      sym (λ j. bit_at (marks n (w j)).more (p j)) ∙ sym (more_in s row n k h (omega arith)) ∙ m
+
+  cell_alike : (s row n k : ℕ) → n < length counters → k < 8
+      → IsAlike (2 ^ 32) (pos (number_in (marks n (word_of s row)) (row_of counters n) (word_of s row) (8 * (row % 8) + k))) (cell NonZero flags counters s row (8 * n + k))
+  cell_alike s row n k h l =
+      let number = number_in (marks n (word_of s row)) (row_of counters n) (word_of s row) (8 * (row % 8) + k) in
+      let same : (pos (bit_at (marks n (word_of s row)).downs (8 * (row % 8) + k)) -ℤ pos (bit_at (marks n (word_of s row)).ups (8 * (row % 8) + k)))
+      +ℤ pos (in_use (bit_at (marks n (word_of s row)).more (8 * (row % 8) + k)) (slice_index (row_of counters n) (64 * word_of s row + (8 * (row % 8) + k)))) ≡ cell NonZero flags counters s row (8 * n + k) =
+      sym (λ j. (pos (down_in s row n k h l j) -ℤ pos (up_in s row n k h l j)) +ℤ pos (in_use (more_in s row n k h l j) (counter_in s row n k l j))) in
+      subst (λ (z : ℤ). IsAlike (2 ^ 32) (pos number) z) same (number_alike _ _ (bit_at (marks n (word_of s row)).more (8 * (row % 8) + k)) _)
+
+  -- the sum of a row, if the sums so far are those of the columns before
+  pub column_sum : (s row n start m : ℕ) → n < length counters → m ≤ 8 → IsAlike (2 ^ 32) (pos start) (sum_to (cell NonZero flags counters s row) (8 * n))
+      → IsAlike (2 ^ 32) (pos (run (number_in (marks n (word_of s row)) (row_of counters n) (word_of s row)) (8 * (row % 8)) start m)) (sum_to (cell NonZero flags counters s row) (8 * n + m))
+  column_sum s row n start m h l start_is =
+      let numbers = number_in (marks n (word_of s row)) (row_of counters n) (word_of s row) in
+      let a = run_alike numbers (λ k. cell NonZero flags counters s row (8 * n + k)) (8 * (row % 8)) start m (λ k x. cell_alike s row n k h (omega arith)) in
+      let b = alike_more (2 ^ 32) _ _ _ _ a start_is in
+      subst (λ (z : ℤ). IsAlike (2 ^ 32) (pos (run numbers (8 * (row % 8)) start m)) z) (sym (sum-append (cell NonZero flags counters s row) (8 * n) m)) b

@@ -1,20 +1,24 @@
 -- The first column at which a short edge is crossed.
-use Rattle.std.proofs.Common.{◌≡◌, inl, inr, refl, arith, ℕ, ◌<◌, nat_abs, ◌^◌, [], ◌∷◌, ℤ, pos, negsuc, ◌+ℤ◌, ◌-ℤ◌, ◌*ℤ◌, neg_ℤ, ◌<ℤ◌, ◌≤ℤ◌, w32, to_z, of_z}
+use Rattle.std.proofs.Common.{◌≡◌, inl, inr, refl, sym, subst, arith, ℕ, ◌+◌, ◌*◌, ◌<◌, nat_abs, ◌^◌, List, [], ◌∷◌, slice_index_or, ℤ, pos, negsuc, ◌+ℤ◌, ◌-ℤ◌, ◌*ℤ◌, neg_ℤ, ◌<ℤ◌, ◌≤ℤ◌, w32, to_z, of_z}
 use Rattle.std.proofs.lemmas.Int.{ints, clamps}
 use Rattle.std.specs.Int.{int_div_euclid, int_min}
 use Rattle.grid.specs.Bounds.{IsWithin}
 use Rattle.grid.specs.Position.{Position, IsInBand}
 use Rattle.grid.specs.Edge.{side}
+use Rattle.grid.specs.Samples.{part_size}
+use Rattle.grid.proofs.Bounds.{passed}
 use Rattle.grid.proofs.Ring.{var, lit, plus, neg, times, ring}
 use Rattle.polygons.specs.declared.edge.Edge.{Edge}
+use Rattle.polygons.specs.declared.strip.Strip.{Strip}
 use Rattle.polygons.specs.Blocks.{down}
 use Rattle.polygons.specs.Columns.{along, HasHeight, IsFirstColumn}
 use Rattle.polygons.specs.Rows.{direction}
 use Rattle.polygons.specs.Pixels.{IsFirstPixel}
 use Rattle.polygons.specs.Short.{IsShortEdge, IsRowCrossed}
+use Rattle.polygons.specs.Strip.{start_of, AreFirstRows}
 use Rattle.polygons.proofs.Columns.{side-along, is_first_column, between, at_right, at_left}
 use Rattle.polygons.proofs.Division.{division}
-use Rattle.polygons.proofs.Plotted.{direction_above, direction_below}
+use Rattle.polygons.proofs.Plotted.{direction_above, direction_below, part_small}
 use Rattle.polygons.proofs.Triangle.{under_or_at_least}
 
 pub side-is : (a b p : Position) → side a b p ≡ (b.x -ℤ a.x) *ℤ (p.y -ℤ a.y) -ℤ (b.y -ℤ a.y) *ℤ (p.x -ℤ a.x)
@@ -121,10 +125,12 @@ none_crossed e start first end short runs_down a b none row k h = elim (under_or
 ]
 
 -- ---- the rows as they are read
-pub first_read : (start start' y y' n : ℤ) → start ≡ start' → IsInBand y → y ≡ y' → IsFirstPixel start' (to_z w32 (of_z w32 y)) n → IsFirstPixel start y' n
-first_read start start' y y' n e h f first = let r = first.reached in let s = first.first in record { reached = omega (arith, ints); first = omega (arith, ints) }
+pub rows_read : (strip : Strip) (part : ℕ) (y y' : ℤ) (rows : List ℤ) → IsInBand y → y ≡ y' → AreFirstRows strip part (to_z w32 (of_z w32 y)) rows → AreFirstRows strip part y' rows
+rows_read strip part y y' rows h e first = subst (λ z. AreFirstRows strip part z rows) (passed y y' h e) first
 
-pub first_passed : (start start' y y' n : ℤ) → start ≡ start' → IsInBand y → y ≡ y' → IsWithin (2 ^ 17) n → IsFirstPixel start' (to_z w32 (of_z w32 y)) n → IsFirstPixel start y' (to_z w32 (of_z w32 n))
-first_passed start start' y y' n e h f near first =
-    let same : to_z w32 (of_z w32 n) ≡ n = omega (arith, ints) in
-    rw same (first_read start start' y y' n e h f first)
+pub row_passed : (strip : Strip) (part s : ℕ) (start : Position) (y : ℤ) (rows : List ℤ) → start ≡ start_of strip (4 * part + s) → s < part_size strip.count → AreFirstRows strip part y rows
+    → IsFirstPixel start.y y (to_z w32 (of_z w32 (slice_index_or rows s (pos 0))))
+row_passed strip part s start y rows is h first =
+    let near = first.near s (omega (arith, h, part_small strip.count)) in
+    let same : to_z w32 (of_z w32 (slice_index_or rows s (pos 0))) ≡ slice_index_or rows s (pos 0) = omega (arith, ints) in
+    rw same (subst (λ (p : Position). IsFirstPixel p.y y (slice_index_or rows s (pos 0))) (sym is) (first.first s h))

@@ -1,18 +1,18 @@
 -- Flags and counters of a strip: one cell that changes, and what it does to the sums of its row.
-use Rattle.std.proofs.Common.{◌≡◌, ◌≢◌, ◌⊎◌, inl, inr, refl, sym, subst, ap, ◌∙◌, arith, ℕ, zero, suc, ◌+◌, ◌*◌, ◌/◌, ◌%◌, ◌^◌, ◌<◌, ◌≤◌, Bool, true, false, cond, List, length, set, slice_index, get_or-set_same, get_or-set_other, bit_or, ℤ, pos, neg_ℤ, w64, ◌+ℤ◌, ◌-ℤ◌, ◌*ℤ◌}
+use Rattle.std.proofs.Common.{◌≡◌, ◌≢◌, ◌⊎◌, inl, inr, refl, sym, subst, ap, ◌∙◌, arith, ℕ, zero, suc, ◌+◌, ◌*◌, ◌/◌, ◌%◌, ◌^◌, ◌<◌, ◌≤◌, Bool, true, false, cond, List, length, set, slice_index, get_or-set_same, get_or-set_other, bit_or, bit_and, not, eqb, pow_pos, ℤ, pos, neg_ℤ, w64, ◌+ℤ◌, ◌-ℤ◌, ◌*ℤ◌}
 use Rattle.std.proofs.lemmas.Int.{ints, clamps}
-use Rattle.std.proofs.lemmas.Bool.{cases_eq}
+use Rattle.std.proofs.lemmas.Bool.{cases_eq, eq-eqb, ne_eqb}
 use Rattle.std.proofs.lemmas.Nat.{one_shl}
-use Rattle.std.proofs.lemmas.Nat.Bits.{bit_at_set_same, bit_at_set_other, bit_at-pow_same, bit_at-pow_other, bit_at-lt, bit_at_xor}
+use Rattle.std.proofs.lemmas.Nat.Bits.{bit_at_set_same, bit_at_set_other, bit_at-pow_same, bit_at-pow_other, bit_at-lt, bit_at_xor, and_pow}
 use Rattle.std.specs.Int.{bit_at, int_max}
 use Rattle.std.specs.Int.RustNames.{int_le, bit_xor}
 use Rattle.polygons.specs.Rows.{sum_to, from_column}
 use Rattle.polygons.specs.ManyRows.{row_of}
 use Rattle.polygons.specs.declared.rule.Rule.{Rule}
-use Rattle.polygons.specs.Cells.{word_of, bit_in_block, flag_of, running_sum, modulus, signed, IsAlike}
+use Rattle.polygons.specs.Cells.{word_of, bit_in_block, flag_of, cell, running_sum, modulus, columns_in, signed, IsAlike, AreMarked, IsAdded}
 use Rattle.polygons.proofs.RowLists.{row-here, row-other}
 use Rattle.polygons.proofs.Tests.{le_no}
-use Rattle.polygons.proofs.Counters.{number_at, number-here, number-elsewhere, sums-added, same-test}
+use Rattle.polygons.proofs.Counters.{number_at, number-here, number-elsewhere, sum-same, sums-added, same-test}
 
 -- ---- one word
 word-here : (flags : List (List ℕ)) (j i v : ℕ) → j < length flags → i < length (row_of flags j) → slice_index (row_of (set flags j (set (row_of flags j) i v)) j) i ≡ v
@@ -97,6 +97,21 @@ marked_here x b h = bit_at_set_same w64 x b h
 pub marked_other : (x b i : ℕ) → b < 64 → i ≢ b → bit_at (bit_or x (1 * 2 ^ b % 2 ^ 64)) i ≡ bit_at x i
 marked_other x b i h n = bit_at_set_other w64 x b h i n
 
+-- whether a bit is set, as code asks it
+pub was_set : (x b : ℕ) → b < 64 → bit_at x b ≡ cond {A = ℕ} (not (eqb (bit_and x (1 * 2 ^ b % 2 ^ 64)) 0)) 1 0
+was_set x b h =
+    let p : 1 * 2 ^ b % 2 ^ 64 ≡ 2 ^ b = one_shl b 64 h in
+    rw (p, and_pow x b) (by_bit (bit_at x b) (bit_at-lt x b))
+  where
+    by_bit : (v : ℕ) → v < 2 → v ≡ cond {A = ℕ} (not (eqb (v * 2 ^ b) 0)) 1 0
+    by_bit zero h = let e : eqb (0 * 2 ^ b) 0 ≡ true = eq-eqb (0 * 2 ^ b) 0 (omega arith) in rw e refl
+    by_bit (suc zero) h = let e : eqb (1 * 2 ^ b) 0 ≡ false = ne_eqb (1 * 2 ^ b) 0 (λ q. omega (arith, pow_pos b)) in rw e refl
+    by_bit (suc (suc v)) h = absurd (omega arith)
+
+pub was_marked : (flags : List (List ℕ)) (s row k w b : ℕ) → w ≡ word_of s row → b ≡ bit_in_block row k → b < 64
+    → flag_of flags s row k ≡ cond {A = ℕ} (not (eqb (bit_and (slice_index (row_of flags (k / 8)) w) (1 * 2 ^ b % 2 ^ 64)) 0)) 1 0
+was_marked flags s row k w b is at small = (λ i. bit_at (slice_index (row_of flags (k / 8)) (sym is i)) (sym at i)) ∙ was_set (slice_index (row_of flags (k / 8)) w) b small
+
 pub flip_here : (flags : List (List ℕ)) (s row k w b : ℕ) → w ≡ word_of s row → b ≡ bit_in_block row k → b < 64 → k / 8 < length flags → w < length (row_of flags (k / 8))
     → flag_of (set flags (k / 8) (set (row_of flags (k / 8)) w (bit_xor (slice_index (row_of flags (k / 8)) w) (1 * 2 ^ b % 2 ^ 64)))) s row k ≡ (flag_of flags s row k + 1) % 2
 flip_here flags s row k w b is at small h l =
@@ -120,9 +135,9 @@ pub alike_same : (m : ℕ) (x y : ℤ) → x ≡ y → IsAlike m x y
 alike_same m x y e = record { times = pos 0; is = omega (arith, ints) }
 
 -- a row in which one cell changes by a number that is alike the direction
-pub crossed_once : (f g : ℕ → ℤ) (c m : ℕ) (column v d : ℤ) → pos c ≡ int_max column (pos 0) → ((j : ℕ) → g j ≡ f j +ℤ number_at c v j) → IsAlike m v d
-    → (k : ℕ) → IsAlike m (sum_to g (k + 1)) (sum_to f (k + 1) +ℤ cond (int_le column (pos k)) d (pos 0))
-crossed_once f g c m column v d is change alike k =
+crossed_once : (f g : ℕ → ℤ) (c m : ℕ) (column v d : ℤ) (k : ℕ) → pos c ≡ int_max column (pos 0) → ((j : ℕ) → j < k + 1 → g j ≡ f j +ℤ number_at c v j) → IsAlike m v d
+    → IsAlike m (sum_to g (k + 1)) (sum_to f (k + 1) +ℤ cond (int_le column (pos k)) d (pos 0))
+crossed_once f g c m column v d k is change alike =
     let a = sums-added f g c v k change in
     let t = same-test column c k is in
     let b : sum_to g (k + 1) ≡ sum_to f (k + 1) +ℤ cond (int_le column (pos k)) v (pos 0) = a ∙ ap (λ (x : Bool). sum_to f (k + 1) +ℤ cond x v (pos 0)) t in
@@ -132,7 +147,7 @@ crossed_once f g c m column v d is change alike k =
     by_test true = alike_added m (sum_to f (k + 1)) v d alike
     by_test false = alike_same m _ _ refl
 
-pub signed_column : (down : Bool) (column : ℤ) (k : ℕ) → cond (int_le column (pos k)) (signed down (pos 1)) (pos 0) ≡ signed down (from_column column (pos 1) k)
+signed_column : (down : Bool) (column : ℤ) (k : ℕ) → cond (int_le column (pos k)) (signed down (pos 1)) (pos 0) ≡ signed down (from_column column (pos 1) k)
 signed_column down column k = both down (int_le column (pos k))
   where
     both : (down test : Bool) → cond test (signed down (pos 1)) (pos 0) ≡ signed down (cond test (pos 1) (pos 0))
@@ -142,15 +157,18 @@ signed_column down column k = both down (int_le column (pos k))
     both false false = refl
 
 -- by how much a flag changes that is flipped
-abbrev pub flip_of : ℕ → ℤ
+abbrev flip_of : ℕ → ℤ
 flip_of old = pos 1 -ℤ pos 2 *ℤ pos old
 
-pub flag_changes : (old new : ℕ) → old < 2 → new ≡ (old + 1) % 2 → pos new ≡ pos old +ℤ flip_of old
+flag_changes : (old new : ℕ) → old < 2 → new ≡ (old + 1) % 2 → pos new ≡ pos old +ℤ flip_of old
 flag_changes old new h e = omega (arith, ints)
 
-pub flip_alike : (old : ℕ) (down : Bool) → IsAlike 2 (flip_of old) (signed down (pos 1))
+flip_alike : (old : ℕ) (down : Bool) → IsAlike 2 (flip_of old) (signed down (pos 1))
 flip_alike old true = record { times = neg_ℤ (pos old); is = omega (arith, ints) }
 flip_alike old false = record { times = pos 1 -ℤ pos old; is = omega (arith, ints) }
+
+pub flipped_alike : (old new : ℕ) (down : Bool) → old < 2 → new ≡ (old + 1) % 2 → IsAlike 2 (pos new) (pos old +ℤ signed down (pos 1))
+flipped_alike old new down h e = let f = flip_alike old down in let is = f.is in let n = flag_changes old new h e in record { times = f.times; is = omega (arith, ints) }
 
 -- by how much a counter changes
 pub counter_alike : (old new : ℕ) (down : Bool) → new ≡ (old + cond down 1 4294967295) % 2 ^ 32 → IsAlike (2 ^ 32) (pos new -ℤ pos old) (signed down (pos 1))
@@ -158,21 +176,14 @@ counter_alike old new true e = record { times = neg_ℤ (pos ((old + 1) / 2 ^ 32
 counter_alike old new false e = record { times = pos 1 -ℤ pos ((old + 4294967295) / 2 ^ 32); is = omega (arith, ints) }
 
 -- a row of cells in which only the one in column c changed
-pub one_changed : (f g : ℕ → ℤ) (c : ℕ) (v : ℤ) → g c ≡ f c +ℤ v → ((j : ℕ) → (j ≡ c → ⊥) → g j ≡ f j) → (j : ℕ) → g j ≡ f j +ℤ number_at c v j
-one_changed f g c v here other j = elim (cases_eq j c) [
+one_changed : (f g : ℕ → ℤ) (c n : ℕ) (v : ℤ) → g c ≡ f c +ℤ v → ((j : ℕ) → j < n → (j ≡ c → ⊥) → g j ≡ f j) → (j : ℕ) → j < n → g j ≡ f j +ℤ number_at c v j
+one_changed f g c n v here other j h = elim (cases_eq j c) [
   | inl e ↦ let n = number_at c v j in let z = number-here c v j e in ap g e ∙ here ∙ (let w = ap f e in omega (arith, ints))
-  | inr e ↦ let z = number-elsewhere c v j e in other j e ∙ (omega (arith, ints))
+  | inr e ↦ let z = number-elsewhere c v j e in other j h e ∙ (omega (arith, ints))
 ]
 
-pub sum-same : (f g : ℕ → ℤ) (n : ℕ) → ((k : ℕ) → g k ≡ f k) → sum_to g n ≡ sum_to f n
-sum-same f g n h = sum_same_to n
-  where
-    sum_same_to : (n : ℕ) → sum_to g n ≡ sum_to f n
-    sum_same_to zero = refl
-    sum_same_to (suc n) = let i = sum_same_to n in let e = h n in omega (arith, ints)
-
 -- an edge that is crossed right of column k alone
-pub right_of : (m : ℕ) (t column : ℤ) (c k : ℕ) (down : Bool) → pos c ≡ int_max column (pos 0) → k < c → IsAlike m t (t +ℤ signed down (from_column column (pos 1) k))
+right_of : (m : ℕ) (t column : ℤ) (c k : ℕ) (down : Bool) → pos c ≡ int_max column (pos 0) → k < c → IsAlike m t (t +ℤ signed down (from_column column (pos 1) k))
 right_of m t column c k down is h =
     let e : int_le column (pos k) ≡ false = le_no column (pos k) (omega (arith, ints, clamps)) in
     rw e (alike_same m _ _ (none down))
@@ -192,8 +203,54 @@ same_or_not s r row j c k = elim (cases_eq r s) [
 ]
 
 -- what is said of one row is said of the rows from it to before the next one
-pub one_row : (rule : Rule) (s row n : ℕ) (number : ℕ → ℤ) (f c f' c' : List (List ℕ)) → ((k : ℕ) → k < n → IsAlike (modulus rule) (running_sum rule f' c' s row k) (running_sum rule f c s row k +ℤ number k))
+one_row : (rule : Rule) (s row n : ℕ) (number : ℕ → ℤ) (f c f' c' : List (List ℕ)) → ((k : ℕ) → k < n → IsAlike (modulus rule) (running_sum rule f' c' s row k) (running_sum rule f c s row k +ℤ number k))
     → (j k : ℕ) → row ≤ j → j < row + 1 → k < n → IsAlike (modulus rule) (running_sum rule f' c' s j k) (running_sum rule f c s j k +ℤ number k)
 one_row rule s row n number f c f' c' h j k l m o =
     let at : row ≡ j = omega arith in
     subst (λ (i : ℕ). IsAlike (modulus rule) (running_sum rule f' c' s i k) (running_sum rule f c s i k +ℤ number k)) at (h k o)
+
+-- ---- one cell that changes
+alike_difference : (m : ℕ) (x y d : ℤ) → IsAlike m x (y +ℤ d) → IsAlike m (x -ℤ y) d
+alike_difference m x y d h = record { times = h.times; is = let e = h.is in omega (arith, ints) }
+
+pub added_cell : (rule : Rule) (s row n : ℕ) (column : ℤ) (down : Bool) (f c f' c' : List (List ℕ)) → s < 4 → row < 64 → pos n ≡ int_max column (pos 0) → length f' ≡ length f → length c' ≡ length c
+    → IsAlike (modulus rule) (cell rule f' c' s row n) (cell rule f c s row n +ℤ signed down (pos 1))
+    → ((r j k : ℕ) → r < 4 → j < 64 → k < 8 * columns_in rule f c → (r ≡ s → j ≡ row → k ≡ n → ⊥) → cell rule f' c' r j k ≡ cell rule f c r j k)
+    → (AreMarked rule f c → AreMarked rule f' c')
+    → IsAdded rule s row (row + 1) (λ _ k. signed down (from_column column (pos 1) k)) f c f' c'
+added_cell rule s row n column down f c f' c' s_small row_small is flags_len counters_len alike others marked = record {
+  flags_len = flags_len;
+  counters_len = counters_len;
+  here = one_row rule s row (8 * columns_in rule f c) _ f c f' c' at;
+  others = λ r j k r_small j_small k_small other. sum-same (cell rule f c r j) (cell rule f' c' r j) (k + 1) (λ m l. others r j m r_small j_small (omega arith) (λ e h _. other e (omega arith) (omega arith)));
+  marked = marked;
+}
+  where
+    old : ℕ → ℤ
+    old = cell rule f c s row
+
+    new : ℕ → ℤ
+    new = cell rule f' c' s row
+
+    v : ℤ
+    v = new n -ℤ old n
+
+    moved : (x y : ℤ) → x ≡ y +ℤ (x -ℤ y)
+    moved x y = omega (arith, ints)
+
+    at : (k : ℕ) → k < 8 * columns_in rule f c → IsAlike (modulus rule) (running_sum rule f' c' s row k) (running_sum rule f c s row k +ℤ signed down (from_column column (pos 1) k))
+    at k h =
+        let change = one_changed old new n (8 * columns_in rule f c) v (moved (new n) (old n)) (λ j l e. others s row j s_small row_small l (λ _ _ q. e q)) in
+        let a = crossed_once old new n (modulus rule) column v (signed down (pos 1)) k is (λ j l. change j (omega arith)) (alike_difference (modulus rule) _ _ _ alike) in
+        subst (λ (z : ℤ). IsAlike (modulus rule) (running_sum rule f' c' s row k) (running_sum rule f c s row k +ℤ z)) (signed_column down column k) a
+
+-- an edge right of the strip
+pub added_right : (rule : Rule) (s row : ℕ) (column : ℤ) (n : ℕ) (down : Bool) (f c : List (List ℕ)) → pos n ≡ int_max column (pos 0) → columns_in rule f c ≤ n / 8
+    → IsAdded rule s row (row + 1) (λ _ k. signed down (from_column column (pos 1) k)) f c f c
+added_right rule s row column n down f c is beside = record {
+  flags_len = refl;
+  counters_len = refl;
+  here = one_row rule s row (8 * columns_in rule f c) _ f c f c (λ k h. right_of (modulus rule) (running_sum rule f c s row k) column n k down is (omega arith));
+  others = λ r j k r_small j_small k_small other. refl;
+  marked = λ h. h;
+}

@@ -101,8 +101,9 @@
 --   screen_sample: The position of sample s of pixel (i, j) of the screen, whose upper left corner is at (256 i, 256 j).
 --
 -- Strip.antt
---   start_of: Where the first pixel of a strip has sample s of the part.
---   strip_sample: Where the pixel in a row and a column of a strip has sample s of the part.
+--   start_of: Where the first pixel of a strip has sample s.
+--   strip_sample: Where the pixel in a row and a column of a strip has sample s.
+--   AreFirstRows: Of each sample of a part, the first row of a strip that is not above the height y.
 --
 -- Apart.antt
 --   IsAbove: Both ends are at the upper border of the strip, or above it.
@@ -119,24 +120,39 @@
 --   AreRunsOf: Each box holds the corners of its run and the one behind it.
 --
 -- Cells.antt
+--   part_columns: The columns of a part.
+--   mask_at: The mask of sample s of the block in a column and a row of blocks.
 --   word_of: The word of a sample's row in a column of blocks: of each row of blocks there are four.
 --   bit_in_block: The bit of a pixel in its block.
 --   flag_of: The flag of sample s of the pixel in a row and a column.
 --   counter_at: The counter of that sample.
---   cell: What stands there for the rule: a flag, or a counter.
---   running_sum: The sum of the flags or counters of a row up to column k.
---   modulus: Flags are sums modulo 2, and counters modulo 2 ^ 32.
+--   down_flag: The first flag of that sample by the nonzero rule, of an edge that runs downwards.
+--   up_flag: The second one, of an edge that runs upwards.
+--   more_flag: The third one, of a counter in use.
+--   in_use: The number in a counter, if its flag is set, else 0.
+--   cell: What stands at a sample for the rule: a flag; or the first flag less the second, and the number in the counter.
+--   running_sum: The sum of what stands in a row up to column k.
+--   modulus: Flags are sums modulo 2, and windings modulo 2 ^ 32.
 --   IsAlike: The numbers differ by a multiple of m.
---   HasCounters: The nonzero rule has as many columns of counters as of flags.
---   AreMarked: A counter other than 0 has its flag set.
+--   flags_by: How many flags a sample has by the rule.
+--   columns_in: How many columns of blocks there are.
+--   HasCounters: The nonzero rule has three columns of flags and one of counters for each column of blocks.
+--   AreMarked: A counter is in use only if one of the other flags is set.
 --   signed: The number, or its opposite.
+--   IsCounted: An edge was counted by the nonzero rule at sample s of the pixel in a row and a column.
 --   added_by: What an edge that runs downwards adds at the samples of one index, by row and column.
 --   IsAdded: To the sums of sample s in the rows from `first` to before `end` a number was added, by row and column; no other was changed.
---   IsPlotted: To the sums at each sample of a strip a number was added, which depends on where the sample lies.
---   AreZeros: All flags or counters are 0.
+--   IsPlotted: To the sums at each sample of a part of a strip a number was added, which depends on where the sample lies.
+--   AreZeros: All flags are 0.
+--   AreZerosFrom: All flags from a column on are 0.
+--   AreMasksAlone: Of each part's columns those from this one on are zeros.
+--   AreSumMasks: Each bit of these masks says whether the sum of its row up to it is other than 0.
 --
 -- Plotting.antt
---   AreSame: The cells are the same memory, and count by the same rule.
+--   HasParts: Each part of a strip's samples has its columns of flags, and by the nonzero rule of counters.
+--   AreSame: The cells are the same memory with the same parts, and count by the same rule.
+--   IsPlottedIn: To the sums at each sample of a part of the cells a number was added, which depends on where the sample lies.
+--   IsPartPlotted: To the sums at each sample of one part a number was added, and the other parts are unchanged.
 --   ArePlotted: To the sums at each sample of a strip a number was added, which depends on where the sample lies.
 --
 -- Spreading.antt
@@ -145,11 +161,14 @@
 --   IsNextCarry: The carry into the next word is the parity of the carry and of all flags of a row.
 --
 -- Summing.antt
---   run: The sum of a number and of the first n counters from `from` on, modulo 2 ^ 32.
+--   marks_in: The flags of word i of a column.
+--   IsMarked: A counter is in use only if one of the other flags is set.
+--   number_in: The number of cell i of a word, or more by a multiple of 2 ^ 32.
+--   run: The sum of a number and of n further ones from `from` on, modulo 2 ^ 32.
 --   nonzero_bit: 1 if the number is other than 0.
 --   change_bit: 1 if one of the numbers is 0 and the other is not.
---   change_at: Whether counter i of a word changes the sum of its row from 0 to another number, or from another number to 0: 1 or 0.
---   IsLevelMask: The mask of word i of a column if all of its counters are 0.
+--   change_at: Whether cell i of a word changes the sum of its row from 0 to another number, or from another number to 0: 1 or 0.
+--   IsLevelMask: The mask of word i of a column if it has no flags.
 
 pub mod Crossing
 pub mod Polygon

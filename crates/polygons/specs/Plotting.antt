@@ -1,15 +1,41 @@
 -- What edges add to the cells of a strip.
-use Rattle.std.specs.Prelude.{◌≡◌, ℤ}
+use Rattle.std.specs.Prelude.{◌≡◌, ℕ, ◌*◌, ◌<◌, ◌≤◌, ℤ, length}
 use Rattle.grid.specs.Position.{Position}
+use Rattle.grid.specs.Samples.{parts_of}
 use Rattle.polygons.specs.declared.cells.Cells.{Cells}
 use Rattle.polygons.specs.declared.strip.Strip.{Strip}
-use Rattle.polygons.specs.Cells.{IsPlotted}
+use Rattle.polygons.specs.Cells.{part_columns, IsPlotted}
 
--- The cells are the same memory, and count by the same rule.
-abbrev pub AreSame : Cells → Cells → Type 0
-AreSame old new = (new.rule ≡ old.rule) × ((new.flags.ghost_name ≡ old.flags.ghost_name) × (new.counters.ghost_name ≡ old.counters.ghost_name))
+-- Each part of a strip's samples has its columns of flags, and by the nonzero rule of counters.
+pub record HasParts (strip : Strip) (cells : Cells) : Type 0 where
+  pub flags : parts_of strip.count * cells.flagged ≤ length cells.flags.now
+  pub counters : parts_of strip.count * cells.counted ≤ length cells.counters.now
+
+-- The cells are the same memory with the same parts, and count by the same rule.
+pub record AreSame (old new : Cells) : Type 0 where
+  pub rule : new.rule ≡ old.rule
+  pub columns : new.columns ≡ old.columns
+  pub flagged : new.flagged ≡ old.flagged
+  pub counted : new.counted ≡ old.counted
+  pub flags : new.flags.ghost_name ≡ old.flags.ghost_name
+  pub counters : new.counters.ghost_name ≡ old.counters.ghost_name
+  pub flags_len : length new.flags.now ≡ length old.flags.now
+  pub counters_len : length new.counters.now ≡ length old.counters.now
+
+-- To the sums at each sample of a part of the cells a number was added, which depends on where the sample lies.
+abbrev pub IsPlottedIn : Strip → (Position → ℤ) → Cells → Cells → ℕ → Type 0
+IsPlottedIn strip change old new part =
+    IsPlotted old.rule strip part change (part_columns old.flags.now old.flagged part) (part_columns old.counters.now old.counted part)
+    (part_columns new.flags.now old.flagged part) (part_columns new.counters.now old.counted part)
+
+-- To the sums at each sample of one part a number was added, and the other parts are unchanged.
+pub record IsPartPlotted (strip : Strip) (part : ℕ) (change : Position → ℤ) (old new : Cells) : Type 0 where
+  pub here : IsPlottedIn strip change old new part
+  pub flags : (j : ℕ) → (j ≡ part → ⊥) → part_columns new.flags.now old.flagged j ≡ part_columns old.flags.now old.flagged j
+  pub counters : (j : ℕ) → (j ≡ part → ⊥) → part_columns new.counters.now old.counted j ≡ part_columns old.counters.now old.counted j
+  pub same : AreSame old new
 
 -- To the sums at each sample of a strip a number was added, which depends on where the sample lies.
 pub record ArePlotted (strip : Strip) (change : Position → ℤ) (old new : Cells) : Type 0 where
-  pub plotted : IsPlotted old.rule strip change old.flags.now old.counters.now new.flags.now new.counters.now
+  pub plotted : (part : ℕ) → part < parts_of strip.count → IsPlottedIn strip change old new part
   pub same : AreSame old new

@@ -1,11 +1,25 @@
--- From counters to masks.
+-- From flags and counters to masks.
 use Rattle.std.specs.Prelude.{◌≡◌, ℕ, zero, suc, ◌+◌, ◌*◌, ◌/◌, ◌%◌, ◌^◌, ◌<◌, cond, ◌==◌, List, slice_index}
 use Rattle.std.specs.Int.{bit_at}
+use Rattle.polygons.specs.declared.marks.Marks.{Marks}
+use Rattle.polygons.specs.Cells.{in_use}
 
--- The sum of a number and of the first n counters from `from` on, modulo 2 ^ 32.
-abbrev pub run : List ℕ → ℕ → ℕ → ℕ → ℕ
-run counters from start zero = start
-run counters from start (suc n) = (run counters from start n + slice_index counters (from + n)) % 2 ^ 32
+-- The flags of word i of a column.
+abbrev pub marks_in : List ℕ → List ℕ → List ℕ → ℕ → Marks
+marks_in downs ups more i = record { downs = slice_index downs i; ups = slice_index ups i; more = slice_index more i }
+
+-- A counter is in use only if one of the other flags is set.
+abbrev pub IsMarked : Marks → Type 0
+IsMarked marks = (i : ℕ) → i < 64 → bit_at marks.downs i ≡ 0 → bit_at marks.ups i ≡ 0 → bit_at marks.more i ≡ 0
+
+-- The number of cell i of a word, or more by a multiple of 2 ^ 32.
+abbrev pub number_in : Marks → List ℕ → ℕ → ℕ → ℕ
+number_in marks counters word i = bit_at marks.downs i + 4294967295 * bit_at marks.ups i + in_use (bit_at marks.more i) (slice_index counters (64 * word + i))
+
+-- The sum of a number and of n further ones from `from` on, modulo 2 ^ 32.
+abbrev pub run : (ℕ → ℕ) → ℕ → ℕ → ℕ → ℕ
+run numbers from start zero = start
+run numbers from start (suc n) = (run numbers from start n + numbers (from + n)) % 2 ^ 32
 
 -- 1 if the number is other than 0.
 abbrev pub nonzero_bit : ℕ → ℕ
@@ -15,13 +29,12 @@ nonzero_bit n = cond (n == 0) 0 1
 abbrev pub change_bit : ℕ → ℕ → ℕ
 change_bit m n = (nonzero_bit m + nonzero_bit n) % 2
 
--- Whether counter i of a word changes the sum of its row from 0 to another number, or from another number to 0: 1 or 0.
-abbrev pub change_at : List ℕ → ℕ → List ℕ → ℕ → ℕ
-change_at counters word sums i =
-    let row = 8 * word + i / 8 in
-    let sum = run counters (8 * row) (slice_index sums row) in
+-- Whether cell i of a word changes the sum of its row from 0 to another number, or from another number to 0: 1 or 0.
+abbrev pub change_at : (ℕ → ℕ) → ℕ → List ℕ → ℕ → ℕ
+change_at numbers word sums i =
+    let sum = run numbers (8 * (i / 8)) (slice_index sums (8 * word + i / 8)) in
     change_bit (sum (i % 8)) (sum (i % 8 + 1))
 
--- The mask of word i of a column if all of its counters are 0. Each bit says whether the sum at the beginning of its row is other than 0.
+-- The mask of word i of a column if it has no flags. Each bit says whether the sum at the beginning of its row is other than 0.
 abbrev pub IsLevelMask : ℕ → ℕ → List ℕ → Type 0
 IsLevelMask level i sums = (r j : ℕ) → r < 8 → j < 8 → bit_at level (8 * r + j) ≡ nonzero_bit (slice_index sums (8 * i + r))

@@ -1,8 +1,8 @@
-//! Where the edges of a polygon are first crossed in the rows of a strip: each edge is walked down once for each sample
-//! of the part, and adds to one cell of each row that it runs through.
+//! Where the edges of a polygon are first crossed in the rows of a strip: each edge is looked at once, walked down once
+//! for each sample of a pixel, and adds to one cell of each row that it runs through.
 ghost use Rattle.std.specs.Prelude.{◌≡◌, ℕ, ◌+◌, ◌*◌, ◌^◌, ◌<◌, ◌≤◌, pos, ◌+ℤ◌, ◌<ℤ◌, ◌≤ℤ◌, length, map, IsTrue};
 ghost use Rattle.grid.specs.Position.{Position, IsInBand};
-ghost use Rattle.grid.specs.Samples.{part_size};
+ghost use Rattle.grid.specs.Samples.{parts_of};
 ghost use Rattle.polygons.specs.Blocks.{down};
 ghost use Rattle.polygons.specs.Columns.{HasHeight, IsSlope};
 ghost use Rattle.polygons.specs.Crossing.{winding};
@@ -11,10 +11,10 @@ ghost use Rattle.polygons.specs.Short.{IsShortEdge};
 ghost use Rattle.polygons.specs.Polygon.{path_edges, path_end, ring_edges, polygon_edges};
 ghost use Rattle.polygons.specs.Rings.{position_of, rings_from, end_of, AreCornersInBand};
 ghost use Rattle.polygons.specs.Runs.{corner_at, corners_between, AreRunsOf, IsCrossedAsChord};
-ghost use Rattle.polygons.specs.Strip.{strip_sample};
+ghost use Rattle.polygons.specs.Strip.{strip_sample, AreFirstRows};
 ghost use Rattle.polygons.specs.Rows.{direction};
-ghost use Rattle.polygons.specs.Cells.{signed, added_by, HasCounters, IsAdded};
-ghost use Rattle.polygons.specs.Plotting.{ArePlotted};
+ghost use Rattle.polygons.specs.Cells.{signed, added_by, HasCounters, IsAdded, IsPlotted};
+ghost use Rattle.polygons.specs.Plotting.{ArePlotted, HasParts, IsPartPlotted};
 
 use crate::apart::is_apart;
 use crate::cells::{Cells, Counters, Flags, cross};
@@ -33,6 +33,7 @@ use grid::Point;
 /// Counts an edge that runs downwards in the rows of sample `s`, whose first pixel has this sample at `start`. The edge
 /// runs through the rows from `first` to before `end`, and counts as one in its own direction if `forward`, else in the
 /// opposite one.
+#[inline(always)]
 fn plot_sample(
     flags: &mut [Flags],
     counters: &mut [Counters],
@@ -65,6 +66,7 @@ fn plot_sample(
 
 /// Marks where the edge is crossed by samples of index `s`, in the rows `first` to before `end`: those that it runs
 /// through.
+#[inline(always)]
 fn plot_rows(
     flags: &mut [Flags],
     counters: &mut [Counters],
@@ -96,83 +98,190 @@ fn plot_rows(
     }
 }
 
-/// Marks where a short edge is crossed by samples of each index of the part.
+/// Marks where a short edge is crossed by samples of each index of a part, by the first rows that are not above its
+/// ends.
 #[inline(always)]
-fn plot_short(cells: &mut Cells<'_>, edge: &Edge, forward: bool, starts: &Starts)
+fn plot_short_samples(
+    flags: &mut [Flags],
+    counters: &mut [Counters],
+    rule: Rule,
+    edge: &Edge,
+    forward: bool,
+    starts: &Starts,
+    part: usize,
+    first: &[i32; 4],
+    end: &[i32; 4],
+)
     requires short { IsShortEdge edge.now }
     requires runs_down { edge.now.a.y ≤ℤ edge.now.b.y }
-    ensures { ArePlotted starts.now.strip (λ p. signed forward (direction edge.now p)) cells.old cells.new }
+    requires part { part < parts_of starts.now.strip.count }
+    requires counters { HasCounters rule flags.old counters.old }
+    requires first { AreFirstRows starts.now.strip part edge.now.a.y first.now }
+    requires end { AreFirstRows starts.now.strip part edge.now.b.y end.now }
+    ensures { IsPlotted rule starts.now.strip part (λ p. signed forward (direction edge.now p)) flags.old counters.old
+        flags.new counters.new }
 {
-    let first = starts.rows(edge.a.y());
-    let end = starts.rows(edge.b.y());
-    if !is_any_crossed(&first, &end) {
-        return;
-    }
     for s in 0..starts.strip.count.part_size() {
         let s = s as usize;
-        let start = starts.of(s);
+        let start = starts.of(4 * part + s);
         plot_short_sample(
-            cells.flags,
-            cells.counters,
-            cells.rule,
-            edge,
-            forward,
-            s,
-            start,
-            first[s],
-            end[s],
+            flags, counters, rule, edge, forward, s, start, first[s], end[s],
         );
     }
 }
 
-/// Marks where an edge is crossed by samples of each index of the part, walking it down from row to row.
-#[inline(never)]
-fn plot_long(cells: &mut Cells<'_>, edge: &Edge, forward: bool, starts: &Starts)
-    requires { edge.now.a.y <ℤ edge.now.b.y }
+/// Marks where a short edge is crossed by samples of a part.
+#[inline(always)]
+fn plot_short_part(cells: &mut Cells<'_>, edge: &Edge, forward: bool, starts: &Starts, part: usize)
+    requires short { IsShortEdge edge.now }
+    requires runs_down { edge.now.a.y ≤ℤ edge.now.b.y }
+    requires part { part < parts_of starts.now.strip.count }
+    requires room { HasParts starts.now.strip cells.old }
+    ensures { IsPartPlotted starts.now.strip part (λ p. signed forward (direction edge.now p)) cells.old cells.new }
+{
+    let first = starts.rows(part, edge.a.y());
+    let end = starts.rows(part, edge.b.y());
+    if !is_any_crossed(&first, &end) {
+        return;
+    }
+    let from = part * cells.flagged;
+    let counted = part * cells.counted;
+    plot_short_samples(
+        &mut cells.flags[from..from + cells.flagged],
+        &mut cells.counters[counted..counted + cells.counted],
+        cells.rule,
+        edge,
+        forward,
+        starts,
+        part,
+        &first,
+        &end,
+    );
+}
+
+/// Marks where a short edge is crossed by samples of each part.
+#[inline(always)]
+fn plot_short<const PARTS: usize>(
+    cells: &mut Cells<'_>,
+    edge: &Edge,
+    forward: bool,
+    starts: &Starts,
+)
+    requires short { IsShortEdge edge.now }
+    requires runs_down { edge.now.a.y ≤ℤ edge.now.b.y }
+    requires parts { parts_of starts.now.strip.count ≡ PARTS }
+    requires room { HasParts starts.now.strip cells.old }
     ensures { ArePlotted starts.now.strip (λ p. signed forward (direction edge.now p)) cells.old cells.new }
 {
-    let first = starts.rows(edge.a.y());
-    let end = starts.rows(edge.b.y());
-    let slope = Slope::of(edge);
+    for part in 0..PARTS {
+        plot_short_part(cells, edge, forward, starts, part);
+    }
+}
+
+/// Marks where an edge is crossed by samples of each index of a part, walking it down from row to row.
+#[inline(always)]
+fn plot_long_samples(
+    flags: &mut [Flags],
+    counters: &mut [Counters],
+    rule: Rule,
+    edge: &Edge,
+    slope: Slope,
+    forward: bool,
+    starts: &Starts,
+    part: usize,
+)
+    requires runs_down { edge.now.a.y ≤ℤ edge.now.b.y }
+    requires slope { IsSlope edge.now slope }
+    requires part { part < parts_of starts.now.strip.count }
+    requires counters { HasCounters rule flags.old counters.old }
+    ensures { IsPlotted rule starts.now.strip part (λ p. signed forward (direction edge.now p)) flags.old counters.old
+        flags.new counters.new }
+{
+    let first = starts.rows(part, edge.a.y());
+    let end = starts.rows(part, edge.b.y());
     for s in 0..starts.strip.count.part_size() {
         let s = s as usize;
-        let start = starts.of(s);
+        let start = starts.of(4 * part + s);
         plot_sample(
-            cells.flags,
-            cells.counters,
-            cells.rule,
-            edge,
-            slope,
-            forward,
-            s,
-            start,
-            first[s],
-            end[s],
+            flags, counters, rule, edge, slope, forward, s, start, first[s], end[s],
         );
+    }
+}
+
+/// Marks where an edge is crossed by samples of a part, in its columns.
+#[inline(always)]
+fn plot_long_part(
+    cells: &mut Cells<'_>,
+    edge: &Edge,
+    slope: Slope,
+    forward: bool,
+    starts: &Starts,
+    part: usize,
+)
+    requires runs_down { edge.now.a.y ≤ℤ edge.now.b.y }
+    requires slope { IsSlope edge.now slope }
+    requires part { part < parts_of starts.now.strip.count }
+    requires room { HasParts starts.now.strip cells.old }
+    ensures { IsPartPlotted starts.now.strip part (λ p. signed forward (direction edge.now p)) cells.old cells.new }
+{
+    let from = part * cells.flagged;
+    let counted = part * cells.counted;
+    plot_long_samples(
+        &mut cells.flags[from..from + cells.flagged],
+        &mut cells.counters[counted..counted + cells.counted],
+        cells.rule,
+        edge,
+        slope,
+        forward,
+        starts,
+        part,
+    );
+}
+
+/// Marks where an edge is crossed by samples of each part, walking it down from row to row.
+#[inline(never)]
+fn plot_long<const PARTS: usize>(cells: &mut Cells<'_>, edge: Edge, forward: bool, starts: &Starts)
+    requires runs_down { edge.a.y <ℤ edge.b.y }
+    requires parts { parts_of starts.now.strip.count ≡ PARTS }
+    requires room { HasParts starts.now.strip cells.old }
+    ensures { ArePlotted starts.now.strip (λ p. signed forward (direction edge p)) cells.old cells.new }
+{
+    let slope = Slope::of(&edge);
+    for part in 0..PARTS {
+        plot_long_part(cells, &edge, slope, forward, starts, part);
     }
 }
 
 /// Counts an edge in the rows of a strip.
 #[inline(always)]
-fn plot_edge(cells: &mut Cells<'_>, edge: Edge, starts: &Starts)
+fn plot_edge<const PARTS: usize>(cells: &mut Cells<'_>, edge: Edge, starts: &Starts)
+    requires parts { parts_of starts.now.strip.count ≡ PARTS }
+    requires room { HasParts starts.now.strip cells.old }
     ensures { ArePlotted starts.now.strip (λ p. direction edge p) cells.old cells.new }
 {
     let (downwards, forward) = edge.turned_down();
     if is_short(&downwards) {
-        plot_short(cells, &downwards, forward, starts);
+        plot_short::<PARTS>(cells, &downwards, forward, starts);
         return;
     }
-    if is_apart(&edge, &starts.strip, cells.flags.len()) {
+    if is_apart(&edge, &starts.strip, cells.columns) {
         return;
     }
     if downwards.a.y() < downwards.b.y() {
-        plot_long(cells, &downwards, forward, starts);
+        plot_long::<PARTS>(cells, downwards, forward, starts);
     }
 }
 
 /// Counts the edges of a path from a corner through others. Returns the last corner.
-fn plot_path(cells: &mut Cells<'_>, from: Point, corners: &[Corner], starts: &Starts) -> Point
-    requires { AreCornersInBand corners.now }
+fn plot_path<const PARTS: usize>(
+    cells: &mut Cells<'_>,
+    from: Point,
+    corners: &[Corner],
+    starts: &Starts,
+) -> Point
+    requires parts { parts_of starts.now.strip.count ≡ PARTS }
+    requires room { HasParts starts.now.strip cells.old }
+    requires corners { AreCornersInBand corners.now }
     ensures plotted { ArePlotted starts.now.strip (λ p. winding (path_edges from (map position_of corners.now)) p)
         cells.old cells.new }
     ensures end { result ≡ path_end from (map position_of corners.now) }
@@ -180,7 +289,7 @@ fn plot_path(cells: &mut Cells<'_>, from: Point, corners: &[Corner], starts: &St
     let mut from = from;
     for corner in corners {
         let to = corner.at();
-        plot_edge(cells, Edge { a: from, b: to }, starts);
+        plot_edge::<PARTS>(cells, Edge { a: from, b: to }, starts);
         from = to;
     }
     from
@@ -188,28 +297,30 @@ fn plot_path(cells: &mut Cells<'_>, from: Point, corners: &[Corner], starts: &St
 
 /// Counts the edges of a path from a corner through others. If these lie in a box beside the strip, the path is crossed
 /// there as the edge from its first corner to its last one is. Returns the last corner.
-fn plot_run(
+fn plot_run<const PARTS: usize>(
     cells: &mut Cells<'_>,
     from: Point,
     corners: &[Corner],
     is_beside: bool,
     starts: &Starts,
 ) -> Point
+    requires parts { parts_of starts.now.strip.count ≡ PARTS }
+    requires room { HasParts starts.now.strip cells.old }
     requires corners { AreCornersInBand corners.now }
-    requires chord { IsTrue is_beside → (s row k : ℕ) → row < 64 → k < 8 * length cells.old.flags.now →
+    requires chord { IsTrue is_beside → (s row k : ℕ) → row < 64 → k < 8 * cells.old.columns →
         IsCrossedAsChord from (map position_of corners.now) (strip_sample starts.now.strip s row k) }
     ensures plotted { ArePlotted starts.now.strip (λ p. winding (path_edges from (map position_of corners.now)) p)
         cells.old cells.new }
     ensures end { result ≡ path_end from (map position_of corners.now) }
 {
     if !is_beside {
-        return plot_path(cells, from, corners, starts);
+        return plot_path::<PARTS>(cells, from, corners, starts);
     }
     match corners {
         [] => from,
         [.., last] => {
             let end = last.at();
-            plot_edge(cells, Edge { a: from, b: end }, starts);
+            plot_edge::<PARTS>(cells, Edge { a: from, b: end }, starts);
             end
         }
     }
@@ -217,7 +328,7 @@ fn plot_run(
 
 /// Counts the edges of a ring but its last one, run by run. The ring has the corners from index `begin` to before
 /// `end`. Returns its last corner.
-fn plot_runs(
+fn plot_runs<const PARTS: usize>(
     cells: &mut Cells<'_>,
     rings: &Rings<'_>,
     runs: &Runs,
@@ -225,6 +336,8 @@ fn plot_runs(
     end: usize,
     starts: &Starts,
 ) -> Point
+    requires parts { parts_of starts.now.strip.count ≡ PARTS }
+    requires room { HasParts starts.now.strip cells.old }
     requires runs { AreRunsOf runs.now rings.now }
     requires first { rings.now.start ≤ begin }
     requires some { begin < end }
@@ -242,15 +355,15 @@ fn plot_runs(
         let (run, held) = runs.run_of(next - 1 - start);
         let behind = end.min(start + held);
         let corners = &rings.corners[next..behind];
-        let is_beside = runs.is_beside(run, &starts.strip, cells.flags.len());
-        from = plot_run(cells, from, corners, is_beside, starts);
+        let is_beside = runs.is_beside(run, &starts.strip, cells.columns);
+        from = plot_run::<PARTS>(cells, from, corners, is_beside, starts);
         next = behind;
     }
     from
 }
 
 /// Counts the edges of the ring of the corners from index `begin` to before `end`.
-fn plot_ring(
+fn plot_ring<const PARTS: usize>(
     cells: &mut Cells<'_>,
     rings: &Rings<'_>,
     runs: &Runs,
@@ -258,6 +371,8 @@ fn plot_ring(
     end: usize,
     starts: &Starts,
 )
+    requires parts { parts_of starts.now.strip.count ≡ PARTS }
+    requires room { HasParts starts.now.strip cells.old }
     requires runs { AreRunsOf runs.now rings.now }
     requires first { rings.now.start ≤ begin }
     requires last { end ≤ end_of rings.now.start rings.now.ends.now }
@@ -267,14 +382,21 @@ fn plot_ring(
 {
     if begin < end {
         let first = rings.corners[begin].at();
-        let last = plot_runs(cells, rings, runs, begin, end, starts);
-        plot_edge(cells, Edge { a: last, b: first }, starts);
+        let last = plot_runs::<PARTS>(cells, rings, runs, begin, end, starts);
+        plot_edge::<PARTS>(cells, Edge { a: last, b: first }, starts);
     }
 }
 
 /// Counts the edges of a polygon, by the boxes of its runs.
-pub(crate) fn plot(cells: &mut Cells<'_>, rings: &Rings<'_>, runs: &Runs, strip: &Strip)
-    requires { AreRunsOf runs.now rings.now }
+pub(crate) fn plot<const PARTS: usize>(
+    cells: &mut Cells<'_>,
+    rings: &Rings<'_>,
+    runs: &Runs,
+    strip: &Strip,
+)
+    requires parts { parts_of strip.now.count ≡ PARTS }
+    requires room { HasParts strip.now cells.old }
+    requires runs { AreRunsOf runs.now rings.now }
     ensures plotted { ArePlotted strip.now
         (λ p. winding (polygon_edges (rings_from rings.now.corners.now rings.now.start rings.now.ends.now)) p)
         cells.old cells.new }
@@ -285,7 +407,7 @@ pub(crate) fn plot(cells: &mut Cells<'_>, rings: &Rings<'_>, runs: &Runs, strip:
     let mut begin = rings.start as usize;
     for ring_end in rings.ends {
         let end = *ring_end as usize;
-        plot_ring(cells, rings, runs, begin, end, &starts);
+        plot_ring::<PARTS>(cells, rings, runs, begin, end, &starts);
         begin = end;
     }
 }

@@ -1,11 +1,11 @@
-ghost use Rattle.std.specs.Prelude.{◌≡◌, ◌+◌, ◌<◌, pos, ◌+ℤ◌, ◌*ℤ◌, ◌≤ℤ◌, ◌<ℤ◌};
+ghost use Rattle.std.specs.Prelude.{◌≡◌, ◌<◌, pos, ◌+ℤ◌, ◌*ℤ◌, ◌≤ℤ◌, ◌<ℤ◌};
 ghost use Rattle.grid.specs.Position.{IsInBand};
-ghost use Rattle.grid.specs.Samples.{part_size, IsPart};
+ghost use Rattle.grid.specs.Samples.{count_of};
 ghost use Rattle.polygons.specs.Screen.{IsPixelInBand, screen_sample};
 
 use grid::{Point, SampleCount, sample_at};
 
-/// 64 rows of pixels of the screen, and a part of their samples. The first pixel may be left of the screen or above it.
+/// 64 rows of pixels of the screen. The first pixel may be left of the screen or above it.
 #[derive(Clone, Copy, Debug)]
 pub struct Strip {
     /// The column of the first pixel.
@@ -14,20 +14,17 @@ pub struct Strip {
     pub row: i32,
     /// How many samples a pixel has.
     pub count: SampleCount,
-    /// The first sample index of the part.
-    pub from: u32,
     pub ghost across: { IsPixelInBand column },
     pub ghost below: { IsPixelInBand row },
-    pub ghost part: { IsPart count from },
 }
 
 impl Strip {
-    /// Where sample `from + s` of the first pixel lies.
+    /// Where sample `s` of the first pixel lies.
     pub fn start(&self, s: u32) -> Point
-        requires { s < part_size self.now.count }
-        ensures { result ≡ screen_sample self.now.column self.now.row (self.now.from + s) self.now.count }
+        requires { s < count_of self.now.count }
+        ensures { result ≡ screen_sample self.now.column self.now.row s self.now.count }
     {
-        let offset = sample_at(0, 0, self.from + s, self.count);
+        let offset = sample_at(0, 0, s, self.count);
         let x = place(self.column, offset.x());
         let y = place(self.row, offset.y());
         point_at(x, y)

@@ -1,13 +1,14 @@
-//! From counters to masks: each bit says whether the sum of the counters of its row up to it is other than 0.
-ghost use Rattle.std.specs.Prelude.{◌≡◌, ◌≢◌, ◌↔◌, ℕ, ◌+◌, ◌*◌, ◌/◌, ◌%◌, ◌^◌, ◌<◌, cond, pos, length, slice_index};
+//! From flags and counters to masks: each bit says whether the sum of the numbers of its row up to it is other than 0.
+ghost use Rattle.std.specs.Prelude.{◌≡◌, ◌≢◌, ◌↔◌, ℕ, ◌+◌, ◌*◌, ◌/◌, ◌%◌, ◌^◌, ◌<◌, cond, pos, length, slice_index, ◌++◌};
 ghost use Rattle.std.specs.Int.{bit_at};
-ghost use Rattle.polygons.specs.Cells.{flag_of, running_sum, IsAlike, AreMarked, AreZeros};
-ghost use Rattle.polygons.specs.Summing.{run, nonzero_bit, change_bit, change_at, IsLevelMask};
+ghost use Rattle.polygons.specs.Cells.{flag_of, running_sum, IsAlike, AreMarked, AreZeros, AreZerosFrom};
+ghost use Rattle.polygons.specs.Summing.{run, number_in, marks_in, nonzero_bit, change_bit, change_at, IsLevelMask, IsMarked};
 ghost use Rattle.polygons.specs.declared.rule.Rule.TheVariants.{NonZero};
 
 use crate::byte_rows::{fill_rows, last_column};
 use crate::cells::{Counters, Flags};
 use crate::fill::no_carry;
+use crate::marks::Marks;
 
 /// The sums of a column's rows: of each of its words eight.
 type Sums = [u32; 256];
@@ -20,68 +21,75 @@ fn change(old: u32, new: u32) -> u64
     u64::from(old != 0) ^ u64::from(new != 0)
 }
 
-/// Adds counter `i` of a word to the sum of its row, and empties it. Returns 1 if the sum was 0 and is no longer, or is
-/// 0 now and was not, else 0.
+/// The number of cell `i` of a word: its first flag less its second, and its counter if that is in use.
 #[inline(always)]
-fn add_counter(counters: &mut Counters, word: usize, i: usize, sums: &mut Sums) -> u64
+fn number(marks: Marks, counters: &Counters, word: usize, i: usize) -> u32
+    requires word { word < 32 }
+    requires bit { i < 64 }
+    ensures { result ≡ number_in marks counters.now word i % 2 ^ 32 }
+{
+    let downs = (marks.downs >> i & 1) as u32;
+    let ups = (marks.ups >> i & 1) as u32;
+    let firsts = downs.wrapping_sub(ups);
+    if marks.more >> i & 1 == 0 {
+        return firsts;
+    }
+    firsts.wrapping_add(counters[64 * word + i])
+}
+
+/// Adds the number of cell `i` of a word to the sum of its row. Returns 1 if the sum was 0 and is no longer, or is 0 now
+/// and was not, else 0.
+#[inline(always)]
+fn add_number(marks: Marks, counters: &Counters, word: usize, i: usize, sums: &mut Sums) -> u64
     requires word { word < 32 }
     requires bit { i < 64 }
     ensures change { result ≡
         change_bit (slice_index sums.old (8 * word + i / 8)) (slice_index sums.new (8 * word + i / 8)) }
     ensures sum { slice_index sums.new (8 * word + i / 8) ≡
-        (slice_index sums.old (8 * word + i / 8) + slice_index counters.old (64 * word + i)) % 2 ^ 32 }
+        (slice_index sums.old (8 * word + i / 8) + number_in marks counters.now word i) % 2 ^ 32 }
     ensures other_sums { (q : ℕ) → q ≢ 8 * word + i / 8 → slice_index sums.new q ≡ slice_index sums.old q }
-    ensures zero { slice_index counters.new (64 * word + i) ≡ 0 }
-    ensures others { (k : ℕ) → k ≢ 64 * word + i → slice_index counters.new k ≡ slice_index counters.old k }
 {
     let old = sums[8 * word + i / 8];
-    let new = old.wrapping_add(counters[64 * word + i]);
+    let new = old.wrapping_add(number(marks, counters, word, i));
     sums[8 * word + i / 8] = new;
-    counters[64 * word + i] = 0;
     change(old, new)
 }
 
-/// The flags of a word at which the sum of a row becomes 0 or another number again, by the flags of its counters. The
-/// sums are those at the ends of the rows afterwards, and the counters are zeros.
+/// The flags of a word at which the sum of a row becomes 0 or another number again. The sums are those at the ends of
+/// the rows afterwards.
 #[inline(always)]
-fn changes(marks: u64, counters: &mut Counters, word: usize, sums: &mut Sums) -> u64
+fn changes(marks: Marks, counters: &Counters, word: usize, sums: &mut Sums) -> u64
     requires word { word < 32 }
-    requires marked { (i : ℕ) → i < 64 → bit_at marks i ≡ 0 → slice_index counters.old (64 * word + i) ≡ 0 }
-    ensures changes { (i : ℕ) → i < 64 → bit_at result i ≡ change_at counters.old word sums.old i }
+    requires marked { IsMarked marks }
+    ensures changes { (i : ℕ) → i < 64 → bit_at result i ≡ change_at (number_in marks counters.now word) word sums.old i }
     ensures next { (r : ℕ) → r < 8 → slice_index sums.new (8 * word + r) ≡
-        run counters.old (8 * (8 * word + r)) (slice_index sums.old (8 * word + r)) 8 }
+        run (number_in marks counters.now word) (8 * r) (slice_index sums.old (8 * word + r)) 8 }
     ensures other_sums { (q : ℕ) → (q / 8 ≡ word → ⊥) → slice_index sums.new q ≡ slice_index sums.old q }
-    ensures zeros { (i : ℕ) → i / 64 ≡ word → slice_index counters.new i ≡ 0 }
-    ensures others { (i : ℕ) → (i / 64 ≡ word → ⊥) → slice_index counters.new i ≡ slice_index counters.old i }
 {
     let mut changes = 0;
     let mut done = 0;
-    let mut left = marks;
+    let mut left = marks.firsts();
     while left != 0 {
         let skipped = left.trailing_zeros();
         let i = done + skipped as usize;
-        changes |= add_counter(counters, word, i, sums) << i;
+        changes |= add_number(marks, counters, word, i, sums) << i;
         done = i + 1;
         left = (left >> skipped) >> 1;
     }
     changes
 }
 
-/// The mask of a word, by the flags of its counters, and the sums at the ends of its rows. `level` is its mask if it has
-/// no flags.
+/// The mask of a word, and the sums at the ends of its rows. `level` is its mask if it has no flags.
 #[inline(always)]
-fn sum_word(marks: u64, counters: &mut Counters, word: usize, sums: &mut Sums, level: u64) -> u64
+fn sum_word(marks: Marks, counters: &Counters, word: usize, sums: &mut Sums, level: u64) -> u64
     requires word { word < 32 }
-    requires marked { (r j : ℕ) → r < 8 → j < 8 → bit_at marks (8 * r + j) ≡ 0 →
-        slice_index counters.old (8 * (8 * word + r) + j) ≡ 0 }
+    requires marked { IsMarked marks }
     requires level { IsLevelMask level word sums.old }
     ensures bits { (r j : ℕ) → r < 8 → j < 8 → bit_at result (8 * r + j) ≡
-        nonzero_bit (run counters.old (8 * (8 * word + r)) (slice_index sums.old (8 * word + r)) (j + 1)) }
+        nonzero_bit (run (number_in marks counters.now word) (8 * r) (slice_index sums.old (8 * word + r)) (j + 1)) }
     ensures next { (r : ℕ) → r < 8 → slice_index sums.new (8 * word + r) ≡
-        run counters.old (8 * (8 * word + r)) (slice_index sums.old (8 * word + r)) 8 }
+        run (number_in marks counters.now word) (8 * r) (slice_index sums.old (8 * word + r)) 8 }
     ensures other_sums { (q : ℕ) → (q / 8 ≡ word → ⊥) → slice_index sums.new q ≡ slice_index sums.old q }
-    ensures zeros { (i : ℕ) → i / 64 ≡ word → slice_index counters.new i ≡ 0 }
-    ensures others { (i : ℕ) → (i / 64 ≡ word → ⊥) → slice_index counters.new i ≡ slice_index counters.old i }
 {
     let changes = changes(marks, counters, word, sums);
     fill_rows(changes, last_column(level)).0
@@ -95,53 +103,72 @@ fn level_of(mask: u64) -> u64
     fill_rows(0, last_column(mask)).0
 }
 
-/// The mask of a word, the sums at the ends of its rows, and the mask that the next word has if it has no flags.
-/// `level` is that of this word.
+/// Makes the mask of a word, in place of its first flags, and the sums at the ends of its rows with the mask that the
+/// next word has if it has no flags. `levels` has that of this word. Its other flags are 0 afterwards.
 #[inline(always)]
-fn sum_or_level(
-    marks: u64,
-    counters: &mut Counters,
+fn sum_at(
+    downs: &mut Flags,
+    ups: &mut Flags,
+    more: &mut Flags,
+    counters: &Counters,
     word: usize,
     sums: &mut Sums,
-    level: u64,
-) -> (u64, u64)
+    levels: &mut Flags,
+)
     requires word { word < 32 }
-    requires marked { (r j : ℕ) → r < 8 → j < 8 → bit_at marks (8 * r + j) ≡ 0 →
-        slice_index counters.old (8 * (8 * word + r) + j) ≡ 0 }
-    requires level { IsLevelMask level word sums.old }
-    ensures bits { (r j : ℕ) → r < 8 → j < 8 → bit_at result.0 (8 * r + j) ≡
-        nonzero_bit (run counters.old (8 * (8 * word + r)) (slice_index sums.old (8 * word + r)) (j + 1)) }
+    requires marked { IsMarked (marks_in downs.old ups.old more.old word) }
+    requires level { IsLevelMask (slice_index levels.old word) word sums.old }
+    ensures bits { (r j : ℕ) → r < 8 → j < 8 → bit_at (slice_index downs.new word) (8 * r + j) ≡
+        nonzero_bit (run (number_in (marks_in downs.old ups.old more.old word) counters.now word) (8 * r)
+        (slice_index sums.old (8 * word + r)) (j + 1)) }
     ensures next { (r : ℕ) → r < 8 → slice_index sums.new (8 * word + r) ≡
-        run counters.old (8 * (8 * word + r)) (slice_index sums.old (8 * word + r)) 8 }
-    ensures level { IsLevelMask result.1 word sums.new }
+        run (number_in (marks_in downs.old ups.old more.old word) counters.now word) (8 * r)
+        (slice_index sums.old (8 * word + r)) 8 }
+    ensures level { IsLevelMask (slice_index levels.new word) word sums.new }
+    ensures clear { (slice_index ups.new word ≡ 0) × (slice_index more.new word ≡ 0) }
+    ensures others { (i : ℕ) → (i ≡ word → ⊥) → (marks_in downs.new ups.new more.new i ≡
+        marks_in downs.old ups.old more.old i) × (slice_index levels.new i ≡ slice_index levels.old i) }
     ensures other_sums { (q : ℕ) → (q / 8 ≡ word → ⊥) → slice_index sums.new q ≡ slice_index sums.old q }
-    ensures zeros { (i : ℕ) → i / 64 ≡ word → slice_index counters.new i ≡ 0 }
-    ensures others { (i : ℕ) → (i / 64 ≡ word → ⊥) → slice_index counters.new i ≡ slice_index counters.old i }
 {
-    if marks == 0 {
-        return (level, level);
+    let marks = Marks {
+        downs: downs[word],
+        ups: ups[word],
+        more: more[word],
+    };
+    if marks.firsts() == 0 {
+        downs[word] = levels[word];
+        return;
     }
-    let mask = sum_word(marks, counters, word, sums, level);
-    (mask, level_of(mask))
+    ups[word] = 0;
+    more[word] = 0;
+    let mask = sum_word(marks, counters, word, sums, levels[word]);
+    downs[word] = mask;
+    levels[word] = level_of(mask);
 }
 
-/// The masks of a column of blocks, and the sums into the next column with the masks that its words have if they have
-/// no flags.
-fn sum_column(words: &mut Flags, counters: &mut Counters, sums: &mut Sums, levels: &mut Flags)
-    requires marked { (i r j : ℕ) → i < 32 → r < 8 → j < 8 → bit_at (slice_index words.old i) (8 * r + j) ≡ 0 →
-        slice_index counters.old (8 * (8 * i + r) + j) ≡ 0 }
+/// Makes the masks of a column of blocks, and the sums into the next column with the masks that its words have if they
+/// have no flags.
+fn sum_column(
+    downs: &mut Flags,
+    ups: &mut Flags,
+    more: &mut Flags,
+    counters: &Counters,
+    sums: &mut Sums,
+    levels: &mut Flags,
+)
+    requires marked { (i : ℕ) → i < 32 → IsMarked (marks_in downs.old ups.old more.old i) }
     requires levels { (i : ℕ) → i < 32 → IsLevelMask (slice_index levels.old i) i sums.old }
     ensures levels { (i : ℕ) → i < 32 → IsLevelMask (slice_index levels.new i) i sums.new }
-    ensures bits { (i r j : ℕ) → i < 32 → r < 8 → j < 8 → bit_at (slice_index words.new i) (8 * r + j) ≡
-        nonzero_bit (run counters.old (8 * (8 * i + r)) (slice_index sums.old (8 * i + r)) (j + 1)) }
+    ensures bits { (i r j : ℕ) → i < 32 → r < 8 → j < 8 → bit_at (slice_index downs.new i) (8 * r + j) ≡
+        nonzero_bit (run (number_in (marks_in downs.old ups.old more.old i) counters.now i) (8 * r)
+        (slice_index sums.old (8 * i + r)) (j + 1)) }
     ensures next { (i r : ℕ) → i < 32 → r < 8 → slice_index sums.new (8 * i + r) ≡
-        run counters.old (8 * (8 * i + r)) (slice_index sums.old (8 * i + r)) 8 }
-    ensures zeros { (i : ℕ) → slice_index counters.new i ≡ 0 }
+        run (number_in (marks_in downs.old ups.old more.old i) counters.now i) (8 * r)
+        (slice_index sums.old (8 * i + r)) 8 }
+    ensures clear { (i : ℕ) → (slice_index ups.new i ≡ 0) × (slice_index more.new i ≡ 0) }
 {
     for i in 0..32 {
-        let (mask, level) = sum_or_level(words[i], counters, i, sums, levels[i]);
-        words[i] = mask;
-        levels[i] = level;
+        sum_at(downs, ups, more, counters, i, sums, levels);
     }
 }
 
@@ -152,24 +179,44 @@ fn no_sums() -> Sums
     [0; 256]
 }
 
-/// The masks of all columns, by counters whose flags are set. The counters are zeros afterwards.
-pub(crate) fn sum(flags: &mut [Flags], counters: &mut [Counters])
-    requires columns { length counters.old ≡ length flags.old }
-    requires marked { AreMarked NonZero flags.old counters.old }
-    ensures len { length flags.new ≡ length flags.old }
-    ensures bits { (s row k : ℕ) → s < 4 → row < 64 → k < 8 * length flags.old →
-        ((flag_of flags.new s row k ≡ 1) ↔
-        (IsAlike (2 ^ 32) (running_sum NonZero flags.old counters.old s row k) (pos 0) → ⊥)) }
-    ensures counters { AreZeros counters.new }
+/// Makes the masks of all columns, in place of the first flags. The other flags are 0 afterwards.
+fn sum_columns(downs: &mut [Flags], ups: &mut [Flags], more: &mut [Flags], counters: &[Counters])
+    requires downs { length downs.old ≡ length counters.now }
+    requires ups { length ups.old ≡ length counters.now }
+    requires more { length more.old ≡ length counters.now }
+    requires marked { AreMarked NonZero (downs.old ++ (ups.old ++ more.old)) counters.now }
+    ensures len { length downs.new ≡ length downs.old }
+    ensures bits { (s row k : ℕ) → s < 4 → row < 64 → k < 8 * length counters.now →
+        ((flag_of downs.new s row k ≡ 1) ↔ (IsAlike (2 ^ 32)
+        (running_sum NonZero (downs.old ++ (ups.old ++ more.old)) counters.now s row k) (pos 0) → ⊥)) }
+    ensures ups { AreZeros ups.new }
+    ensures more { AreZeros more.new }
 {
     let mut sums = no_sums();
     let mut levels = no_carry();
-    for column in 0..flags.len() {
+    for column in 0..counters.len() {
         sum_column(
-            &mut flags[column],
-            &mut counters[column],
+            &mut downs[column],
+            &mut ups[column],
+            &mut more[column],
+            &counters[column],
             &mut sums,
             &mut levels,
         );
     }
+}
+
+/// Makes the masks of all columns, in place of the first flags. The other flags are 0 afterwards.
+pub(crate) fn sum(flags: &mut [Flags], counters: &[Counters])
+    requires columns { length flags.old ≡ 3 * length counters.now }
+    requires marked { AreMarked NonZero flags.old counters.now }
+    ensures len { length flags.new ≡ length flags.old }
+    ensures bits { (s row k : ℕ) → s < 4 → row < 64 → k < 8 * length counters.now →
+        ((flag_of flags.new s row k ≡ 1) ↔
+        (IsAlike (2 ^ 32) (running_sum NonZero flags.old counters.now s row k) (pos 0) → ⊥)) }
+    ensures others { AreZerosFrom (length counters.now) flags.new }
+{
+    let (downs, others) = flags.split_at_mut(counters.len());
+    let (ups, more) = others.split_at_mut(counters.len());
+    sum_columns(downs, ups, more, counters);
 }

@@ -5,7 +5,7 @@ use crate::answer::{Answer, whole};
 use crate::words::Words;
 use grid::{Point, SampleCount};
 use polygons::{
-    Corner, Edge, Flags, Polygons, Rule, Runs, Strip, count_covering, cover_strip, polygon_covers,
+    Corner, Edge, Flags, Polygons, Rule, Runs, Strip, count_covering, cover_parts, polygon_covers,
 };
 
 /// As many corners as a ring of a line has at most.
@@ -79,7 +79,6 @@ pub(crate) fn strip_of(words: &mut Words<'_>) -> Option<Answer> {
         column,
         row,
         count: SampleCount::One,
-        from: 0,
     };
     let mut corners = [Corner { x: 0, y: 0 }; CORNERS];
     for (k, corner) in corners[..ring.count].iter_mut().enumerate() {
@@ -97,6 +96,6 @@ pub(crate) fn strip_of(words: &mut Words<'_>) -> Option<Answer> {
     let mut runs = Runs::none();
     runs.measure(&rings);
     let mut flags: [Flags; 1] = [[0; 32]];
-    cover_strip(&mut flags, &mut [], Rule::EvenOdd, &rings, &runs, &strip);
+    cover_parts(&mut flags, &mut [], Rule::EvenOdd, &rings, &runs, &strip, 1);
     Some(Answer::Mask(flags[0][0]))
 }

@@ -244,7 +244,7 @@ static void compare_polygon(stage *made, const trirast_polygons *polygons, int b
     const size_t size = trirast_polygons_scratch(&made->canvas, (trirast_fill_rule)polygons->fill_rule);
     unsigned char *scratch = (unsigned char *)malloc(size);
     if (!scratch) exit(2);
-    expect(size == (polygons->fill_rule == TRIRAST_FILL_EVEN_ODD ? 16 * 256 : 16 * 8448), "the size of scratch memory",
+    expect(size == (polygons->fill_rule == TRIRAST_FILL_EVEN_ODD ? 16 * 256 : 16 * 8960), "the size of scratch memory",
            (int)size);
     expect(draw_polygons(&made->canvas, polygons, by_ids, scratch, size, error) == TRIRAST_STATUS_OK, "polygons",
            by_ids);

@@ -69,12 +69,9 @@ static void compare_drawn(void) {
                    "rule %u, ids %d: the triangle", rule, by_ids);
             expect(id_at(canvas, 0, 12, 12) == second && id_at(canvas, 0, 29, 29) == second,
                    "rule %u, ids %d: the ring", rule, by_ids);
-            for (size_t n = 0; n < trirast_polygons_scratch(canvas, (trirast_fill_rule)rule); n++)
-                expect(!all.scratch.bytes[n], "scratch memory is not zeros at %zu", n);
             free_set(&all);
         }
-    report("polygons are drawn by both rules, in colours and by ids, with NULL for the error, and scratch memory is "
-           "zeros afterwards");
+    report("polygons are drawn by both rules, in colours and by ids, with NULL for the error");
 }
 
 // The first polygon alone is the triangle of its corners, sample by sample.
@@ -228,7 +225,8 @@ static void compare_scratch(void) {
     report("scratch memory that is too small, misaligned or not there is refused");
 }
 
-// The size of scratch memory: flags for each part of at most four samples of a pixel, and counters once.
+// The size of scratch memory: flags for each part of at most four samples of a pixel, and by the nonzero rule three times
+// as many and counters.
 static void compare_scratch_sizes(void) {
     static const uint32_t counts[] = {0, 1, 2, 4, 8, 16};
     static const size_t parts[] = {1, 1, 1, 1, 2, 4};
@@ -236,10 +234,11 @@ static void compare_scratch_sizes(void) {
         const trirast_canvas canvas = {.width = WIDTH, .height = HEIGHT, .samples = counts[k]};
         expect(trirast_polygons_scratch(&canvas, TRIRAST_FILL_EVEN_ODD) == 16 * 256 * parts[k],
                "flags for %u samples", counts[k]);
-        expect(trirast_polygons_scratch(&canvas, TRIRAST_FILL_NONZERO) == 16 * (256 * parts[k] + 8192),
+        expect(trirast_polygons_scratch(&canvas, TRIRAST_FILL_NONZERO) == 16 * (3 * 256 + 8192) * parts[k],
                "flags and counters for %u samples", counts[k]);
     }
-    report("scratch memory has flags for each part of at most four samples, and counters once");
+    report("scratch memory has flags for each part of at most four samples, and by the nonzero rule three times as many "
+           "and counters");
 }
 
 static void compare_messages(void) {

@@ -4,17 +4,19 @@ use Rattle.std.proofs.lemmas.List.{length-take}
 use Rattle.std.proofs.lemmas.Result.{err_from_is_err_and}
 use Rattle.model.specs.Checking.{Checks, done, check}
 use Rattle.model.proofs.Checking.{pass_both, fails_before, fails_later}
+use Rattle.polygons.specs.declared.rule.Rule.{Rule}
 use Rattle.polygons.specs.declared.rule.Rule.TheVariants.{EvenOdd, NonZero}
+use Rattle.polygons.specs.Cells.{flags_by}
 use Rattle.canvas.specs.declared.canvas.Canvas.{Canvas}
 use Rattle.grid.specs.Samples.{parts_of, pattern_of}
 use Rattle.grid.specs.declared.sample_count.SampleCount.{SampleCount}
 use Rattle.painting.specs.Painting.{ArePainted, IsOriginInBand}
-use Rattle.painting.specs.Parts.{flag_columns_of}
+use Rattle.painting.specs.Parts.{flag_columns_of, counter_columns_of}
 use Rattle.c_abi.specs.declared.status.Status.{Status}
 use Rattle.c_abi.specs.declared.status.Status.TheVariants.{BadBatch, BadPosition, BadStructSize, BufferTooSmall}
 use Rattle.c_abi.specs.Sizes.{IsOwnSize}
 use Rattle.canvas_c.specs.Pieces.{has_alpha, piece_checks}
-use Rattle.canvas_c.specs.PolygonChecks.{origin_of, rule_of, columns_of_blocks, flag_columns_listed, shapes_listed, AreGood, HasScratch}
+use Rattle.canvas_c.specs.PolygonChecks.{origin_of, rule_of, columns_of_blocks, flag_columns_listed, counter_columns_listed, shapes_listed, AreGood, HasScratch}
 use Rattle.canvas_c.specs.declared.polygon_arrays.PolygonArrays.{PolygonArrays}
 use Rattle.canvas_c.specs.declared.piece.CanvasHead.{CanvasHead}
 use Rattle.canvas_c.proofs.Ended.{piece_fault}
@@ -30,7 +32,7 @@ later_checks head ids a flags counters =
 
 -- as many columns of flags, and of counters if they are needed
 abbrev IsEnough : CanvasHead → PolygonArrays → ℕ → ℕ → Type 0
-IsEnough head a flags counters = (flag_columns_listed head ≤ flags) × ((a.fill_rule ≡ 0) ⊎ (columns_of_blocks head.width ≤ counters))
+IsEnough head a flags counters = (flag_columns_listed head a ≤ flags) × ((a.fill_rule ≡ 0) ⊎ (counter_columns_listed head ≤ counters))
 
 scratch_of : (head : CanvasHead) (a : PolygonArrays) (flags counters : ℕ) → IsEnough head a flags counters → HasScratch head a flags counters
 scratch_of head a flags counters h = record { enough_flags = h.0; enough_counters = h.1 }
@@ -42,8 +44,11 @@ even_odd : EvenOdd ≡ NonZero → ⊥
 even_odd e = cc
 
 -- the columns of the canvas that the caller names
-same_flags : (canvas : Canvas) (head : CanvasHead) → {n : ℕ} → canvas.width ≡ head.width → canvas.count ≡ pattern_of head.samples → n ≡ flag_columns_of canvas → n ≡ flag_columns_listed head
-same_flags canvas head w m e = e ∙ ap (λ (count : SampleCount). parts_of count * columns_of_blocks canvas.width) m ∙ ap (λ v. parts_of (pattern_of head.samples) * columns_of_blocks v) w
+same_flags : (canvas : Canvas) (head : CanvasHead) (a : PolygonArrays) (rule : Rule) → {n : ℕ} → canvas.width ≡ head.width → canvas.count ≡ pattern_of head.samples → rule ≡ rule_of a.fill_rule → n ≡ flag_columns_of rule canvas → n ≡ flag_columns_listed head a
+same_flags canvas head a rule w m r e = e ∙ (λ i. parts_of (m i) * (flags_by (r i) * columns_of_blocks (w i)))
+
+same_counters : (canvas : Canvas) (head : CanvasHead) → {n : ℕ} → canvas.width ≡ head.width → canvas.count ≡ pattern_of head.samples → n ≡ counter_columns_of canvas → n ≡ counter_columns_listed head
+same_counters canvas head w m e = e ∙ (λ i. parts_of (m i) * columns_of_blocks (w i))
 
 pub returns-in_err-rows-clause-judged : goal.returns-in_err-rows-clause-judged
 returns-in_err-rows-clause-judged c =
@@ -72,7 +77,7 @@ returns-then-not-is_in_band-clause-judged c =
     let a = c.args.arrays.now in
     let x : FitsSigned w32 head.origin_x = search rules in
     let y : FitsSigned w32 head.origin_y = search rules in
-    let size : IsOwnSize a.struct_size 144 = search rules in
+    let size : IsOwnSize a.struct_size 144 = c.has_size.ensures.0 c.if-not-has_size.false in
     let sees : IsTrue c.is_in_band.result ↔ IsOriginInBand (origin_of head) = rw (to_z-of_z w32 head.origin_x x, to_z-of_z w32 head.origin_y y) at c.is_in_band.ensures in
     let lacks : ¬ IsOriginInBand (origin_of head) = search rules in
     rw c.from-then-not-is_in_band.ensures (record {
@@ -88,12 +93,12 @@ returns-then-not-has_scratch-clause-judged c =
     let counters : ℕ = length c.args.counters.now in
     let x : FitsSigned w32 head.origin_x = search rules in
     let y : FitsSigned w32 head.origin_y = search rules in
-    let size : IsOwnSize a.struct_size 144 = search rules in
+    let size : IsOwnSize a.struct_size 144 = c.has_size.ensures.0 c.if-not-has_size.false in
     let sees : IsTrue c.is_in_band.result ↔ IsOriginInBand (origin_of head) = rw (to_z-of_z w32 head.origin_x x, to_z-of_z w32 head.origin_y y) at c.is_in_band.ensures in
     let band : IsOriginInBand (origin_of head) = sees.0 (search rules) in
     let are = c.in_ok-rows.ensures.judged.1 in
-    let counted : c.counter_columns-counted.result ≡ columns_of_blocks head.width = c.counter_columns-counted.ensures.value ∙ ap (λ w. 8 * ((w + 63) / 64)) are.width in
-    let flagged : c.flag_columns-flagged.result ≡ flag_columns_listed head = same_flags c.in_ok-rows.rows.canvas head are.width are.count c.flag_columns-flagged.ensures.value in
+    let counted : c.counter_columns-counted.result ≡ counter_columns_listed head = same_counters c.in_ok-rows.rows.canvas head are.width are.count c.counter_columns-counted.ensures.value in
+    let flagged : c.flag_columns-flagged.result ≡ flag_columns_listed head a = same_flags c.in_ok-rows.rows.canvas head a _ are.width are.count c.rule_of-rule.ensures c.flag_columns-flagged.ensures.value in
     let enough : IsTrue c.has_scratch.result ↔ IsEnough head a flags counters = rw (flagged, counted) at c.has_scratch.ensures in
     let lacks : ¬ IsEnough head a flags counters = search rules in
     rw c.from-then-not-has_scratch.ensures (record {
@@ -109,12 +114,12 @@ returns-in-Err-clause-judged c =
     let counters : ℕ = length c.args.counters.now in
     let x : FitsSigned w32 head.origin_x = search rules in
     let y : FitsSigned w32 head.origin_y = search rules in
-    let size : IsOwnSize a.struct_size 144 = search rules in
+    let size : IsOwnSize a.struct_size 144 = c.has_size.ensures.0 c.if-not-has_size.false in
     let sees : IsTrue c.is_in_band.result ↔ IsOriginInBand (origin_of head) = rw (to_z-of_z w32 head.origin_x x, to_z-of_z w32 head.origin_y y) at c.is_in_band.ensures in
     let band : IsOriginInBand (origin_of head) = sees.0 (search rules) in
     let are = c.in_ok-rows.ensures.judged.1 in
-    let counted : c.counter_columns-counted.result ≡ columns_of_blocks head.width = c.counter_columns-counted.ensures.value ∙ ap (λ w. 8 * ((w + 63) / 64)) are.width in
-    let flagged : c.flag_columns-flagged.result ≡ flag_columns_listed head = same_flags c.in_ok-rows.rows.canvas head are.width are.count c.flag_columns-flagged.ensures.value in
+    let counted : c.counter_columns-counted.result ≡ counter_columns_listed head = same_counters c.in_ok-rows.rows.canvas head are.width are.count c.counter_columns-counted.ensures.value in
+    let flagged : c.flag_columns-flagged.result ≡ flag_columns_listed head a = same_flags c.in_ok-rows.rows.canvas head a _ are.width are.count c.rule_of-rule.ensures c.flag_columns-flagged.ensures.value in
     let enough : IsTrue c.has_scratch.result ↔ IsEnough head a flags counters = rw (flagged, counted) at c.has_scratch.ensures in
     let scratch = scratch_of head a flags counters (enough.0 (search rules)) in
     let wrong = c.in-Err.ensures.wrong in
@@ -130,8 +135,8 @@ draw_polygons-requires-clause-counted c nonzero =
     let enough : (c.flag_columns-flagged.result ≤ length c.args.flags.now) × ((a.fill_rule ≡ 0) ⊎ (counted ≤ length c.args.counters.now)) = c.has_scratch.ensures.0 (search rules) in
     let long = length-take c.min-counted.result c.args.counters.now in
     elim enough.1 [
-      | inl zero ↦ absurd (even_odd (sym (c.rule_of.ensures ∙ ap rule_of zero) ∙ nonzero))
-      | inr more ↦ rw c.over-piece.ensures.rows (omega (arith, more, long, c.counter_columns-counted.ensures.value, c.clear_counters.ensures.len, c.min-counted.ensures))
+      | inl zero ↦ absurd (even_odd (sym (c.rule_of-rule.ensures ∙ ap rule_of zero) ∙ nonzero))
+      | inr more ↦ rw c.over-piece.ensures.rows (omega (arith, more, long, c.counter_columns-counted.ensures.value, c.min-counted.ensures))
     ]
 
 pub returns-clause-judged : goal.returns-clause-judged
@@ -142,12 +147,12 @@ returns-clause-judged c =
     let counters : ℕ = length c.args.counters.now in
     let x : FitsSigned w32 head.origin_x = search rules in
     let y : FitsSigned w32 head.origin_y = search rules in
-    let size : IsOwnSize a.struct_size 144 = search rules in
+    let size : IsOwnSize a.struct_size 144 = c.has_size.ensures.0 c.if-not-has_size.false in
     let sees : IsTrue c.is_in_band.result ↔ IsOriginInBand (origin_of head) = rw (to_z-of_z w32 head.origin_x x, to_z-of_z w32 head.origin_y y) at c.is_in_band.ensures in
     let band : IsOriginInBand (origin_of head) = sees.0 (search rules) in
     let are = c.in_ok-rows.ensures.judged.1 in
-    let counted : c.counter_columns-counted.result ≡ columns_of_blocks head.width = c.counter_columns-counted.ensures.value ∙ ap (λ w. 8 * ((w + 63) / 64)) are.width in
-    let flagged : c.flag_columns-flagged.result ≡ flag_columns_listed head = same_flags c.in_ok-rows.rows.canvas head are.width are.count c.flag_columns-flagged.ensures.value in
+    let counted : c.counter_columns-counted.result ≡ counter_columns_listed head = same_counters c.in_ok-rows.rows.canvas head are.width are.count c.counter_columns-counted.ensures.value in
+    let flagged : c.flag_columns-flagged.result ≡ flag_columns_listed head a = same_flags c.in_ok-rows.rows.canvas head a _ are.width are.count c.rule_of-rule.ensures c.flag_columns-flagged.ensures.value in
     let enough : IsTrue c.has_scratch.result ↔ IsEnough head a flags counters = rw (flagged, counted) at c.has_scratch.ensures in
     let scratch = scratch_of head a flags counters (enough.0 (search rules)) in
     (pass_both (piece_checks head (length c.args.planes.now)) (later_checks head c.args.ids a flags counters) c.in_ok-rows.ensures.judged.0 (size, (band, (scratch, (c.in-Ok.ensures.good.0, record {})))), record {})
@@ -161,7 +166,7 @@ returns-clause-drawn c =
     let rows = c.in_ok-rows.rows in
     let good = c.in-Ok.ensures.good in
     let drawn =
-    rw (to_z-of_z w32 head.origin_x x, to_z-of_z w32 head.origin_y y, c.over-piece.ensures.rows, c.over-piece.ensures.planes, good.1, good.2, good.3, c.rule_of.ensures, c.state.ensures, c.has_alpha.ensures)
+    rw (to_z-of_z w32 head.origin_x x, to_z-of_z w32 head.origin_y y, c.over-piece.ensures.rows, c.over-piece.ensures.planes, good.1, good.2, good.3, c.rule_of-rule.ensures, c.state.ensures, c.has_alpha.ensures)
     at c.draw_polygons.ensures.painted in
     record {
       rows = rows;

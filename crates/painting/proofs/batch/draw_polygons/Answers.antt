@@ -29,7 +29,6 @@ loop-first-preserved c =
       painted = subst (λ (n : ℕ). ArePainted (map f (range_with_len 0 n)) origin rows.canvas rows.first rows.end old new) whole
           (painted_both f first (end - first) origin rows.canvas rows.first rows.end old mid new v.painted there);
       flags = c.paint.ensures.flags;
-      counters = c.paint.ensures.counters;
     }
 
 pub returns-clause-painted : goal.returns-clause-painted

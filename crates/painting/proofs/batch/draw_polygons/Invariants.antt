@@ -12,7 +12,6 @@ invariant-loop-first l = record {
   within : l.first ≤ length l.polygons.polygon_ends.now;
   painted : ArePainted (map (shape_in l.polygons l.style) (range_with_len 0 l.first)) l.origin l.fn.piece.rows.canvas l.fn.piece.rows.first l.fn.piece.rows.end l.fn.piece.planes.now l.piece.planes.now;
   flags : AreZeros l.flags;
-  counters : AreZeros l.counters;
 }
 
 abbrev pub decreases-loop-first : goal.decreases-loop-first

@@ -1,5 +1,6 @@
-use Rattle.std.proofs.Common.{refl, sym, subst, arith, ◌+◌}
+use Rattle.std.proofs.Common.{sym, subst, ap, arith, ◌+◌, ◌*◌}
 use Rattle.shade.specs.declared.placed.Placed.{Placed}
+use Rattle.polygons.specs.Cells.{flags_by}
 use Rattle.painting.specs.Parts.{FillsScreen, MeetsHere, RowsPaint}
 use Rattle.painting.proofs.RowMasks.{all_met}
 use Rattle.painting.proofs.Screen.{fills_screen}
@@ -16,6 +17,6 @@ returns-clause-painted c =
     let row = c.args.row in
     let high = canvas.height_fits in
     let met =
-    all_met polygon origin canvas row c.args.first c.args.many _ refl c.requires.columns (omega (arith, high, c.requires.row)) c.cover_row.ensures.masks c.requires.held c.args.samples.now c.paint_strip.new.samples
+    all_met polygon origin canvas row c.args.first c.args.many (flags_by polygon.rule * c.args.many) _ (ap (λ k. k * c.args.many) c.flags.ensures.value) c.requires.columns (omega (arith, high, c.requires.row)) c.cover_row.ensures.masks c.requires.held c.args.samples.now c.paint_strip.new.samples
     (rw c.requires.triangle at c.paint_strip.ensures) in
     subst (λ (t : Placed). RowsPaint t canvas row (row + 1) (MeetsHere polygon origin canvas.count) c.args.samples.now c.paint_strip.new.samples) (sym c.requires.triangle) met

@@ -8,5 +8,4 @@ invariant_of-result c =
     record {
       across = record { low = omega (arith, ints, o.left, o.right, c.requires.column); high = omega (arith, ints, o.left, o.right, c.requires.column) };
       below = record { low = omega (arith, ints, o.top, o.bottom, c.requires.row); high = omega (arith, ints, o.top, o.bottom, c.requires.row) };
-      part = c.requires.part;
     }

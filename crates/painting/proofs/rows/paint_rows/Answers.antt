@@ -4,6 +4,9 @@ use Rattle.grid.specs.Samples.{parts_of}
 use Rattle.grid.specs.declared.sample_count.SampleCount.{SampleCount}
 use Rattle.grid.specs.declared.sample_count.SampleCount.TheVariants.{One}
 use Rattle.shade.specs.declared.placed.Placed.{Placed}
+use Rattle.polygons.specs.declared.rule.Rule.{Rule}
+use Rattle.polygons.specs.declared.rule.Rule.TheVariants.{EvenOdd, NonZero}
+use Rattle.polygons.specs.Cells.{flags_by}
 use Rattle.canvas.specs.Layout.{columns_of, planes_of_row}
 use Rattle.canvas.proofs.Places.{part_within}
 use Rattle.painting.specs.Parts.{MeetsHere, RowsPaint}
@@ -12,8 +15,12 @@ use Rattle.painting.proofs.TileRows.{one_row_more, in_window, polygon_painted, z
 use Rattle.painting.proofs.rows.paint_rows.Goals as goal
 
 -- the columns of the window have their flags
-enough_flags : (count : SampleCount) (parts columns most flags : ℕ) → parts ≡ parts_of count → columns ≤ most → parts_of count * most ≤ flags → parts * columns ≤ flags
-enough_flags count parts columns most flags is few h = rw is (grind (arith, few, h))
+enough_flags : (count : SampleCount) (rule : Rule) (parts each columns most flags : ℕ) → parts ≡ parts_of count → each ≡ flags_by rule → columns ≤ most → parts_of count * (flags_by rule * most) ≤ flags → parts * (each * columns) ≤ flags
+enough_flags count rule parts each columns most flags is by few h = rw (is, by) (by_rule rule h)
+  where
+    by_rule : (rule : Rule) → parts_of count * (flags_by rule * most) ≤ flags → parts_of count * (flags_by rule * columns) ≤ flags
+    by_rule EvenOdd h = let more : flags_by EvenOdd * columns ≤ flags_by EvenOdd * most = omega arith in grind (arith, more, h)
+    by_rule NonZero h = let more : flags_by NonZero * columns ≤ flags_by NonZero * most = omega arith in grind (arith, more, h)
 
 pub new-triangle-requires : goal.new-triangle-requires
 new-triangle-requires c e = (c.over_screen.ensures.covers One 0 0 0 (omega arith) (omega arith)).area e
@@ -38,7 +45,6 @@ loop-row-init c =
       painted = rows_none c.new-triangle.result rows.canvas rows.first rows.end (λ i j s. (j / 64 < c.max-row.result) × MeetsHere polygon origin rows.canvas.count i j s) c.args.samples.now
           (λ i j s h p. let inside = in_window polygon origin rows.canvas c.extent.result w c.extent.ensures c.of-window.ensures.holds rows.first rows.end i j s rows.within h p.1 in let from = h.from in omega (arith, inside.2, from, p.0, c.max-row.ensures));
       flags = c.requires.flags;
-      counters = c.requires.counters;
     }
 
 pub slice_bounds-paint_row-end-in-loop-row-4 : goal.slice_bounds-paint_row-end-in-loop-row-4
@@ -64,10 +70,7 @@ paint_row-requires-clause-held c i j s h m =
     (inside.0, omega (arith, inside.1, c.if-window.false))
 
 pub paint_row-requires-clause-flags : goal.paint_row-requires-clause-flags
-paint_row-requires-clause-flags c = zeros_of_part c.loop-row.flags (c.parts.result * (c.of-window.result.right - c.of-window.result.left)) c.loop-row.invariant.flags
-
-pub paint_row-requires-clause-counters : goal.paint_row-requires-clause-counters
-paint_row-requires-clause-counters c = zeros_of_part c.loop-row.counters c.min-counted.result c.loop-row.invariant.counters
+paint_row-requires-clause-flags c = zeros_of_part c.loop-row.flags (c.parts-parts.result * (c.flags.result * (c.of-window.result.right - c.of-window.result.left))) c.loop-row.invariant.flags
 
 pub loop-row-preserved : goal.loop-row-preserved
 loop-row-preserved c =
@@ -83,15 +86,13 @@ loop-row-preserved c =
     let many : a + each - a ≡ planes_of_row rows.canvas = omega (arith, c.planes_of_row-each.ensures.value) in
     let at : a ≡ (row - rows.first) * planes_of_row rows.canvas = ap (λ n. (row - rows.first) * n) c.planes_of_row-each.ensures.value in
     let room = part_within (row - rows.first) (rows.end - rows.first) (planes_of_row rows.canvas) (omega (arith, from, below)) in
-    let flagged : ℕ = c.parts.result * (w.right - w.left) in
+    let flagged : ℕ = c.parts-parts.result * (c.flags.result * (w.right - w.left)) in
     let flags_fit : flagged ≤ length c.loop-row.flags =
-    enough_flags rows.canvas.count c.parts.result (w.right - w.left) (8 * columns_of rows.canvas) (length c.loop-row.flags) c.parts.ensures (omega (arith, c.of-window.ensures.columns)) (omega (arith, c.requires.columns, c.loop-row.auto.flags)) in
-    let counters_fit : c.min-counted.result ≤ length c.loop-row.counters = omega (arith, c.min-counted.ensures, c.loop-row.auto.counters) in
+    enough_flags rows.canvas.count polygon.rule c.parts-parts.result c.flags.result (w.right - w.left) (8 * columns_of rows.canvas) (length c.loop-row.flags) c.parts-parts.ensures c.flags.ensures.value (omega (arith, c.of-window.ensures.columns)) (omega (arith, c.requires.columns, c.loop-row.auto.flags)) in
     record {
       painted = one_row_more c.new-triangle.result rows.canvas rows.first rows.end row from (MeetsHere polygon origin rows.canvas.count) c.loop-row.samples c.paint_row.new.samples (a + each - a) a
           (omega (arith, room, many, at, c.requires.samples, c.loop-row.auto.samples)) (omega (arith, c.paint_row.auto.samples, room, many, at, c.requires.samples, c.loop-row.auto.samples)) many at c.paint_row.ensures.painted c.args.samples.now c.loop-row.invariant.painted;
       flags = zeros_put c.loop-row.flags c.paint_row.new.flags flagged flags_fit (let long = length-take flagged c.loop-row.flags in omega (arith, c.paint_row.auto.flags, long, flags_fit)) c.loop-row.invariant.flags c.paint_row.ensures.flags;
-      counters = zeros_put c.loop-row.counters c.paint_row.new.counters c.min-counted.result counters_fit (let long = length-take c.min-counted.result c.loop-row.counters in omega (arith, c.paint_row.auto.counters, long, counters_fit)) c.loop-row.invariant.counters c.paint_row.ensures.counters;
     }
 
 pub returns-clause-painted : goal.returns-clause-painted

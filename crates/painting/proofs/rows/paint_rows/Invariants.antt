@@ -7,5 +7,4 @@ abbrev pub invariant-loop-row : goal.invariant-loop-row
 invariant-loop-row l = record {
   painted : RowsPaint l.triangle l.rows.canvas l.rows.first l.rows.end (λ i j s. (j / 64 < l.row) × MeetsHere l.polygon l.origin l.rows.canvas.count i j s) l.fn.samples l.samples;
   flags : AreZeros l.flags;
-  counters : AreZeros l.counters;
 }

@@ -1,6 +1,5 @@
-use Rattle.std.proofs.Common.{◌≡◌, refl, arith, ◌^◌, ℤ, pos, negsuc, ◌+ℤ◌, ◌-ℤ◌, w32, to_z, of_z}
+use Rattle.std.proofs.Common.{◌≡◌, arith, ◌^◌, ℤ, pos, negsuc, ◌+ℤ◌, ◌-ℤ◌, w32, to_z, of_z}
 use Rattle.std.proofs.lemmas.Int.{ints}
-use Rattle.grid.specs.Position.{IsInBand}
 use Rattle.grid.specs.Bounds.{IsWithin}
 use Rattle.polygons.specs.Pixels.{IsFirstPixel}
 use Rattle.std.specs.Int.Signed.{shr_z}

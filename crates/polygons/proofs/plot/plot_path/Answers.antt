@@ -13,10 +13,10 @@ abbrev zeros : Corner
 zeros = record { x = pos 0; y = pos 0 }
 
 pub at-to-requires : goal.at-to-requires
-at-to-requires c = All-get_or (λ k. IsInGuardBand (position_of k)) c.args.corners.now c.loop-corner.corner-index zeros c.loop-corner-test.true c.requires
+at-to-requires g c = All-get_or (λ k. IsInGuardBand (position_of k)) c.args.corners.now c.loop-corner.corner-index zeros c.loop-corner-test.true c.requires.corners
 
 pub loop-corner-init : goal.loop-corner-init
-loop-corner-init c = record {
+loop-corner-init g c = record {
   plotted = plotted_none c.args.starts.now.strip _ c.args.cells.now (λ p. nothing_yet (winding (path_edges c.args.from (map position_of c.args.corners.now)) p));
   end = refl;
 }
@@ -28,7 +28,7 @@ inside : (cs : List Corner) (i : ℕ) → i < length cs → i < length (map posi
 inside cs i h = omega (arith, length-map cs position_of)
 
 pub loop-corner-preserved : goal.loop-corner-preserved
-loop-corner-preserved c =
+loop-corner-preserved g c =
     let v = c.loop-corner.invariant in
     let i = c.loop-corner.corner-index in
     let from = c.loop-corner.from in
@@ -45,7 +45,7 @@ loop-corner-preserved c =
     }
 
 pub returns : goal.returns
-returns c =
+returns g c =
     let v = c.loop-corner.invariant in
     let cs = map position_of c.args.corners.now in
     let past : length cs ≤ c.loop-corner.corner-index = omega (arith, length-map c.args.corners.now position_of, c.loop-corner-test.false) in

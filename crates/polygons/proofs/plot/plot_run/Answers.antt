@@ -10,13 +10,13 @@ use Rattle.polygons.proofs.RunBoxes.{zeros, path_last, no_path, no_end}
 use Rattle.polygons.proofs.plot.plot_run.Goals as goal
 
 pub returns-in-empty : goal.returns-in-empty
-returns-in-empty c = record {
+returns-in-empty g c = record {
   plotted = plotted_none c.args.starts.now.strip _ c.args.cells.now (no_path c.args.from c.args.corners.now c.in-empty.len_below);
   end = no_end c.args.from c.args.corners.now c.in-empty.len_below;
 }
 
 pub returns-in-len1-up : goal.returns-in-len1-up
-returns-in-len1-up c =
+returns-in-len1-up g c =
     let corners = c.args.corners.now in
     let to : c.at-end.result ≡ path_end c.args.from (map position_of corners) = c.at-end.ensures ∙ sym (path_last c.args.from corners c.in-len1-up.len_at_least) in
     let chord = c.requires.chord c.if-not-is_beside.false in
@@ -27,6 +27,6 @@ returns-in-len1-up c =
     }
 
 pub at-end-requires : goal.at-end-requires
-at-end-requires c =
+at-end-requires g c =
     let corners = c.args.corners.now in
     All-get_or (λ k. IsInGuardBand (position_of k)) corners (length corners - 1) zeros (omega (arith, c.in-len1-up.len_at_least)) c.requires.corners

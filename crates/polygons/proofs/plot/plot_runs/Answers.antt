@@ -8,7 +8,7 @@ use Rattle.polygons.proofs.RunBoxes.{between_none, last_between, run_step, end_s
 use Rattle.polygons.proofs.plot.plot_runs.Goals as goal
 
 pub loop-next-init : goal.loop-next-init
-loop-next-init c =
+loop-next-init g c =
     let corners = c.args.rings.now.corners.now in
     let rest = corners_between corners (c.args.begin + 1) c.args.end in
     let at : c.args.begin ≡ c.args.begin + 1 - 1 = omega arith in
@@ -21,16 +21,16 @@ loop-next-init c =
     }
 
 pub plot_run-from-requires-clause-chord : goal.plot_run-from-requires-clause-chord
-plot_run-from-requires-clause-chord c t s row k h l =
+plot_run-from-requires-clause-chord g c t s row k h l =
     let v = c.loop-next.invariant in
     let run = c.run_of-run.ensures in
     let rise : c.loop-next.next ≤ c.min-behind.result = omega (arith, v.first, c.requires.first, c.loop-next-test.true, run.ends, c.min-behind.ensures) in
-    crossed_as_chord c.args.runs.now c.args.rings.now c.args.starts.now.strip (length c.loop-next.cells.flags.now) c.run_of-run.result.0 c.loop-next.next c.min-behind.result c.loop-next.from c.requires.runs (c.is_beside-is_beside.ensures.known t)
+    crossed_as_chord c.args.runs.now c.args.rings.now c.args.starts.now.strip c.loop-next.cells.columns c.run_of-run.result.0 c.loop-next.next c.min-behind.result c.loop-next.from c.requires.runs (c.is_beside-is_beside.ensures.known t)
     (omega (arith, v.first)) rise (omega (arith, v.first, c.requires.first, run.begins)) (omega (arith, run.held, c.min-behind.ensures)) (omega (arith, c.requires.last, c.min-behind.ensures)) (omega (arith, c.requires.within, c.min-behind.ensures))
     v.from (c.is_beside-is_beside.ensures.beside t) s row k h l
 
 pub loop-next-preserved : goal.loop-next-preserved
-loop-next-preserved c =
+loop-next-preserved g c =
     let v = c.loop-next.invariant in
     let corners = c.args.rings.now.corners.now in
     let next = c.loop-next.next in
@@ -54,7 +54,7 @@ loop-next-preserved c =
     }
 
 pub returns-clause-plotted : goal.returns-clause-plotted
-returns-clause-plotted c =
+returns-clause-plotted g c =
     let corners = c.args.rings.now.corners.now in
     let none = between_none corners c.loop-next.next c.args.end (omega (arith, c.loop-next-test.false)) in
     plotted_as c.args.starts.now.strip _ _ _ _

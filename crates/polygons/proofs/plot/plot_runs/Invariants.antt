@@ -6,7 +6,7 @@ use Rattle.polygons.specs.Runs.{corner_at, corners_between}
 use Rattle.polygons.proofs.plot.plot_runs.Given as goal
 
 abbrev pub invariant-loop-next : goal.invariant-loop-next
-invariant-loop-next l = record {
+invariant-loop-next g l = record {
   first : l.begin < l.next;
   last : l.next ≤ l.end;
   from : l.from ≡ corner_at l.rings.corners.now (l.next - 1);
@@ -15,4 +15,4 @@ invariant-loop-next l = record {
 }
 
 abbrev pub decreases-loop-next : goal.decreases-loop-next
-decreases-loop-next l = l.end - l.next
+decreases-loop-next g l = l.end - l.next

@@ -1,68 +1,19 @@
-use Rattle.std.proofs.Common.{◌≡◌, refl, ap, arith, Bool, true, false, ℕ, ◌<◌, ◌≤◌, pos}
-use Rattle.grid.specs.Position.{Position}
-use Rattle.polygons.specs.Blocks.{down}
-use Rattle.polygons.specs.Columns.{along}
-use Rattle.polygons.specs.Rows.{direction}
-use Rattle.polygons.specs.Strip.{start_of}
-use Rattle.polygons.specs.Cells.{signed}
-use Rattle.polygons.proofs.Plotted.{counted, part_small, signed_none, plotted_nowhere, no_samples, one_sample_more, all_samples}
-use Rattle.polygons.proofs.ShortEdges.{none_crossed, first_read, first_passed}
+use Rattle.std.proofs.Common.{arith}
+use Rattle.polygons.proofs.Parts.{no_parts, one_part_more, all_parts}
+use Rattle.polygons.proofs.Plotted.{parts_kept}
 use Rattle.polygons.proofs.plot.plot_short.Goals as goal
 
-few : (s n m : ℕ) → s < n → n ≡ m → m ≤ 4 → s < 4
-few s n m h e k = omega arith
+pub plot_short_part-requires-clause-part : goal.plot_short_part-requires-clause-part
+plot_short_part-requires-clause-part g c = omega (arith, c.requires.parts, c.loop-part-test.true)
 
-either : (b : Bool) → b ≡ false → b ≡ true → ⊥
-either true e f = cc
-either false e f = cc
+pub plot_short_part-requires-clause-room : goal.plot_short_part-requires-clause-room
+plot_short_part-requires-clause-room g c = parts_kept c.args.starts.now.strip c.args.cells.now c.loop-part.cells c.loop-part.invariant.same c.requires.room
 
-pub returns-then-not-is_any_crossed : goal.returns-then-not-is_any_crossed
-returns-then-not-is_any_crossed c =
-    let e = c.args.edge.now in
-    let strip = c.args.starts.now.strip in
-    plotted_nowhere strip _ c.args.cells.now (λ s row k h l _.
-    let first = first_read _ _ c.y.result e.a.y _ refl c.y.ensures.in_band c.y.ensures.value (c.rows-first.ensures.first s h) in
-    let end = first_read _ _ c.y-2.result e.b.y _ refl c.y-2.ensures.in_band c.y-2.ensures.value (c.rows-end.ensures.first s h) in
-    signed_none c.args.forward _ (none_crossed e (start_of strip s) _ _ c.requires.short c.requires.runs_down first end
-    (λ crossed. either c.is_any_crossed.result c.if-not-is_any_crossed.true (c.is_any_crossed.ensures s (few s _ _ h refl (part_small strip.count)) crossed)) row k l))
+pub loop-part-init : goal.loop-part-init
+loop-part-init g c = no_parts c.args.starts.now.strip _ c.args.cells.now
 
-pub plot_short_sample-requires-clause-counters : goal.plot_short_sample-requires-clause-counters
-plot_short_sample-requires-clause-counters c = counted c.loop-s.cells.rule c.loop-s.cells.flags.now c.loop-s.cells.counters.now c.loop-s.cells.columns
-
-pub plot_short_sample-requires-clause-first : goal.plot_short_sample-requires-clause-first
-plot_short_sample-requires-clause-first c =
-    let small = few _ _ _ c.loop-s-test.true c.part_size-s-end.ensures (part_small c.args.starts.now.strip.count) in
-    first_passed _ _ c.y.result c.args.edge.now.a.y _ (ap (λ (p : Position). p.y) c.of-start.ensures) c.y.ensures.in_band c.y.ensures.value (c.rows-first.ensures.near c.loop-s.s small)
-    (c.rows-first.ensures.first c.loop-s.s (let t = c.loop-s-test.true in let n = c.part_size-s-end.ensures in omega arith))
-
-pub plot_short_sample-requires-clause-end : goal.plot_short_sample-requires-clause-end
-plot_short_sample-requires-clause-end c =
-    let small = few _ _ _ c.loop-s-test.true c.part_size-s-end.ensures (part_small c.args.starts.now.strip.count) in
-    first_passed _ _ c.y-2.result c.args.edge.now.b.y _ (ap (λ (p : Position). p.y) c.of-start.ensures) c.y-2.ensures.in_band c.y-2.ensures.value (c.rows-end.ensures.near c.loop-s.s small)
-    (c.rows-end.ensures.first c.loop-s.s (let t = c.loop-s-test.true in let n = c.part_size-s-end.ensures in omega arith))
-
-pub loop-s-init : goal.loop-s-init
-loop-s-init c = record {
-  same = (refl, (refl, refl));
-  added = no_samples c.args.cells.now.rule c.args.starts.now.strip _ c.args.cells.now.flags.now c.args.cells.now.counters.now;
-}
-
-pub loop-s-preserved : goal.loop-s-preserved
-loop-s-preserved c =
-    let v = c.loop-s.invariant in
-    let e = c.args.edge.now in
-    let strip = c.args.starts.now.strip in
-    let small = few _ _ _ c.loop-s-test.true c.part_size-s-end.ensures (part_small strip.count) in
-    record {
-      same = v.same;
-      added = one_sample_more c.args.cells.now.rule strip _ c.loop-s.s _ _ _ _ _ _ _ small
-          (λ row k. ap (λ (p : Position). signed c.args.forward (direction e (along (down p row) (pos k)))) c.of-start.ensures) v.added (rw v.same.0 at c.plot_short_sample.ensures);
-    }
+pub loop-part-preserved : goal.loop-part-preserved
+loop-part-preserved g c = one_part_more c.args.starts.now.strip _ c.loop-part.part c.args.cells.now c.loop-part.cells _ c.loop-part.invariant c.plot_short_part.ensures
 
 pub returns : goal.returns
-returns c =
-    let v = c.loop-s.invariant in
-    record {
-      plotted = all_samples c.args.cells.now.rule c.args.starts.now.strip _ c.loop-s.s _ _ _ _ (let f = c.loop-s-test.false in let n = c.part_size-s-end.ensures in omega arith) v.added;
-      same = v.same;
-    }
+returns g c = all_parts c.args.starts.now.strip _ c.loop-part.part _ _ (omega (arith, c.requires.parts, c.loop-part-test.false)) c.loop-part.invariant

@@ -3,9 +3,10 @@ use Rattle.std.proofs.lemmas.Bool.{cases_lt, lt-ltb, le-ltb}
 use Rattle.std.proofs.lemmas.Nat.{shr-shr}
 use Rattle.std.proofs.lemmas.Nat.Bits.{bit_at-zero, bit_at-trailing_zeros, bit_at_or, bit_at_above}
 use Rattle.std.specs.Int.{bit_at, trailing_zeros}
-use Rattle.polygons.specs.Summing.{run}
+use Rattle.polygons.specs.declared.marks.Marks.{Marks}
+use Rattle.polygons.specs.Summing.{run, number_in, IsMarked}
 use Rattle.polygons.proofs.Parity.{bit_of_shifted}
-use Rattle.polygons.proofs.Changes.{AreChanged, columns, none_changed, skipped, one_changed}
+use Rattle.polygons.proofs.Changes.{AreChanged, columns, no_number, none_changed, skipped, one_changed}
 use Rattle.polygons.proofs.sum.changes.Goals as goal
 
 -- ---- the next flag of a word whose first n are done
@@ -53,33 +54,38 @@ flag_apart bits b n i small h apart =
         beyond : n ≤ i → 1 ≤ i - n
         beyond l = elim (cases_lt n i) [ inl m ↦ omega arith | inr m ↦ absurd (apart (omega arith)) ]
 
-pub add_counter-requires-clause-bit : goal.add_counter-requires-clause-bit
-add_counter-requires-clause-bit c = (next_flag c.args.marks c.loop-left.left c.loop-left.done c.loop-left.invariant.left c.ranges.marks.fits c.loop-left.auto.left-fits.fits c.loop-left-test.true).inside
+marks_fit : (marks result : ℕ) → result ≡ marks → result < 2 ^ 64 → marks < 2 ^ 64
+marks_fit marks result e h = omega arith
+
+pub add_number-requires-clause-bit : goal.add_number-requires-clause-bit
+add_number-requires-clause-bit c = (next_flag _ c.loop-left.left c.loop-left.done c.loop-left.invariant.left (marks_fit _ _ c.firsts-left.ensures c.firsts-left.type_inv) c.loop-left.auto.left-fits.fits c.loop-left-test.true).inside
 
 pub overflow_shl-changes : goal.overflow_shl-changes
-overflow_shl-changes c = (next_flag c.args.marks c.loop-left.left c.loop-left.done c.loop-left.invariant.left c.ranges.marks.fits c.loop-left.auto.left-fits.fits c.loop-left-test.true).inside
+overflow_shl-changes c = (next_flag _ c.loop-left.left c.loop-left.done c.loop-left.invariant.left (marks_fit _ _ c.firsts-left.ensures c.firsts-left.type_inv) c.loop-left.auto.left-fits.fits c.loop-left-test.true).inside
 
 pub loop-left-init : goal.loop-left-init
 loop-left-init c = record {
   left = omega arith;
-  changed = none_changed c.args.counters.now c.args.word c.args.sums.now 0 bit_at-zero;
+  changed = none_changed _ c.args.word c.args.sums.now 0 bit_at-zero;
 }
 
 pub loop-left-preserved : goal.loop-left-preserved
 loop-left-preserved c =
     let v = c.loop-left.invariant in
+    let marks = bit_or c.args.marks.downs c.args.marks.ups in
+    let numbers = number_in c.args.marks c.args.counters.now c.args.word in
     let t = trailing_zeros w64 c.loop-left.left in
     let n = c.loop-left.done + t in
-    let f = next_flag c.args.marks c.loop-left.left c.loop-left.done v.left c.ranges.marks.fits c.loop-left.auto.left-fits.fits c.loop-left-test.true in
-    let a = c.add_counter.ensures in
-    let bit : c.add_counter.result < 2 = let e = a.change in omega arith in
-    let at = skipped c.args.counters.now c.args.word c.args.sums.now c.fits-sums c.loop-left.done n c.loop-left.changes c.loop-left.counters c.loop-left.sums (omega arith) (let i = f.inside in omega arith)
-    (λ i h l. c.requires.marked i (let m = f.inside in omega arith) (f.none i h l)) v.changed in
+    let f = next_flag marks c.loop-left.left c.loop-left.done v.left (marks_fit _ _ c.firsts-left.ensures c.firsts-left.type_inv) c.loop-left.auto.left-fits.fits c.loop-left-test.true in
+    let a = c.add_number.ensures in
+    let bit : c.add_number.result < 2 = let e = a.change in omega arith in
+    let at = skipped numbers c.args.word c.args.sums.now c.fits-sums c.loop-left.done n c.loop-left.changes c.loop-left.sums (omega arith) (let i = f.inside in omega arith)
+    (λ i h l. no_number c.args.marks c.args.counters.now c.args.word i c.requires.marked (let m = f.inside in omega arith) (f.none i h l)) v.changed in
     record {
-      left = ap (λ x. x / 2 ^ t / 2) v.left ∙ ap (λ x. x / 2) (shr-shr c.args.marks c.loop-left.done t) ∙ shr-shr c.args.marks n 1;
-      changed = one_changed c.args.counters.now c.args.word c.args.sums.now c.fits-sums n c.loop-left.changes _ c.loop-left.counters c.loop-left.sums _ _ f.inside
-          (flag_here c.loop-left.changes c.add_counter.result n bit f.inside (at.bits_rest n (omega arith) f.inside) ∙ a.change)
-          (λ i h e. flag_apart c.loop-left.changes c.add_counter.result n i bit h e) a.sum a.other_sums a.zero a.others at;
+      left = ap (λ x. x / 2 ^ t / 2) v.left ∙ ap (λ x. x / 2) (shr-shr marks c.loop-left.done t) ∙ shr-shr marks n 1;
+      changed = one_changed numbers c.args.word c.args.sums.now c.fits-sums n c.loop-left.changes _ c.loop-left.sums _ f.inside
+          (flag_here c.loop-left.changes c.add_number.result n bit f.inside (at.bits_rest n (omega arith) f.inside) ∙ a.change)
+          (λ i h e. flag_apart c.loop-left.changes c.add_number.result n i bit h e) a.sum a.other_sums at;
     }
 
 no_flags : (marks left n : ℕ) → left ≡ marks / 2 ^ n → left ≡ 0 → (i : ℕ) → n ≤ i → bit_at marks i ≡ 0
@@ -87,30 +93,21 @@ no_flags marks left n is none i h =
     let place : n + (i - n) ≡ i = omega arith in
     sym (ap (bit_at marks) place) ∙ sym (ap (λ x. x % 2) (shr-shr marks n (i - n))) ∙ sym (ap (λ x. bit_at x (i - n)) is) ∙ ap (λ x. bit_at x (i - n)) none ∙ bit_at-zero (i - n)
 
--- what holds at the end, for all flags
-all_of : (counters : List ℕ) (word : ℕ) (sums : List ℕ) (marks left n bits : ℕ) (counters' sums' : List ℕ) → ((q : ℕ) → slice_index sums q < 2 ^ 32) → ((i : ℕ) → i < 64 → bit_at marks i ≡ 0 → slice_index counters (64 * word + i) ≡ 0)
-    → left ≡ marks / 2 ^ n → left ≡ 0 → AreChanged counters word sums n bits counters' sums' → AreChanged counters word sums 64 bits counters' sums'
-all_of counters word sums marks left n bits counters' sums' small marked is none v =
-    skipped counters word sums small n 64 bits counters' sums' v.few (omega arith) (λ i h l. marked i l (no_flags marks left n is none i h)) v
+-- what holds at the end, for all cells
+all_of : (marks : Marks) (counters : List ℕ) (word : ℕ) (sums : List ℕ) (left n bits : ℕ) (sums' : List ℕ) → ((q : ℕ) → slice_index sums q < 2 ^ 32) → IsMarked marks
+    → left ≡ bit_or marks.downs marks.ups / 2 ^ n → left ≡ 0 → AreChanged (number_in marks counters word) word sums n bits sums' → AreChanged (number_in marks counters word) word sums 64 bits sums'
+all_of marks counters word sums left n bits sums' small marked is none v =
+    skipped (number_in marks counters word) word sums small n 64 bits sums' v.few (omega arith) (λ i h l. no_number marks counters word i marked l (no_flags (bit_or marks.downs marks.ups) left n is none i h)) v
 
 pub returns-clause-changes : goal.returns-clause-changes
 returns-clause-changes c i h =
-    (all_of c.args.counters.now c.args.word c.args.sums.now c.args.marks c.loop-left.left c.loop-left.done c.loop-left.changes c.loop-left.counters c.loop-left.sums c.fits-sums c.requires.marked c.loop-left.invariant.left c.loop-left-test.false c.loop-left.invariant.changed).bits_done i h
+    (all_of c.args.marks c.args.counters.now c.args.word c.args.sums.now c.loop-left.left c.loop-left.done c.loop-left.changes c.loop-left.sums c.fits-sums c.requires.marked c.loop-left.invariant.left c.loop-left-test.false c.loop-left.invariant.changed).bits_done i h
 
 pub returns-clause-next : goal.returns-clause-next
 returns-clause-next c r h =
-    let v = all_of c.args.counters.now c.args.word c.args.sums.now c.args.marks c.loop-left.left c.loop-left.done c.loop-left.changes c.loop-left.counters c.loop-left.sums c.fits-sums c.requires.marked c.loop-left.invariant.left c.loop-left-test.false c.loop-left.invariant.changed in
+    let v = all_of c.args.marks c.args.counters.now c.args.word c.args.sums.now c.loop-left.left c.loop-left.done c.loop-left.changes c.loop-left.sums c.fits-sums c.requires.marked c.loop-left.invariant.left c.loop-left-test.false c.loop-left.invariant.changed in
     let all : columns 64 r ≡ 8 = omega arith in
-    v.next r h ∙ ap (run c.args.counters.now (8 * (8 * c.args.word + r)) (slice_index c.args.sums.now (8 * c.args.word + r))) all
+    v.next r h ∙ ap (run (number_in c.args.marks c.args.counters.now c.args.word) (8 * r) (slice_index c.args.sums.now (8 * c.args.word + r))) all
 
 pub returns-clause-other_sums : goal.returns-clause-other_sums
 returns-clause-other_sums c q n = c.loop-left.invariant.changed.other_sums q n
-
-pub returns-clause-zeros : goal.returns-clause-zeros
-returns-clause-zeros c i h =
-    let v = all_of c.args.counters.now c.args.word c.args.sums.now c.args.marks c.loop-left.left c.loop-left.done c.loop-left.changes c.loop-left.counters c.loop-left.sums c.fits-sums c.requires.marked c.loop-left.invariant.left c.loop-left-test.false c.loop-left.invariant.changed in
-    let place : i ≡ 64 * c.args.word + i % 64 = omega arith in
-    ap (slice_index c.loop-left.counters) place ∙ v.zeros (i % 64) (omega arith)
-
-pub returns-clause-others : goal.returns-clause-others
-returns-clause-others c i n = c.loop-left.invariant.changed.others i (λ a b. n (let f = c.loop-left.invariant.changed.few in omega arith))

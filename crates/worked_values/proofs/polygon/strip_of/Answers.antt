@@ -8,5 +8,5 @@ zeros : (column i : ℕ) → slice_index (row_of ((0 ∷ 0 ∷ 0 ∷ 0 ∷ 0 ∷
 zeros zero i = zero_of (0 ∷ 0 ∷ 0 ∷ 0 ∷ 0 ∷ 0 ∷ 0 ∷ 0 ∷ 0 ∷ 0 ∷ 0 ∷ 0 ∷ 0 ∷ 0 ∷ 0 ∷ 0 ∷ 0 ∷ 0 ∷ 0 ∷ 0 ∷ 0 ∷ 0 ∷ 0 ∷ 0 ∷ 0 ∷ 0 ∷ 0 ∷ 0 ∷ 0 ∷ 0 ∷ 0 ∷ 0 ∷ []) refl i
 zeros (suc column) i = refl
 
-pub cover_strip-requires-clause-flags : goal.cover_strip-requires-clause-flags
-cover_strip-requires-clause-flags c = zeros
+pub cover_parts-requires-clause-flags : goal.cover_parts-requires-clause-flags
+cover_parts-requires-clause-flags c = zeros

@@ -42,7 +42,6 @@ loop-row-preserved c =
       painted = one_row_painted (shapes_between c.args.polygons.now c.args.style.now self.first self.end) c.args.origin.now rows.canvas rows.first rows.end row from c.args.samples.now c.loop-row.samples c.paint_row.new.samples (a + each - a) a
           (omega (arith, room, many, at, c.requires.samples, c.loop-row.auto.samples)) (omega (arith, c.paint_row.auto.samples, room, many, at, c.requires.samples, c.loop-row.auto.samples)) many at c.loop-row.invariant.painted c.paint_row.ensures.painted;
       flags = c.paint_row.ensures.flags;
-      counters = c.paint_row.ensures.counters;
     }
 
 pub returns-clause-painted : goal.returns-clause-painted

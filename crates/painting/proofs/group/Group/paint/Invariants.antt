@@ -8,5 +8,4 @@ abbrev pub invariant-loop-row : goal.invariant-loop-row
 invariant-loop-row l = record {
   painted : ArePaintedBefore (shapes_between l.polygons l.style l.self.first l.self.end) l.origin l.rows.canvas l.rows.first l.rows.end l.row l.fn.samples l.samples;
   flags : AreZeros l.flags;
-  counters : AreZeros l.counters;
 }

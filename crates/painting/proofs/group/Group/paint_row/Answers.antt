@@ -27,13 +27,11 @@ loop-number-preserved c =
           record {
             painted = rw w.samples-is (next_painted f self.first origin canvas row (row + 1) number old mid w.paint_rows.new.samples from v.painted one);
             flags = rw w.flags-is w.paint_rows.ensures.flags;
-            counters = rw w.counters-is w.paint_rows.ensures.counters;
           }
       | else-can_meet w ↦
           let none : ArePainted (f number ∷ []) origin canvas row (row + 1) mid mid = row_not_met (f number) origin canvas row _ _ mid (omega (arith, c.requires.row)) (c.requires.rows number from c.loop-number-test.true) (λ p. let e = w.if-can_meet.ensures.1 p in cc) in
           record {
             painted = rw w.samples-is (next_painted f self.first origin canvas row (row + 1) number old mid mid from v.painted none);
             flags = rw w.flags-is v.flags;
-            counters = rw w.counters-is v.counters;
           }
     ]

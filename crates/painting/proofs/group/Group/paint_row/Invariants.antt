@@ -9,5 +9,4 @@ abbrev pub invariant-loop-number : goal.invariant-loop-number
 invariant-loop-number l = record {
   painted : ArePainted (map (shape_in l.polygons l.style) (range_with_len l.self.first (l.number - l.self.first))) l.origin l.canvas l.row (l.row + 1) l.fn.samples l.samples;
   flags : AreZeros l.flags;
-  counters : AreZeros l.counters;
 }

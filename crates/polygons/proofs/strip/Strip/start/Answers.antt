@@ -19,12 +19,12 @@ offset z x o e f h = record { low = omega (arith, ints); high = omega (arith, in
 
 pub place-x-requires : goal.place-x-requires
 place-x-requires c =
-    let o = offset c.x.result c.sample_at-offset.result.x _ c.x.ensures.value (ap (λ (p : Position). p.x) c.sample_at-offset.ensures) (offset_x c.args.self.now.count (c.args.self.now.from + c.args.s)) in
+    let o = offset c.x.result c.sample_at-offset.result.x _ c.x.ensures.value (ap (λ (p : Position). p.x) c.sample_at-offset.ensures) (offset_x c.args.self.now.count c.args.s) in
     record { pixel = pixel_passed c.args.self.now.column c.args.self.now.across; low = o.low; high = o.high }
 
 pub place-y-requires : goal.place-y-requires
 place-y-requires c =
-    let o = offset c.y.result c.sample_at-offset.result.y _ c.y.ensures.value (ap (λ (p : Position). p.y) c.sample_at-offset.ensures) (offset_y c.args.self.now.count (c.args.self.now.from + c.args.s)) in
+    let o = offset c.y.result c.sample_at-offset.result.y _ c.y.ensures.value (ap (λ (p : Position). p.y) c.sample_at-offset.ensures) (offset_y c.args.self.now.count c.args.s) in
     record { pixel = pixel_passed c.args.self.now.row c.args.self.now.below; low = o.low; high = o.high }
 
 pixel_is : (z : ℤ) → IsPixelInBand z → to_z w32 (of_z w32 z) ≡ z
@@ -32,8 +32,8 @@ pixel_is z h = omega (arith, ints)
 
 pub returns : goal.returns
 returns c =
-    let x = offset c.x.result c.sample_at-offset.result.x _ c.x.ensures.value (ap (λ (p : Position). p.x) c.sample_at-offset.ensures) (offset_x c.args.self.now.count (c.args.self.now.from + c.args.s)) in
-    let y = offset c.y.result c.sample_at-offset.result.y _ c.y.ensures.value (ap (λ (p : Position). p.y) c.sample_at-offset.ensures) (offset_y c.args.self.now.count (c.args.self.now.from + c.args.s)) in
+    let x = offset c.x.result c.sample_at-offset.result.x _ c.x.ensures.value (ap (λ (p : Position). p.x) c.sample_at-offset.ensures) (offset_x c.args.self.now.count c.args.s) in
+    let y = offset c.y.result c.sample_at-offset.result.y _ c.y.ensures.value (ap (λ (p : Position). p.y) c.sample_at-offset.ensures) (offset_y c.args.self.now.count c.args.s) in
     let column = pixel_is c.args.self.now.column c.args.self.now.across in
     let row = pixel_is c.args.self.now.row c.args.self.now.below in
     let across = passed c.place-x.result _ c.place-x.ensures.in_band (c.place-x.ensures.value ∙ (λ i. pos 256 *ℤ column i +ℤ x.is i)) in
