@@ -36,6 +36,9 @@
 --   HasMasks: The masks of block k of a tile, which is a pair, are these.
 --   AreReplaced: Of block k sample s of a pixel is that of this plane where mask s has the pixel's bit, else it is unchanged.
 --
+-- Lanes.antt
+--   AreChosen: Each pixel has the number of `set` where its lane is 1, else that of `clear`.
+--
 -- Drawing.antt
 --   AreCleared: Each sample of the tile rows from `first` to before `end` is this one.
 --   HaveEnds: Each sample of these tile rows ends as what the triangles make, one after another, of what was stored there.
@@ -145,6 +148,7 @@
 --   HaveEndsOnScreen: Each sample ends as what the triangles make of it as a sample of the screen.
 
 pub mod Layout
+pub mod Lanes
 pub mod Drawing
 pub mod Straight
 pub mod Pixels

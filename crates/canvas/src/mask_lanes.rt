@@ -1,6 +1,7 @@
 //! Masks of the 64 pixels of a block in lanes, a lane for each pixel.
-ghost use Rattle.std.specs.Prelude.{◌≡◌, ◌==◌, if◌then◌else◌, ℕ, ◌<◌, length, slice_index};
+ghost use Rattle.std.specs.Prelude.{◌≡◌, ℕ, ◌<◌, length, slice_index};
 ghost use Rattle.std.specs.Int.{bit_at};
+ghost use Rattle.canvas.specs.Lanes.{AreChosen};
 
 use std::simd::prelude::*;
 
@@ -33,8 +34,7 @@ pub(crate) fn lanes_of_mask(mask: u64) -> u8x64
 #[inline(always)]
 pub(crate) fn choose_bytes(lanes: u8x64, set: &[u8; 64], clear: &[u8; 64]) -> [u8; 64]
     requires { length lanes ≡ 64 }
-    ensures { (p : ℕ) → p < 64 → slice_index result p ≡
-        (if slice_index lanes p == 1 then slice_index set.now p else slice_index clear.now p) }
+    ensures { AreChosen lanes set.now clear.now result }
 {
     lanes
         .simd_eq(u8x64::splat(1))
@@ -46,8 +46,7 @@ pub(crate) fn choose_bytes(lanes: u8x64, set: &[u8; 64], clear: &[u8; 64]) -> [u
 #[inline(always)]
 pub(crate) fn choose_depths(lanes: u8x64, set: &[u16; 64], clear: &[u16; 64]) -> [u16; 64]
     requires { length lanes ≡ 64 }
-    ensures { (p : ℕ) → p < 64 → slice_index result p ≡
-        (if slice_index lanes p == 1 then slice_index set.now p else slice_index clear.now p) }
+    ensures { AreChosen lanes set.now clear.now result }
 {
     lanes
         .cast::<u16>()

@@ -81,39 +81,6 @@ pub fn pair_block(
     true
 }
 
-/// Stores the samples of a plane in place of those of block `k` that are in the masks, as `replace_samples` does, if
-/// the block is a pair.
-fn replace_in_pair(
-    count: SampleCount,
-    k: usize,
-    masks: &[u64; 16],
-    plane: &BlockSamples,
-    samples: &mut [BlockSamples],
-) -> bool
-    requires some { 4 ≤ count_of count }
-    requires block { k < 64 }
-    requires pair { way_in_tile samples.old k ≡ AsPair }
-    requires samples { length samples.old ≡ planes_of_tile count }
-    ensures replaced { IsTrue result → AreReplaced count k masks.now plane.now samples.old samples.new }
-    ensures unchanged { result ≡ false → samples.new ≡ samples.old }
-    ensures ways { KeepsOtherWays k samples.old samples.new }
-    ensures others { KeepsOtherSamples count k samples.old samples.new }
-{
-    let stored = &samples[place_by(count, Way::Pair, k, count.count() - 1)];
-    if are_in(count, stored, masks) {
-        samples[second_place(count, k)] = *plane;
-        make_pair(count, k, masks, samples);
-        return true;
-    }
-    if are_all(count, stored, masks) {
-        let rest = without(count, stored, masks);
-        samples[place_by(count, Way::Pair, k, 0)] = *plane;
-        make_pair(count, k, &rest, samples);
-        return true;
-    }
-    false
-}
-
 /// Stores the samples of a plane in place of those of block `k` of a tile that are in the masks: sample `s` of a pixel
 /// whose bit is set in `masks[s]`. Returns whether that was done without planes for each sample; else all planes are
 /// unchanged.
@@ -138,13 +105,25 @@ pub fn replace_samples(
     if !has_pairs(count) {
         return false;
     }
-    if way_of(&samples[0], k) == Way::Pair {
-        return replace_in_pair(count, k, masks, plane, samples);
+    if way_of(&samples[0], k) != Way::Pair {
+        if !single_block(count, k, samples) {
+            return false;
+        }
+        samples[second_place(count, k)] = *plane;
+        make_pair(count, k, masks, samples);
+        return true;
     }
-    if !single_block(count, k, samples) {
-        return false;
+    let stored = &samples[place_by(count, Way::Pair, k, count.count() - 1)];
+    if are_in(count, stored, masks) {
+        samples[second_place(count, k)] = *plane;
+        make_pair(count, k, masks, samples);
+        return true;
     }
-    samples[second_place(count, k)] = *plane;
-    make_pair(count, k, masks, samples);
-    true
+    if are_all(count, stored, masks) {
+        let rest = without(count, stored, masks);
+        samples[place_by(count, Way::Pair, k, 0)] = *plane;
+        make_pair(count, k, &rest, samples);
+        return true;
+    }
+    false
 }

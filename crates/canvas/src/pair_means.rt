@@ -65,23 +65,22 @@ fn lanes_from(bytes: &[u8], at: usize) -> u16x8
     eight_from(bytes, at).cast::<u16>()
 }
 
-/// The means of a channel of eight pixels, of which `bits` samples have `second` and the others `first`.
+/// The means of a channel of eight pixels, whose bytes are those from a place on: `bits` samples of each have that of
+/// `second`, and the others that of `first`.
 #[inline(always)]
-fn means(count: SampleCount, bits: u16x8, first: u16x8, second: u16x8) -> u8x8
+fn means(count: SampleCount, bits: u16x8, first: &[u8], second: &[u8], at: usize) -> u8x8
     requires bits { length bits ≡ 8 }
-    requires first { length first ≡ 8 }
-    requires second { length second ≡ 8 }
     requires few { (i : ℕ) → i < 8 → slice_index bits i ≤ count_of count }
-    requires first_bytes { (i : ℕ) → i < 8 → slice_index first i ≤ 255 }
-    requires second_bytes { (i : ℕ) → i < 8 → slice_index second i ≤ 255 }
+    requires first { at + 8 ≤ length first.now }
+    requires second { at + 8 ≤ length second.now }
     ensures whole { length result ≡ 8 }
     ensures each { (i : ℕ) → i < 8 → slice_index result i ≡
-        (slice_index first i * (count_of count - slice_index bits i) + slice_index second i * slice_index bits i +
+        (slice_index first.now (at + i) * (count_of count - slice_index bits i) + slice_index second.now (at + i) * slice_index bits i +
         count_of count / 2) / count_of count }
 {
     let rest = u16x8::splat(count.count() as u16) - bits;
     means_of_sums(
-        first * rest + second * bits,
+        lanes_from(first, at) * rest + lanes_from(second, at) * bits,
         (count.count() / 2) as u16,
         count.logarithm() as u16,
     )
@@ -111,29 +110,9 @@ pub(crate) fn means_of_pair(
     let masks = &planes[place_by(count, Way::Pair, k, many - 1)];
     let bits = count_bits(count, masks, row);
     let at = 8 * row as usize;
-    let red = means(
-        count,
-        bits,
-        lanes_from(&first.r, at),
-        lanes_from(&second.r, at),
-    );
-    let green = means(
-        count,
-        bits,
-        lanes_from(&first.g, at),
-        lanes_from(&second.g, at),
-    );
-    let blue = means(
-        count,
-        bits,
-        lanes_from(&first.b, at),
-        lanes_from(&second.b, at),
-    );
-    let alpha = means(
-        count,
-        bits,
-        lanes_from(&first.alpha, at),
-        lanes_from(&second.alpha, at),
-    );
+    let red = means(count, bits, &first.r, &second.r, at);
+    let green = means(count, bits, &first.g, &second.g, at);
+    let blue = means(count, bits, &first.b, &second.b, at);
+    let alpha = means(count, bits, &first.alpha, &second.alpha, at);
     (interleaved(red, green, blue), first_of_many(alpha))
 }

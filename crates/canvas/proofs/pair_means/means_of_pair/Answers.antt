@@ -1,5 +1,4 @@
 use Rattle.std.proofs.Common.{◌∙◌, refl, ap, ◌+◌, ◌-◌, ◌*◌, ◌/◌, ℕ, slice_index}
-use Rattle.grid.specs.Samples.{count_of}
 use Rattle.lanes.specs.Block.{stored_at}
 use Rattle.canvas.specs.declared.way.Way.TheVariants.{Pair}
 use Rattle.canvas.specs.Layout.{place_by, in_list}
@@ -12,15 +11,14 @@ returns-clause-means c i l =
     let f = in_list c.args.planes.now in
     let k : ℕ = c.args.k in
     let p : ℕ = 8 * c.args.row + i in
-    let n : ℕ = count_of count in
     let bits : ℕ = slice_index c.count_bits-bits.result i in
     let middle = c.place_by-2.ensures.value ∙ ap (λ n. place_by count Pair k (n / 2)) c.count-many.ensures in
     let last = c.place_by-3.ensures.value ∙ ap (λ n. place_by count Pair k (n - 1)) c.count-many.ensures in
     let bytes = c.interleaved.ensures.bytes i l in
     is_mean count f k p bits _ _ _ _ (stored_at (f c.place_by.result) p) (stored_at (f c.place_by-2.result) p) c.place_by.ensures.value middle last refl refl (c.count_bits-bits.ensures.each i l)
     (record {
-      red = bytes.0 ∙ c.means-red.ensures.each i l ∙ (λ j. (c.lanes_from.ensures.each i l j * (n - bits) + c.lanes_from-2.ensures.each i l j * bits + n / 2) / n);
-      green = bytes.1 ∙ c.means-green.ensures.each i l ∙ (λ j. (c.lanes_from-3.ensures.each i l j * (n - bits) + c.lanes_from-4.ensures.each i l j * bits + n / 2) / n);
-      blue = bytes.2 ∙ c.means-blue.ensures.each i l ∙ (λ j. (c.lanes_from-5.ensures.each i l j * (n - bits) + c.lanes_from-6.ensures.each i l j * bits + n / 2) / n);
-      alpha = c.first_of_many.ensures.first i l ∙ c.means-alpha.ensures.each i l ∙ (λ j. (c.lanes_from-7.ensures.each i l j * (n - bits) + c.lanes_from-8.ensures.each i l j * bits + n / 2) / n);
+      red = bytes.0 ∙ c.means-red.ensures.each i l;
+      green = bytes.1 ∙ c.means-green.ensures.each i l;
+      blue = bytes.2 ∙ c.means-blue.ensures.each i l;
+      alpha = c.first_of_many.ensures.first i l ∙ c.means-alpha.ensures.each i l;
     })
