@@ -83,7 +83,7 @@ class Polygons(unittest.TestCase):
                             )
 
     def test_windings_are_counted_up_to_any_number(self) -> None:
-        # The ring goes round so many times, and so many times back: each sample on its left side has all of these edges.
+        # One ring goes round these many times and one back, so the samples on their left side have all of these edges.
         for forwards, backwards in (
             (1, 1), (2, 1), (2, 2), (3, 2), (256, 0), (256, 255), (256, 256), (0, 256), (65536, 0), (65536, 65535),
             (65536, 65536),
@@ -93,8 +93,9 @@ class Polygons(unittest.TestCase):
             rings = [ring for ring in (SQUARE * forwards, SQUARE[::-1] * backwards) if ring]
             canvas.draw_polygons(*flat([rings]), rule="nonzero", first_id=0)
             wanted = WHITE if forwards == backwards else 0
-            self.assertEqual({canvas.ids(sample).tolist()[1][1] for sample in range(16)}, {wanted}, (forwards, backwards))
-            self.assertEqual({canvas.ids(sample).tolist()[1][2] for sample in range(16)}, {WHITE}, (forwards, backwards))
+            for sample in range(16):
+                seen = canvas.ids(sample).tolist()[1]
+                self.assertEqual(seen, [wanted, wanted, WHITE, WHITE], (forwards, backwards, sample))
 
     def test_neighbours_leave_no_seam(self) -> None:
         middle = (301, 287)
