@@ -676,8 +676,8 @@ typedef struct trirast_polygons {
                                      * may run either way round */
 } trirast_polygons;
 
-/* Scratch memory of a part of at most four samples of a pixel in a column of 8 pixels of a canvas, in bytes: one flag of
- * each sample, and by the nonzero rule its counters. */
+/* Scratch memory of a part of at most four samples of a pixel in a column of 8 pixels of a canvas, in bytes: one flag
+ * of each sample, and by the nonzero rule its counters. */
 #define TRIRAST_FLAGS_BYTES 256
 #define TRIRAST_COUNTERS_BYTES 8192
 
@@ -705,8 +705,8 @@ trirast_status trirast_proved_canvas_draw_polygons(trirast_canvas *canvas, const
  * memory of its own.
  * @polygons: what is drawn on them.
  * @scratch: memory that the call uses, aligned to 8. What is in it before does not matter. What is in its first
- *     trirast_polygons_scratch(canvas, polygons->fill_rule) bytes after TRIRAST_STATUS_OK is unspecified; otherwise it is
- *     unchanged.
+ *     trirast_polygons_scratch(canvas, polygons->fill_rule) bytes after TRIRAST_STATUS_OK is unspecified; otherwise it
+ *     is unchanged.
  * @scratch_size: its bytes: at least that number.
  * @error: why nothing was drawn, or NULL.
  *

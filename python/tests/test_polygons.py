@@ -82,6 +82,21 @@ class Polygons(unittest.TestCase):
                                 seen[row][column], inside[-1] if inside else WHITE, (count, rule, column, row, sample)
                             )
 
+    def test_windings_are_counted_up_to_any_number(self) -> None:
+        # One ring goes round these many times and one back, so the samples on their left side have all of these edges.
+        for forwards, backwards in (
+            (1, 1), (2, 1), (2, 2), (3, 2), (256, 0), (256, 255), (256, 256), (0, 256), (65536, 0), (65536, 65535),
+            (65536, 65536),
+        ):
+            canvas = Canvas(4, 4, 16)
+            canvas.clear((255, 255, 255))
+            rings = [ring for ring in (SQUARE * forwards, SQUARE[::-1] * backwards) if ring]
+            canvas.draw_polygons(*flat([rings]), rule="nonzero", first_id=0)
+            wanted = WHITE if forwards == backwards else 0
+            for sample in range(16):
+                seen = canvas.ids(sample).tolist()[1]
+                self.assertEqual(seen, [wanted, wanted, WHITE, WHITE], (forwards, backwards, sample))
+
     def test_neighbours_leave_no_seam(self) -> None:
         middle = (301, 287)
         outline = [(0, 0), (4096, 0), (4096, 4096), (0, 4096)]

@@ -5,7 +5,7 @@ use Rattle.std.proofs.lemmas.Nat.Bits.{bit_at_or}
 use Rattle.std.specs.Int.{bit_at}
 use Rattle.polygons.specs.declared.marks.Marks.{Marks}
 use Rattle.polygons.specs.Cells.{in_use}
-use Rattle.polygons.specs.Summing.{run, number_in, IsMarked, change_bit, change_at}
+use Rattle.polygons.specs.Summing.{run, number_in, HasFirstMarked, change_bit, change_at}
 use Rattle.polygons.proofs.Plotted.{before_of}
 
 -- how many of a row's cells are among the first n of a word
@@ -20,7 +20,7 @@ pub record AreChanged (numbers : ℕ → ℕ) (word : ℕ) (sums : List ℕ) (n 
   pub other_sums : (q : ℕ) → (q / 8 ≡ word → ⊥) → slice_index sums' q ≡ slice_index sums q
 
 -- a cell without flags has the number 0
-pub no_number : (marks : Marks) (counters : List ℕ) (word i : ℕ) → IsMarked marks → i < 64 → bit_at (bit_or marks.downs marks.ups) i ≡ 0 → number_in marks counters word i ≡ 0
+pub no_number : (marks : Marks) (counters : List ℕ) (word i : ℕ) → HasFirstMarked marks → i < 64 → bit_at (bit_or marks.downs marks.ups) i ≡ 0 → number_in marks counters word i ≡ 0
 no_number marks counters word i marked h none =
     let o = bit_at_or marks.downs marks.ups i in
     let d : bit_at marks.downs i ≡ 0 = none_of (bit_at marks.downs i) (bit_at marks.ups i) _ o none in

@@ -38,10 +38,10 @@ diagonal a c p =
     (ap (λ (b : Bool). cond {A = ℕ} b 1 0) o.down, ap (λ (b : Bool). cond {A = ℕ} b 1 0) o.up)
 
 -- one more crossing in one direction than in the other, where it is covered, and as many otherwise
-abbrev IsCounted : Type 0 → ℕ → ℕ → Type 0
-IsCounted C d u = (C × ((d + 1 ≡ u) ⊎ (u + 1 ≡ d))) ⊎ ((C → ⊥) × (d ≡ u))
+abbrev IsEdgeCounted : Type 0 → ℕ → ℕ → Type 0
+IsEdgeCounted C d u = (C × ((d + 1 ≡ u) ⊎ (u + 1 ≡ d))) ⊎ ((C → ⊥) × (d ≡ u))
 
-counted_of : (a b c p : Position) (d u : ℕ) → Verdict a b c p d u → IsCounted (Covers a b c p) d u
+counted_of : (a b c p : Position) (d u : ℕ) → Verdict a b c p d u → IsEdgeCounted (Covers a b c p) d u
 counted_of a b c p d u (upwards h e f) = inl (h, inl (omega arith))
 counted_of a b c p d u (downwards h e f) = inl (h, inr (omega arith))
 counted_of a b c p d u (outside h e) = inr (h, e)
@@ -57,7 +57,7 @@ outside_even EvenOdd d u h k = omega arith
 outside_even NonZero d u h k = k (omega (arith, ints))
 
 -- two parts with k crossings in each direction between them
-joined : (rule : Rule) (C E Q : Type 0) (d u d1 u1 d2 u2 k : ℕ) → d + k ≡ d1 + d2 → u + k ≡ u1 + u2 → (Q ↔ (C ⊎ E)) → ((C × E) → ⊥) → IsCounted C d1 u1 → IsCounted E d2 u2
+joined : (rule : Rule) (C E Q : Type 0) (d u d1 u1 d2 u2 k : ℕ) → d + k ≡ d1 + d2 → u + k ≡ u1 + u2 → (Q ↔ (C ⊎ E)) → ((C × E) → ⊥) → IsEdgeCounted C d1 u1 → IsEdgeCounted E d2 u2
     → IsInsideBy rule (d + u) (pos d -ℤ pos u) ↔ Q
 joined rule C E Q d u d1 u1 d2 u2 k e f same one (inl x) (inl y) = absurd (one (x.0, y.0))
 joined rule C E Q d u d1 u1 d2 u2 k e f same one (inl x) (inr y) =

@@ -9,7 +9,7 @@ use Rattle.polygons.specs.declared.rule.Rule.TheVariants.{NonZero}
 use Rattle.polygons.specs.Rows.{sum_to}
 use Rattle.polygons.specs.ManyRows.{row_of}
 use Rattle.polygons.specs.Cells.{word_of, counter_at, down_flag, up_flag, more_flag, in_use, cell, IsAlike, AreMarked}
-use Rattle.polygons.specs.Summing.{run, number_in, marks_in, nonzero_bit, IsMarked}
+use Rattle.polygons.specs.Summing.{run, number_in, marks_of_word, nonzero_bit, HasFirstMarked}
 use Rattle.polygons.proofs.Plotted.{times_sum}
 
 pub run-same : (f g : ℕ → ℕ) (from a b n : ℕ) → b ≡ a → ((k : ℕ) → k < n → g (from + k) ≡ f (from + k)) → run g from b n ≡ run f from a n
@@ -108,7 +108,7 @@ module _ (downs ups more counters : List (List ℕ)) (downs_len : length downs �
 
   -- the flags of word i of a column
   abbrev marks : ℕ → ℕ → Marks
-  marks n i = marks_in (row_of downs n) (row_of ups n) (row_of more n) i
+  marks n i = marks_of_word (row_of downs n) (row_of ups n) (row_of more n) i
 
   down_in : (s row n k : ℕ) → n < length counters → k < 8 → down_flag flags counters s row (8 * n + k) ≡ bit_at (marks n (word_of s row)).downs (8 * (row % 8) + k)
   down_in s row n k h l =
@@ -134,7 +134,7 @@ module _ (downs ups more counters : List (List ℕ)) (downs_len : length downs �
       let b : (8 * n + k) % 8 ≡ k = omega arith in
       λ j. slice_index (row_of counters (a j)) (64 * word_of s row + (8 * (row % 8) + b j))
 
-  pub marked_in : (n i : ℕ) → AreMarked NonZero flags counters → n < length counters → i < 32 → IsMarked (marks n i)
+  pub marked_in : (n i : ℕ) → AreMarked NonZero flags counters → n < length counters → i < 32 → HasFirstMarked (marks n i)
   marked_in n i marked h l b b_small d u =
       let s : ℕ = i % 4 in
       let row : ℕ = 8 * (i / 4) + b / 8 in

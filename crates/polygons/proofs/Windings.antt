@@ -2,7 +2,7 @@
 use Rattle.std.proofs.Common.{◌≡◌, inl, inr, refl, sym, ap, ◌∙◌, arith, ℕ, ◌+◌, ◌*◌, ◌%◌, ◌^◌, ◌<◌, Bool, true, false, cond, List, length, pos, ◌+ℤ◌, ◌-ℤ◌}
 use Rattle.std.proofs.lemmas.Int.{ints}
 use Rattle.polygons.specs.declared.rule.Rule.TheVariants.{NonZero}
-use Rattle.polygons.specs.Cells.{flag_of, counter_at, down_flag, up_flag, more_flag, in_use, cell, signed, IsAlike, IsCounted}
+use Rattle.polygons.specs.Cells.{flag_of, counter_at, down_flag, up_flag, more_flag, in_use, cell, signed, IsAlike, IsEdgeCounted}
 use Rattle.polygons.proofs.Totals.{counter_alike, same_or_not}
 
 pub cell_same : (f c f' c' : List (List ℕ)) (s row k : ℕ) → length c' ≡ length c → flag_of f' s row k ≡ flag_of f s row k → flag_of f' s row (k + 8 * length c) ≡ up_flag f c s row k
@@ -91,7 +91,7 @@ one_of false d u d' u' e g h l = omega arith
 
 module _ (down : Bool) (f c f1 : List (List ℕ)) (s row k ups : ℕ) (s_small : s < 4) (row_small : row < 64) (k_small : k < 8 * length c) (is : ups ≡ cond down 0 (8 * length c)) (here : flag_of f1 s row (k + ups) ≡ 1) (kept : AreOthersKept f s row (k + ups) f1) where
   -- the first edge of its direction
-  pub counted_first : flag_of f s row (k + ups) ≡ 0 → IsCounted f c f1 c s row k down
+  pub counted_first : flag_of f s row (k + ups) ≡ 0 → IsEdgeCounted f c f1 c s row k down
   counted_first none =
       let own = marked_once down f c f1 s row k ups s_small row_small k_small is here kept in
       let rest = other_cell f c f1 s row k (k + ups) (λ m l. apart down (length c) k m ups is k_small l) kept in
@@ -108,7 +108,7 @@ module _ (down : Bool) (f c f1 : List (List ℕ)) (s row k ups : ℕ) (s_small :
   pub counted_again : (f2 c2 : List (List ℕ)) → flag_of f s row (k + ups) ≡ 1 → length c2 ≡ length c → more_flag f2 c s row k ≡ 1 → AreOthersKept f1 s row (k + 16 * length c) f2
       → counter_at c2 s row k ≡ (in_use (more_flag f1 c s row k) (counter_at c s row k) + cond down 1 4294967295) % 2 ^ 32
       → ((r j m : ℕ) → r < 4 → j < 64 → (r ≡ s → j ≡ row → m ≡ k → ⊥) → counter_at c2 r j m ≡ counter_at c r j m)
-      → IsCounted f c f2 c2 s row k down
+      → IsEdgeCounted f c f2 c2 s row k down
   counted_again f2 c2 set long used kept_flags counter kept_counters =
       let own = marked_once down f c f1 s row k ups s_small row_small k_small is here kept in
       let was = before_of down f c s row k ups 1 is set in

@@ -105,7 +105,7 @@ signed false z = neg_ℤ z
 
 -- An edge was counted by the nonzero rule at sample s of the pixel in a row and a column. What stands there changed by 1 or -1, modulo
 -- 2 ^ 32.
-pub record IsCounted (flags counters flags' counters' : List (List ℕ)) (s row k : ℕ) (down : Bool) : Type 0 where
+pub record IsEdgeCounted (flags counters flags' counters' : List (List ℕ)) (s row k : ℕ) (down : Bool) : Type 0 where
   pub here : IsAlike (2 ^ 32) (cell NonZero flags' counters' s row k) (cell NonZero flags counters s row k +ℤ signed down (pos 1))
   pub others : (r j m : ℕ) → r < 4 → j < 64 → m < 8 * length counters → (r ≡ s → j ≡ row → m ≡ k → ⊥) → cell NonZero flags' counters' r j m ≡ cell NonZero flags counters r j m
   pub marked : AreMarked NonZero flags counters → AreMarked NonZero flags' counters'

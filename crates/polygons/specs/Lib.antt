@@ -143,7 +143,7 @@
 --   HasCounters: The nonzero rule has three columns of flags and one of counters for each column of blocks.
 --   AreMarked: A counter is in use only if one of the other flags is set.
 --   signed: The number, or its opposite.
---   IsCounted: An edge was counted by the nonzero rule at sample s of the pixel in a row and a column.
+--   IsEdgeCounted: An edge was counted by the nonzero rule at sample s of the pixel in a row and a column.
 --   added_by: What an edge that runs downwards adds at the samples of one index, by row and column.
 --   IsAdded: To the sums of sample s in the rows from `first` to before `end` a number was added, by row and column; no other was changed.
 --   IsPlotted: To the sums at each sample of a part of a strip a number was added, which depends on where the sample lies.
@@ -165,8 +165,8 @@
 --   IsNextCarry: The carry into the next word is the parity of the carry and of all flags of a row.
 --
 -- Summing.antt
---   marks_in: The flags of word i of a column.
---   IsMarked: A counter is in use only if one of the other flags is set.
+--   marks_of_word: The flags of word i of a column.
+--   HasFirstMarked: A counter is in use only if one of the other flags is set.
 --   number_in: The number of cell i of a word, or more by a multiple of 2 ^ 32.
 --   run: The sum of a number and of n further ones from `from` on, modulo 2 ^ 32.
 --   nonzero_bit: 1 if the number is other than 0.

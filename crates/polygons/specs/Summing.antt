@@ -5,12 +5,12 @@ use Rattle.polygons.specs.declared.marks.Marks.{Marks}
 use Rattle.polygons.specs.Cells.{in_use}
 
 -- The flags of word i of a column.
-abbrev pub marks_in : List ℕ → List ℕ → List ℕ → ℕ → Marks
-marks_in downs ups more i = record { downs = slice_index downs i; ups = slice_index ups i; more = slice_index more i }
+abbrev pub marks_of_word : List ℕ → List ℕ → List ℕ → ℕ → Marks
+marks_of_word downs ups more i = record { downs = slice_index downs i; ups = slice_index ups i; more = slice_index more i }
 
 -- A counter is in use only if one of the other flags is set.
-abbrev pub IsMarked : Marks → Type 0
-IsMarked marks = (i : ℕ) → i < 64 → bit_at marks.downs i ≡ 0 → bit_at marks.ups i ≡ 0 → bit_at marks.more i ≡ 0
+abbrev pub HasFirstMarked : Marks → Type 0
+HasFirstMarked marks = (i : ℕ) → i < 64 → bit_at marks.downs i ≡ 0 → bit_at marks.ups i ≡ 0 → bit_at marks.more i ≡ 0
 
 -- The number of cell i of a word, or more by a multiple of 2 ^ 32.
 abbrev pub number_in : Marks → List ℕ → ℕ → ℕ → ℕ

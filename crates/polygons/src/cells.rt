@@ -6,7 +6,7 @@
 ghost use Rattle.std.specs.Prelude.{◌≡◌, ℕ, ◌+◌, ◌*◌, ◌%◌, ◌^◌, ◌<◌, pos, negsuc, ◌+ℤ◌, cond, length};
 ghost use Rattle.polygons.specs.Rows.{from_column};
 ghost use Rattle.polygons.specs.declared.rule.Rule.TheVariants.{NonZero};
-ghost use Rattle.polygons.specs.Cells.{flags_by, flag_of, counter_at, more_flag, in_use, signed, HasCounters, IsCounted, IsAdded};
+ghost use Rattle.polygons.specs.Cells.{flags_by, flag_of, counter_at, more_flag, in_use, signed, HasCounters, IsEdgeCounted, IsAdded};
 
 use crate::rule::Rule;
 
@@ -150,7 +150,7 @@ fn count(
     requires column { column < 8 * length counters.old }
     ensures flags_len { length flags.new ≡ length flags.old }
     ensures counters_len { length counters.new ≡ length counters.old }
-    ensures counted { IsCounted flags.old counters.old flags.new counters.new s row column down }
+    ensures counted { IsEdgeCounted flags.old counters.old flags.new counters.new s row column down }
 {
     let ups = if down { 0 } else { 8 * counters.len() };
     if mark(flags, s, row, column + ups) {

@@ -2,7 +2,7 @@
 ghost use Rattle.std.specs.Prelude.{◌≡◌, ◌≢◌, ◌↔◌, ℕ, ◌+◌, ◌*◌, ◌/◌, ◌%◌, ◌^◌, ◌<◌, cond, pos, length, slice_index, ◌++◌};
 ghost use Rattle.std.specs.Int.{bit_at};
 ghost use Rattle.polygons.specs.Cells.{flag_of, running_sum, IsAlike, AreMarked, AreZeros, AreZerosFrom};
-ghost use Rattle.polygons.specs.Summing.{run, number_in, marks_in, nonzero_bit, change_bit, change_at, IsLevelMask, IsMarked};
+ghost use Rattle.polygons.specs.Summing.{run, number_in, marks_of_word, nonzero_bit, change_bit, change_at, IsLevelMask, HasFirstMarked};
 ghost use Rattle.polygons.specs.declared.rule.Rule.TheVariants.{NonZero};
 
 use crate::byte_rows::{fill_rows, last_column};
@@ -60,7 +60,7 @@ fn add_number(marks: Marks, counters: &Counters, word: usize, i: usize, sums: &m
 #[inline(always)]
 fn changes(marks: Marks, counters: &Counters, word: usize, sums: &mut Sums) -> u64
     requires word { word < 32 }
-    requires marked { IsMarked marks }
+    requires marked { HasFirstMarked marks }
     ensures changes { (i : ℕ) → i < 64 → bit_at result i ≡ change_at (number_in marks counters.now word) word sums.old i }
     ensures next { (r : ℕ) → r < 8 → slice_index sums.new (8 * word + r) ≡
         run (number_in marks counters.now word) (8 * r) (slice_index sums.old (8 * word + r)) 8 }
@@ -83,7 +83,7 @@ fn changes(marks: Marks, counters: &Counters, word: usize, sums: &mut Sums) -> u
 #[inline(always)]
 fn sum_word(marks: Marks, counters: &Counters, word: usize, sums: &mut Sums, level: u64) -> u64
     requires word { word < 32 }
-    requires marked { IsMarked marks }
+    requires marked { HasFirstMarked marks }
     requires level { IsLevelMask level word sums.old }
     ensures bits { (r j : ℕ) → r < 8 → j < 8 → bit_at result (8 * r + j) ≡
         nonzero_bit (run (number_in marks counters.now word) (8 * r) (slice_index sums.old (8 * word + r)) (j + 1)) }
@@ -116,18 +116,18 @@ fn sum_at(
     levels: &mut Flags,
 )
     requires word { word < 32 }
-    requires marked { IsMarked (marks_in downs.old ups.old more.old word) }
+    requires marked { HasFirstMarked (marks_of_word downs.old ups.old more.old word) }
     requires level { IsLevelMask (slice_index levels.old word) word sums.old }
     ensures bits { (r j : ℕ) → r < 8 → j < 8 → bit_at (slice_index downs.new word) (8 * r + j) ≡
-        nonzero_bit (run (number_in (marks_in downs.old ups.old more.old word) counters.now word) (8 * r)
+        nonzero_bit (run (number_in (marks_of_word downs.old ups.old more.old word) counters.now word) (8 * r)
         (slice_index sums.old (8 * word + r)) (j + 1)) }
     ensures next { (r : ℕ) → r < 8 → slice_index sums.new (8 * word + r) ≡
-        run (number_in (marks_in downs.old ups.old more.old word) counters.now word) (8 * r)
+        run (number_in (marks_of_word downs.old ups.old more.old word) counters.now word) (8 * r)
         (slice_index sums.old (8 * word + r)) 8 }
     ensures level { IsLevelMask (slice_index levels.new word) word sums.new }
     ensures clear { (slice_index ups.new word ≡ 0) × (slice_index more.new word ≡ 0) }
-    ensures others { (i : ℕ) → (i ≡ word → ⊥) → (marks_in downs.new ups.new more.new i ≡
-        marks_in downs.old ups.old more.old i) × (slice_index levels.new i ≡ slice_index levels.old i) }
+    ensures others { (i : ℕ) → (i ≡ word → ⊥) → (marks_of_word downs.new ups.new more.new i ≡
+        marks_of_word downs.old ups.old more.old i) × (slice_index levels.new i ≡ slice_index levels.old i) }
     ensures other_sums { (q : ℕ) → (q / 8 ≡ word → ⊥) → slice_index sums.new q ≡ slice_index sums.old q }
 {
     let marks = Marks {
@@ -156,14 +156,14 @@ fn sum_column(
     sums: &mut Sums,
     levels: &mut Flags,
 )
-    requires marked { (i : ℕ) → i < 32 → IsMarked (marks_in downs.old ups.old more.old i) }
+    requires marked { (i : ℕ) → i < 32 → HasFirstMarked (marks_of_word downs.old ups.old more.old i) }
     requires levels { (i : ℕ) → i < 32 → IsLevelMask (slice_index levels.old i) i sums.old }
     ensures levels { (i : ℕ) → i < 32 → IsLevelMask (slice_index levels.new i) i sums.new }
     ensures bits { (i r j : ℕ) → i < 32 → r < 8 → j < 8 → bit_at (slice_index downs.new i) (8 * r + j) ≡
-        nonzero_bit (run (number_in (marks_in downs.old ups.old more.old i) counters.now i) (8 * r)
+        nonzero_bit (run (number_in (marks_of_word downs.old ups.old more.old i) counters.now i) (8 * r)
         (slice_index sums.old (8 * i + r)) (j + 1)) }
     ensures next { (i r : ℕ) → i < 32 → r < 8 → slice_index sums.new (8 * i + r) ≡
-        run (number_in (marks_in downs.old ups.old more.old i) counters.now i) (8 * r)
+        run (number_in (marks_of_word downs.old ups.old more.old i) counters.now i) (8 * r)
         (slice_index sums.old (8 * i + r)) 8 }
     ensures clear { (i : ℕ) → (slice_index ups.new i ≡ 0) × (slice_index more.new i ≡ 0) }
 {

@@ -225,8 +225,8 @@ static void compare_scratch(void) {
     report("scratch memory that is too small, misaligned or not there is refused");
 }
 
-// The size of scratch memory: flags for each part of at most four samples of a pixel, and by the nonzero rule three times
-// as many and counters.
+// The size of scratch memory: flags for each part of at most four samples of a pixel, and by the nonzero rule three
+// times as many and counters.
 static void compare_scratch_sizes(void) {
     static const uint32_t counts[] = {0, 1, 2, 4, 8, 16};
     static const size_t parts[] = {1, 1, 1, 1, 2, 4};
@@ -237,8 +237,8 @@ static void compare_scratch_sizes(void) {
         expect(trirast_polygons_scratch(&canvas, TRIRAST_FILL_NONZERO) == 16 * (3 * 256 + 8192) * parts[k],
                "flags and counters for %u samples", counts[k]);
     }
-    report("scratch memory has flags for each part of at most four samples, and by the nonzero rule three times as many "
-           "and counters");
+    report("scratch memory has flags for each part of at most four samples, and by the nonzero rule three times as "
+           "many and counters");
 }
 
 static void compare_messages(void) {

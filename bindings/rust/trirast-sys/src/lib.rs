@@ -137,8 +137,8 @@ pub const TRIRAST_MAX_STRIDE: usize = 2048;
 pub const TRIRAST_TILE_SIZE: u32 = 64;
 /// Bytes of the samples of one index of a block of 8 by 8 pixels: the unit of a canvas's memory.
 pub const TRIRAST_PLANE_BYTES: usize = 384;
-/// Scratch memory of a part of at most four samples in a column of 8 pixels of a canvas: one flag of each sample, and by
-/// the nonzero rule its counters.
+/// Scratch memory of a part of at most four samples in a column of 8 pixels of a canvas: one flag of each sample, and
+/// by the nonzero rule its counters.
 pub const TRIRAST_FLAGS_BYTES: usize = 256;
 pub const TRIRAST_COUNTERS_BYTES: usize = 8192;
 

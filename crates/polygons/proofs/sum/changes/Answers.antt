@@ -4,7 +4,7 @@ use Rattle.std.proofs.lemmas.Nat.{shr-shr}
 use Rattle.std.proofs.lemmas.Nat.Bits.{bit_at-zero, bit_at-trailing_zeros, bit_at_or, bit_at_above}
 use Rattle.std.specs.Int.{bit_at, trailing_zeros}
 use Rattle.polygons.specs.declared.marks.Marks.{Marks}
-use Rattle.polygons.specs.Summing.{run, number_in, IsMarked}
+use Rattle.polygons.specs.Summing.{run, number_in, HasFirstMarked}
 use Rattle.polygons.proofs.Parity.{bit_of_shifted}
 use Rattle.polygons.proofs.Changes.{AreChanged, columns, no_number, none_changed, skipped, one_changed}
 use Rattle.polygons.proofs.sum.changes.Goals as goal
@@ -94,7 +94,7 @@ no_flags marks left n is none i h =
     sym (ap (bit_at marks) place) ∙ sym (ap (λ x. x % 2) (shr-shr marks n (i - n))) ∙ sym (ap (λ x. bit_at x (i - n)) is) ∙ ap (λ x. bit_at x (i - n)) none ∙ bit_at-zero (i - n)
 
 -- what holds at the end, for all cells
-all_of : (marks : Marks) (counters : List ℕ) (word : ℕ) (sums : List ℕ) (left n bits : ℕ) (sums' : List ℕ) → ((q : ℕ) → slice_index sums q < 2 ^ 32) → IsMarked marks
+all_of : (marks : Marks) (counters : List ℕ) (word : ℕ) (sums : List ℕ) (left n bits : ℕ) (sums' : List ℕ) → ((q : ℕ) → slice_index sums q < 2 ^ 32) → HasFirstMarked marks
     → left ≡ bit_or marks.downs marks.ups / 2 ^ n → left ≡ 0 → AreChanged (number_in marks counters word) word sums n bits sums' → AreChanged (number_in marks counters word) word sums 64 bits sums'
 all_of marks counters word sums left n bits sums' small marked is none v =
     skipped (number_in marks counters word) word sums small n 64 bits sums' v.few (omega arith) (λ i h l. no_number marks counters word i marked l (no_flags (bit_or marks.downs marks.ups) left n is none i h)) v

@@ -2,7 +2,7 @@ use Rattle.std.proofs.Common.{◌≡◌, refl, sym, ap, ◌∙◌, arith, ℕ, �
 use Rattle.std.proofs.lemmas.Nat.Bits.{bit_at-zero, bit_at_or, same_from_bits, same_from_bits_below}
 use Rattle.std.specs.Int.{bit_at}
 use Rattle.polygons.specs.declared.marks.Marks.{Marks}
-use Rattle.polygons.specs.Summing.{marks_in, number_in, nonzero_bit, IsMarked}
+use Rattle.polygons.specs.Summing.{marks_of_word, number_in, nonzero_bit, HasFirstMarked}
 use Rattle.polygons.proofs.Changes.{no_number}
 use Rattle.polygons.proofs.RunningSums.{run-none, set_same, set_apart}
 use Rattle.polygons.proofs.sum.sum_at.Goals as goal
@@ -17,13 +17,13 @@ left_none d u e = same_from_bits d 0 (λ i. let o = bit_at_or d u i in let n = n
 right_none : (d u : ℕ) → bit_or d u ≡ 0 → u ≡ 0
 right_none d u e = same_from_bits u 0 (λ i. let o = bit_at_or d u i in let n = none_set d u i e in let z = bit_at-zero i in omega arith)
 
-more_none : (marks : Marks) → IsMarked marks → bit_or marks.downs marks.ups ≡ 0 → marks.more < 2 ^ 64 → marks.more ≡ 0
+more_none : (marks : Marks) → HasFirstMarked marks → bit_or marks.downs marks.ups ≡ 0 → marks.more < 2 ^ 64 → marks.more ≡ 0
 more_none marks marked none small =
     same_from_bits_below 64 marks.more 0 small (omega arith)
     (λ i h. marked i h (ap (λ x. bit_at x i) (left_none marks.downs marks.ups none) ∙ bit_at-zero i) (ap (λ x. bit_at x i) (right_none marks.downs marks.ups none) ∙ bit_at-zero i) ∙ sym (bit_at-zero i))
 
 same_marks : (downs ups more downs' ups' more' : List ℕ) (i : ℕ) → slice_index downs' i ≡ slice_index downs i → slice_index ups' i ≡ slice_index ups i → slice_index more' i ≡ slice_index more i
-    → marks_in downs' ups' more' i ≡ marks_in downs ups more i
+    → marks_of_word downs' ups' more' i ≡ marks_of_word downs ups more i
 same_marks downs ups more downs' ups' more' i d u m = λ j. record { downs = d j; ups = u j; more = m j }
 
 pub returns-then-firsts-eq0 : goal.returns-then-firsts-eq0
@@ -31,7 +31,7 @@ returns-then-firsts-eq0 c =
     let word = c.args.word in
     let downs = c.args.downs.now in
     let level = slice_index c.args.levels.now word in
-    let marks = marks_in downs c.args.ups.now c.args.more.now word in
+    let marks = marks_of_word downs c.args.ups.now c.args.more.now word in
     let numbers = number_in marks c.args.counters.now word in
     let sum = λ (r : ℕ). slice_index c.args.sums.now (8 * word + r) in
     let inside : word < length downs = omega (arith, c.told-downs, c.requires.word) in

@@ -2,7 +2,7 @@ use Rattle.std.proofs.Common.{◌≡◌, inl, inr, sym, subst, ap, ◌∙◌, ar
 use Rattle.std.proofs.lemmas.Bool.{cases_eq, cases_lt}
 use Rattle.std.specs.Int.{bit_at}
 use Rattle.polygons.specs.declared.marks.Marks.{Marks}
-use Rattle.polygons.specs.Summing.{run, number_in, marks_in, nonzero_bit, IsMarked}
+use Rattle.polygons.specs.Summing.{run, number_in, marks_of_word, nonzero_bit, HasFirstMarked}
 use Rattle.polygons.proofs.Plotted.{before_of}
 use Rattle.polygons.proofs.RunningSums.{past_end}
 use Rattle.polygons.proofs.sum.sum_column.Goals as goal
@@ -14,7 +14,7 @@ sum_at-requires c =
     let rest = v.rest i (omega arith) in
     record {
       word = c.loop-i-test.true;
-      marked = subst IsMarked (sym rest.0) (c.requires.marked i c.loop-i-test.true);
+      marked = subst HasFirstMarked (sym rest.0) (c.requires.marked i c.loop-i-test.true);
       level = λ r j h l. ap (λ w. bit_at w (8 * r + j)) rest.1 ∙ c.requires.levels i c.loop-i-test.true r j h l ∙ ap nonzero_bit (sym (v.sums_rest (8 * i + r) (omega arith)));
     }
 
@@ -25,9 +25,9 @@ loop-i-preserved c =
     let p = c.sum_at.ensures in
     let rest = v.rest n (omega arith) in
     let new = c.sum_at.new in
-    let numbers = λ (i : ℕ). number_in (marks_in c.args.downs.now c.args.ups.now c.args.more.now i) c.args.counters.now i in
+    let numbers = λ (i : ℕ). number_in (marks_of_word c.args.downs.now c.args.ups.now c.args.more.now i) c.args.counters.now i in
     let sums = c.args.sums.now in
-    let same : (r m : ℕ) → r < 8 → run (number_in (marks_in c.loop-i.downs c.loop-i.ups c.loop-i.more n) c.args.counters.now n) (8 * r) (slice_index c.loop-i.sums (8 * n + r)) m ≡ run (numbers n) (8 * r) (slice_index sums (8 * n + r)) m = (λ r m h.
+    let same : (r m : ℕ) → r < 8 → run (number_in (marks_of_word c.loop-i.downs c.loop-i.ups c.loop-i.more n) c.args.counters.now n) (8 * r) (slice_index c.loop-i.sums (8 * n + r)) m ≡ run (numbers n) (8 * r) (slice_index sums (8 * n + r)) m = (λ r m h.
     λ j. run (number_in (rest.0 j) c.args.counters.now n) (8 * r) (v.sums_rest (8 * n + r) (omega arith) j) m) in
     record {
       bits = λ i r j h lr lj. elim (cases_eq i n) [

@@ -7,7 +7,7 @@ use Rattle.polygons.specs.declared.rule.Rule.TheVariants.{NonZero}
 use Rattle.polygons.specs.Rows.{sum_to}
 use Rattle.polygons.specs.ManyRows.{row_of}
 use Rattle.polygons.specs.Cells.{word_of, cell, running_sum, IsAlike}
-use Rattle.polygons.specs.Summing.{run, number_in, marks_in, nonzero_bit, IsMarked}
+use Rattle.polygons.specs.Summing.{run, number_in, marks_of_word, nonzero_bit, HasFirstMarked}
 use Rattle.polygons.proofs.RowLists.{row-here, row-other}
 use Rattle.polygons.proofs.Totals.{alike_same}
 use Rattle.polygons.proofs.Filling.{before_column}
@@ -17,8 +17,8 @@ use Rattle.polygons.proofs.sum.sum_columns.Goals as goal
 
 -- the flags of a word of a column that was not reached yet
 same_marks : (downs ups more downs' ups' more' : List (List ℕ)) (n i : ℕ) → row_of downs' n ≡ row_of downs n → row_of ups' n ≡ row_of ups n → row_of more' n ≡ row_of more n
-    → marks_in (row_of downs' n) (row_of ups' n) (row_of more' n) i ≡ marks_in (row_of downs n) (row_of ups n) (row_of more n) i
-same_marks downs ups more downs' ups' more' n i d u m = λ j. marks_in (d j) (u j) (m j) i
+    → marks_of_word (row_of downs' n) (row_of ups' n) (row_of more' n) i ≡ marks_of_word (row_of downs n) (row_of ups n) (row_of more n) i
+same_marks downs ups more downs' ups' more' n i d u m = λ j. marks_of_word (d j) (u j) (m j) i
 
 pub sum_column-requires-clause-levels : goal.sum_column-requires-clause-levels
 sum_column-requires-clause-levels c = c.loop-column.invariant.levels
@@ -28,7 +28,7 @@ sum_column-requires-clause-marked c i h =
     let v = c.loop-column.invariant in
     let n = c.loop-column.column in
     let same = same_marks c.args.downs.now c.args.ups.now c.args.more.now c.loop-column.downs c.loop-column.ups c.loop-column.more n i (v.downs_rest n (omega arith)) (v.ups_rest n (omega arith)) (v.more_rest n (omega arith)) in
-    subst IsMarked (sym same) (marked_in c.args.downs.now c.args.ups.now c.args.more.now c.args.counters.now c.requires.downs c.requires.ups n i c.requires.marked c.loop-column-test.true h)
+    subst HasFirstMarked (sym same) (marked_in c.args.downs.now c.args.ups.now c.args.more.now c.args.counters.now c.requires.downs c.requires.ups n i c.requires.marked c.loop-column-test.true h)
 
 pub loop-column-init : goal.loop-column-init
 loop-column-init c = record {
@@ -73,7 +73,7 @@ loop-column-preserved c =
             let r = row % 8 in
             let j = k % 8 in
             let start = slice_index sums (8 * i + r) in
-            let numbers = number_in (marks_in (row_of c.args.downs.now n) (row_of c.args.ups.now n) (row_of c.args.more.now n) i) (row_of counters n) i in
+            let numbers = number_in (marks_of_word (row_of c.args.downs.now n) (row_of c.args.ups.now n) (row_of c.args.more.now n) i) (row_of counters n) i in
             let value = ap (λ x. bit_at (slice_index (row_of (set c.loop-column.downs n new.downs) x) i) (8 * r + j)) e ∙ ap (λ ws. bit_at (slice_index ws i) (8 * r + j)) (row-here c.loop-column.downs n new.downs in_downs)
             ∙ p.bits i r j (word_small s row h l) (omega arith) (omega arith) ∙ ap (λ (marks : Marks). nonzero_bit (run (number_in marks (row_of counters n) i) (8 * r) start (j + 1))) (same i) in
             let place : 8 * n + (j + 1) ≡ k + 1 = omega arith in
@@ -102,7 +102,7 @@ loop-column-preserved c =
           let i = word_of s row in
           let r = row % 8 in
           let start = slice_index sums (8 * i + r) in
-          let numbers = number_in (marks_in (row_of c.args.downs.now n) (row_of c.args.ups.now n) (row_of c.args.more.now n) i) (row_of counters n) i in
+          let numbers = number_in (marks_of_word (row_of c.args.downs.now n) (row_of c.args.ups.now n) (row_of c.args.more.now n) i) (row_of counters n) i in
           let value = p.next i r (word_small s row h l) (omega arith) ∙ ap (λ (marks : Marks). run (number_in marks (row_of counters n) i) (8 * r) start 8) (same i) in
           let place : 8 * n + 8 ≡ 8 * (n + 1) = omega arith in
           let alike = subst (λ x. IsAlike (2 ^ 32) (pos (run numbers (8 * r) start 8)) (sum_to (cell NonZero flags counters s row) x)) place (total s row n start 8 lt (omega arith) (v.sums s row h l)) in
