@@ -1,5 +1,7 @@
 //! Pictures of many triangles compared with the definition, drawn sample by sample: batches, pieces, formats, strides,
 //! ids, and calls that do nothing.
+ghost use Rattle.std.specs.Prelude.{◌≤◌, length};
+
 use crate::{Canvas, Format, Ids, Indexed, Misfit, Origin, Piece, TileRows, Vertex, View, Window};
 use grid::{Cull, PixelBox, Point, SampleCount, Tri, sample_at};
 use lanes::BlockSamples;
@@ -61,30 +63,33 @@ impl Numbers {
         }
     }
 
+    /// One of the choices.
+    fn one_of<T: Copy>(&mut self, choices: &[T]) -> T
+        requires { 1 ≤ length choices.now }
+    {
+        choices[self.next() as usize % choices.len()]
+    }
+
     fn depth_test(&mut self) -> DepthTest {
-        match self.next() % 3 {
-            0 => DepthTest::Always,
-            1 => DepthTest::LessEqual,
-            _ => DepthTest::Greater,
-        }
+        self.one_of(&[DepthTest::Always, DepthTest::LessEqual, DepthTest::Greater])
     }
 
     fn factor(&mut self) -> BlendFactor {
-        match self.next() % 13 {
-            0 => BlendFactor::Zero,
-            1 => BlendFactor::One,
-            2 => BlendFactor::SourceColour,
-            3 => BlendFactor::InverseSourceColour,
-            4 => BlendFactor::SourceAlpha,
-            5 => BlendFactor::InverseSourceAlpha,
-            6 => BlendFactor::StoredAlpha,
-            7 => BlendFactor::InverseStoredAlpha,
-            8 => BlendFactor::StoredColour,
-            9 => BlendFactor::InverseStoredColour,
-            10 => BlendFactor::SourceAlphaSaturated,
-            11 => BlendFactor::Constant,
-            _ => BlendFactor::InverseConstant,
-        }
+        self.one_of(&[
+            BlendFactor::Zero,
+            BlendFactor::One,
+            BlendFactor::SourceColour,
+            BlendFactor::InverseSourceColour,
+            BlendFactor::SourceAlpha,
+            BlendFactor::InverseSourceAlpha,
+            BlendFactor::StoredAlpha,
+            BlendFactor::InverseStoredAlpha,
+            BlendFactor::StoredColour,
+            BlendFactor::InverseStoredColour,
+            BlendFactor::SourceAlphaSaturated,
+            BlendFactor::Constant,
+            BlendFactor::InverseConstant,
+        ])
     }
 
     fn equation(&mut self) -> Equation {
