@@ -1,14 +1,28 @@
 -- Polygons that are drawn together, tile row by tile row.
-use Rattle.std.specs.Prelude.{ℕ, ◌-◌, ◌<◌, ◌≤◌, slice_index}
+use Rattle.std.specs.Prelude.{◌≡◌, ℕ, ◌-◌, ◌<◌, ◌≤◌, List, length, slice_index}
 use Rattle.canvas.specs.declared.canvas.Canvas.{Canvas}
 use Rattle.canvas.specs.declared.window.Origin.{Origin}
 use Rattle.polygons.specs.declared.arrays.Polygons.{Polygons}
+use Rattle.polygons.specs.declared.rule.Rule.TheVariants.{NonZero}
+use Rattle.polygons.specs.Cells.{AreZeros}
 use Rattle.painting.specs.declared.batch.Style.{Style}
 use Rattle.painting.specs.declared.group.Group.{Group}
-use Rattle.painting.specs.Batches.{shape_in}
-use Rattle.painting.specs.Parts.{LiesInRows}
+use Rattle.painting.specs.Batches.{HasColours, shape_in}
+use Rattle.painting.specs.Painting.{IsOriginInBand}
+use Rattle.painting.specs.Parts.{flag_columns_of, counter_columns_of, LiesInRows}
 
 -- Of each polygon of the group it says in which tile rows all samples lie that it meets.
-abbrev pub AreRowsOf : Group → Polygons → Style → Origin → Canvas → Type 0
-AreRowsOf group polygons style origin c =
+abbrev pub SaysRowsOf : Group → Polygons → Style → Origin → Canvas → Type 0
+SaysRowsOf group polygons style origin c =
     (k : ℕ) → group.first ≤ k → k < group.end → LiesInRows (shape_in polygons style k) origin c (slice_index group.tops (k - group.first)) (slice_index group.bottoms (k - group.first))
+
+-- The polygons of the group can be drawn on a canvas of this size: each has a colour, and the scratch memory is large enough and ready.
+pub record CanBeDrawn (group : Group) (polygons : Polygons) (style : Style) (origin : Origin) (c : Canvas) (flags counters : List (List ℕ)) : Type 0 where
+  pub rows : SaysRowsOf group polygons style origin c
+  pub some : group.first < group.end
+  pub within : group.end ≤ length polygons.polygon_ends.now
+  pub colours : HasColours style.ids style.colours.now (length polygons.polygon_ends.now)
+  pub in_band : IsOriginInBand origin
+  pub columns : flag_columns_of style.rule c ≤ length flags
+  pub zeros : AreZeros flags
+  pub counted : style.rule ≡ NonZero → counter_columns_of c ≤ length counters

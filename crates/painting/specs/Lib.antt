@@ -40,6 +40,7 @@
 --   MeetsHere: The polygon meets sample s of pixel (i, j) of the canvas.
 --   AreMasksOfRow: The flags are the masks of the samples of a tile row that the polygon covers.
 --   HoldsSamples: Each sample of the canvas that lies in the box is in a column of blocks and a tile row of the window.
+--   LiesInRows: Each sample of the canvas that the polygon meets lies in the tile rows from `top` to before `bottom`.
 --
 -- Batches.antt
 --   polygon_colour: The colour of polygon k: one of these, or that of its id, which is counted from the first one on.
@@ -47,7 +48,12 @@
 --   shape_by: Polygon k of these arrays as it is drawn.
 --   shape_in: Polygon k as it is drawn.
 --   shapes_of: The polygons as they are drawn, in their order.
+--   shapes_between: The polygons from k to before `end` as they are drawn, in their order.
 --   HasColours: There is a colour for each of n polygons, or an id of 24 bits.
+--
+-- Groups.antt
+--   SaysRowsOf: Of each polygon of the group it says in which tile rows all samples lie that it meets.
+--   CanBeDrawn: The polygons of the group can be drawn on a canvas of this size: each has a colour, and the scratch memory is large enough and ready.
 
 pub mod Painting
 pub mod Parts

@@ -1,11 +1,10 @@
 //! Polygons that are drawn together, tile row by tile row, so that a row's samples stay in the cache of a processor.
 ghost use Rattle.std.specs.Prelude.{◌≡◌, ◌↔◌, ◌+◌, ◌-◌, ◌/◌, ◌<◌, ◌≤◌, length, slice_index, IsTrue};
 ghost use Rattle.canvas.specs.Layout.{planes_of_row, planes_of_rows};
-ghost use Rattle.polygons.specs.declared.rule.Rule.TheVariants.{NonZero};
 ghost use Rattle.polygons.specs.Cells.{AreZeros};
 ghost use Rattle.painting.specs.Batches.{HasColours, shapes_between};
-ghost use Rattle.painting.specs.Painting.{ArePainted, IsOriginInBand, shape_of};
-ghost use Rattle.painting.specs.Parts.{flag_columns_of, counter_columns_of, LiesInRows};
+ghost use Rattle.painting.specs.Painting.{ArePainted, shape_of};
+ghost use Rattle.painting.specs.Parts.{LiesInRows};
 
 use crate::batch::Style;
 use crate::polygon::Polygon;
@@ -53,7 +52,7 @@ pub(crate) struct Group {
 }
 
 impl Group {
-    ghost use Rattle.painting.specs.Groups.{AreRowsOf};
+    ghost use Rattle.painting.specs.Groups.{SaysRowsOf, CanBeDrawn};
 
     /// No polygons.
     pub(crate) fn none() -> Group {
@@ -80,7 +79,7 @@ impl Group {
         ensures first { self.new.first ≡ first }
         ensures some { first < self.new.end }
         ensures within { self.new.end ≤ length polygons.now.polygon_ends.now }
-        ensures rows { AreRowsOf self.new polygons.now style.now origin.now canvas.now }
+        ensures rows { SaysRowsOf self.new polygons.now style.now origin.now canvas.now }
     {
         self.first = first;
         self.end = first;
@@ -126,14 +125,7 @@ impl Group {
         samples: &mut [BlockSamples],
     )
         requires row { row < (canvas.now.height + 63) / 64 }
-        requires rows { AreRowsOf self.now polygons.now style.now origin.now canvas.now }
-        requires rising { self.now.first ≤ self.now.end }
-        requires within { self.now.end ≤ length polygons.now.polygon_ends.now }
-        requires colours { HasColours style.now.ids style.now.colours.now (length polygons.now.polygon_ends.now) }
-        requires origin { IsOriginInBand origin.now }
-        requires columns { flag_columns_of style.now.rule canvas.now ≤ length flags.old }
-        requires flags { AreZeros flags.old }
-        requires counted { style.now.rule ≡ NonZero → counter_columns_of canvas.now ≤ length counters.old }
+        requires ready { CanBeDrawn self.now polygons.now style.now origin.now canvas.now flags.old counters.old }
         requires samples { length samples.old ≡ planes_of_row canvas.now }
         ensures painted { ArePainted (shapes_between polygons.now style.now self.now.first self.now.end) origin.now canvas.now
             row (row + 1) samples.old samples.new }
@@ -164,14 +156,7 @@ impl Group {
         counters: &mut [Counters],
         samples: &mut [BlockSamples],
     )
-        requires rows { AreRowsOf self.now polygons.now style.now origin.now rows.now.canvas }
-        requires some { self.now.first < self.now.end }
-        requires within { self.now.end ≤ length polygons.now.polygon_ends.now }
-        requires colours { HasColours style.now.ids style.now.colours.now (length polygons.now.polygon_ends.now) }
-        requires origin { IsOriginInBand origin.now }
-        requires columns { flag_columns_of style.now.rule rows.now.canvas ≤ length flags.old }
-        requires flags { AreZeros flags.old }
-        requires counted { style.now.rule ≡ NonZero → counter_columns_of rows.now.canvas ≤ length counters.old }
+        requires ready { CanBeDrawn self.now polygons.now style.now origin.now rows.now.canvas flags.old counters.old }
         requires samples { length samples.old ≡ planes_of_rows rows.now.canvas rows.now.first rows.now.end }
         ensures painted { ArePainted (shapes_between polygons.now style.now self.now.first self.now.end) origin.now
             rows.now.canvas rows.now.first rows.now.end samples.old samples.new }

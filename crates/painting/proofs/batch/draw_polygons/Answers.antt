@@ -1,7 +1,7 @@
-use Rattle.std.proofs.Common.{◌≡◌, ◌∙◌, sym, ap, subst, arith, ℕ, ◌+◌, ◌-◌, ◌≤◌, map, length}
+use Rattle.std.proofs.Common.{◌≡◌, subst, arith, ℕ, ◌+◌, ◌-◌, map, length}
 use Rattle.std.specs.List.{range_with_len}
 use Rattle.canvas.specs.declared.tile_rows.TileRows.{TileRows}
-use Rattle.painting.specs.Batches.{shape_in, shapes_between}
+use Rattle.painting.specs.Batches.{shape_in}
 use Rattle.painting.specs.Painting.{ArePainted}
 use Rattle.painting.proofs.Batches.{painted_both}
 use Rattle.painting.proofs.batch.draw_polygons.Goals as goal

@@ -1,10 +1,10 @@
-use Rattle.std.proofs.Common.{rules, refl, sym, ap, subst, arith, ◌≡◌, ◌∙◌, ◌+◌, ◌-◌, ◌*◌, ◌<◌, ◌≤◌, length, ℕ, List, [], ◌∷◌}
+use Rattle.std.proofs.Common.{rules, ap, subst, arith, ◌≡◌, ◌+◌, ◌-◌, ◌*◌, ◌≤◌, length, ℕ, [], ◌∷◌}
 use Rattle.canvas.specs.Layout.{planes_of_row}
 use Rattle.canvas.proofs.Places.{part_within}
 use Rattle.painting.specs.Batches.{shape_in, shapes_between}
 use Rattle.painting.specs.Painting.{Shape, ArePainted}
 use Rattle.painting.proofs.Groups.{single_painted}
-use Rattle.painting.proofs.TileRows.{no_rows, one_row_painted, all_rows}
+use Rattle.painting.proofs.TileRows.{one_row_painted, all_rows}
 use Rattle.painting.proofs.group.Group.paint.Goals as goal
 
 pub returns-then-self-clause-painted : goal.returns-then-self-clause-painted

@@ -1,4 +1,3 @@
-use Rattle.std.proofs.Common.{◌-◌}
 use Rattle.polygons.specs.Cells.{AreZeros}
 use Rattle.painting.specs.Batches.{shapes_between}
 use Rattle.painting.proofs.TileRows.{ArePaintedBefore}

@@ -1,7 +1,4 @@
-use Rattle.std.proofs.Common.{rules, refl, sym, ap, subst, arith, ◌≡◌, ◌∙◌, ◌+◌, ◌-◌, ◌*◌, ◌<◌, ◌≤◌, length, ℕ, List, [], ◌∷◌}
-use Rattle.canvas.specs.Layout.{rows_of}
-use Rattle.lanes.specs.declared.block_samples.BlockSamples.{BlockSamples}
-use Rattle.polygons.specs.Cells.{AreZeros}
+use Rattle.std.proofs.Common.{subst, arith, ◌+◌, ◌≤◌, [], ◌∷◌}
 use Rattle.painting.specs.Batches.{shape_in}
 use Rattle.painting.specs.Painting.{Shape, ArePainted}
 use Rattle.painting.proofs.Groups.{next_painted}
@@ -29,7 +26,7 @@ loop-number-preserved c =
             flags = rw w.flags-is w.paint_rows.ensures.flags;
           }
       | else-can_meet w ↦
-          let none : ArePainted (f number ∷ []) origin canvas row (row + 1) mid mid = row_not_met (f number) origin canvas row _ _ mid (omega (arith, c.requires.row)) (c.requires.rows number from c.loop-number-test.true) (λ p. let e = w.if-can_meet.ensures.1 p in cc) in
+          let none : ArePainted (f number ∷ []) origin canvas row (row + 1) mid mid = row_not_met (f number) origin canvas row _ _ mid (omega (arith, c.requires.row)) (c.requires.ready.rows number from c.loop-number-test.true) (λ p. let e = w.if-can_meet.ensures.1 p in cc) in
           record {
             painted = rw w.samples-is (next_painted f self.first origin canvas row (row + 1) number old mid mid from v.painted none);
             flags = rw w.flags-is v.flags;

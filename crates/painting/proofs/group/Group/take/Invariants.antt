@@ -1,10 +1,10 @@
 use Rattle.std.proofs.Common.{◌≡◌}
-use Rattle.painting.specs.Groups.{AreRowsOf}
+use Rattle.painting.specs.Groups.{SaysRowsOf}
 use Rattle.painting.proofs.group.Group.take.Given as goal
 
 abbrev pub invariant-loop-number : goal.invariant-loop-number
 invariant-loop-number l = record {
   first : l.self.first ≡ l.first;
   end : l.self.end ≡ l.number;
-  rows : AreRowsOf l.self l.polygons l.style l.origin l.canvas;
+  rows : SaysRowsOf l.self l.polygons l.style l.origin l.canvas;
 }
