@@ -2,11 +2,11 @@
 
 import random
 import unittest
-from typing import List, Sequence, Tuple
 
 from trirast import BatchError, Canvas, PositionError
 
-Corner = Tuple[int, int]
+from .polygon_rule import flat, is_inside
+
 # Of each number of samples their places in 1/16 pixel from the pixel's middle: the standard patterns of Direct3D 11.
 PLACES = {
     1: ((0, 0),),
@@ -20,33 +20,6 @@ PLACES = {
 }
 SQUARE = [(0, 0), (512, 0), (512, 512), (0, 512)]
 WHITE = (1 << 24) - 1
-
-
-def is_inside(rings: Sequence[Sequence[Corner]], rule: str, x: int, y: int) -> bool:
-    """Whether a ray to the left crosses an odd number of edges, or as many downwards as upwards do not cancel."""
-    crossed = turns = 0
-    for ring in rings:
-        for (ax, ay), (bx, by) in zip(ring, (*ring[1:], *ring[:1])):
-            down = 1 if ay < by else -1
-            (px, py), (qx, qy) = ((ax, ay), (bx, by)) if down == 1 else ((bx, by), (ax, ay))
-            # The line at the height of y is at x or left of it; the upper end belongs to the edge, the
-            # lower one does not.
-            if py <= y < qy and px * (qy - py) + (qx - px) * (y - py) <= x * (qy - py):
-                crossed, turns = crossed + 1, turns + down
-    return bool(crossed % 2 if rule == "even-odd" else turns)
-
-
-def flat(polygons: Sequence[Sequence[Sequence[Corner]]]) -> Tuple[List[Corner], List[int], List[int]]:
-    """Corners, ends of rings and ends of polygons."""
-    corners: List[Corner] = []
-    rings: List[int] = []
-    ends = []
-    for polygon in polygons:
-        for ring in polygon:
-            corners += ring
-            rings.append(len(corners))
-        ends.append(len(rings))
-    return corners, rings, ends
 
 
 class Polygons(unittest.TestCase):

@@ -9,8 +9,9 @@ import unittest
 from typing import Any, Dict, List, Sequence, Tuple
 from unittest import mock
 
+from .polygon_rule import Corner, flat, is_inside
 from .poster_common import Files
-from .test_polygons import SQUARE, Corner, flat, is_inside
+from .test_polygons import SQUARE
 
 import numpy as np
 

@@ -155,10 +155,24 @@ CHECKS = (
         runs=EVERYTHING, needs=COMPILER,
     ),
     Check(
+        name="compare-polygons",
+        about="polygons, triangles and pictures on canvases that keep blocks in every way, against the rules sample "
+        "by sample",
+        command="tools.reference.compare_polygons --scenes 45", seconds=15,
+        long="--scenes 450", long_seconds=110,
+        runs=("library",), needs=("python:numpy",),
+    ),
+    Check(
         name="canvas-mutants",
         about="mutants of the second renderer's canvases",
         command="tools.reference.canvas_mutants", seconds=25,
         runs=EVERYTHING, needs=COMPILER,
+    ),
+    Check(
+        name="polygon-mutants",
+        about="mutants of a canvas that keeps blocks in ways, which the comparison of polygons has to find",
+        command="pytest tools/reference/test_compare_polygons.py", seconds=45,
+        needs=("python:numpy",),
     ),
     Check(
         name="check-golden",

@@ -130,11 +130,18 @@ def draw_of(draw: Draw) -> Any:
     """A draw of a canvas."""
     import trirast
 
+    return trirast.Draw(**named_arguments(draw))
+
+
+def named_arguments(draw: Draw) -> dict[str, Any]:
+    """What a draw of a list, or a state alone, has by name in a call of the package."""
+    import trirast
+
     given = {key: value for key, value in draw.items() if key != "write"}
     if isinstance(draw.get("blend"), dict):
         given["blend"] = trirast.Blend(**draw["blend"])
     keep = "".join(letter for letter, is_written in zip("rgba", draw.get("write", ())) if not is_written)
-    return trirast.Draw(keep=keep, **given)
+    return {"keep": keep, **given}
 
 
 def of_canvas(canvas: Any, threads: int) -> Readings:
@@ -161,7 +168,11 @@ def in_c(
 
 def of_reference(rules: Any, scene: renderer.Scene) -> Readings:
     """What these rules make of a scene: tools/reference/renderer.py, or a mutant of it."""
-    samples, count = rules.drawn(scene), scene.samples
+    return of_samples(rules, rules.drawn(scene), scene.samples)
+
+
+def of_samples(rules: Any, samples: list[renderer.Sample], count: int) -> Readings:
+    """What is read of these samples, those of a pixel one after another."""
     each = [samples[s::count] for s in range(count)]
     stored, straight = (rules.pixels(samples, count, layout) for layout in ("rgba", "rgba_straight"))
     ids, depths = [list(map(number_of, own)) for own in each], [[sample[3] for sample in own] for own in each]
@@ -175,15 +186,16 @@ def number_of(sample: Sequence[int]) -> int:
 
 def with_ids(scene: renderer.Scene) -> renderer.Scene:
     """The scene with each triangle in the colour of its id, on white."""
-    triangles = []
-    for number, triangle in enumerate(scene.triangles):
-        colour = (number % 256, number // 256 % 256, number // 65536, 255)
-        # Alpha may be kept.
-        state = replace(triangle.state, write=(True, True, True, *triangle.state.write[3:]), blend="none")
-        triangles.append(
-            replace(triangle, vertices=tuple(vertex[:3] + colour for vertex in triangle.vertices), state=state)
-        )
-    return replace(scene, triangles=tuple(triangles), clear=(*WHITE, *scene.clear[3:]))
+    triangles = tuple(with_id(triangle, number) for number, triangle in enumerate(scene.triangles))
+    return replace(scene, triangles=triangles, clear=(*WHITE, *scene.clear[3:]))
+
+
+def with_id(triangle: renderer.Triangle, number: int) -> renderer.Triangle:
+    """A triangle in the colour of this id."""
+    colour = (number % 256, number // 256 % 256, number // 65536, 255)
+    # Alpha may be kept.
+    state = replace(triangle.state, write=(True, True, True, *triangle.state.write[3:]), blend="none")
+    return replace(triangle, vertices=tuple(vertex[:3] + colour for vertex in triangle.vertices), state=state)
 
 
 def bytes_of(buffer: Any) -> bytes:
@@ -305,15 +317,12 @@ def compare_lists(lists: int, seed: int, counts: list[int]) -> int:
 # ---- The command
 
 
-def run_with_package(module: str) -> int | None:
-    """Runs a module again in an environment in which the package is found. Returns its status, or `None` if
-    this is that run."""
+def run_with_package(module: str, *built: str, made_by: str = "make compare-canvas") -> int | None:
+    """Runs a module again in an environment in which the package is found, over what has to be built, by default the
+    program and the library. Returns its status, or `None` if this is that run."""
     if "TRIRAST_CANVAS_COMPARED" in os.environ:
         return None
-    if (
-        not is_built(PROGRAM, made_by="make compare-canvas")
-        or not is_built(SHARED_LIBRARY, made_by="make compare-canvas")
-    ):
+    if not is_built(*(built or (PROGRAM, SHARED_LIBRARY)), made_by=made_by):
         return 1
     environment = {**os.environ, **PACKAGE_ENVIRONMENT, "TRIRAST_CANVAS_COMPARED": "1"}
     return subprocess.run([sys.executable, "-m", module, *sys.argv[1:]], env=environment, cwd=TOP).returncode

@@ -1,0 +1,404 @@
+"""A canvas that keeps its blocks in one plane, as pairs or in planes of their own, as docs/polygons.md says, and
+mutants of it: by these the tests show that the scenes of tools/reference/polygon_scenes.py find mistakes of ways.
+
+It is no second library: it has the samples of tools/reference/polygon_samples.py, and of each pair the two planes and
+the masks. It is drawn on canvases of whole tiles, so that all blocks are whole. Needs numpy.
+"""
+
+from __future__ import annotations
+
+from collections import Counter
+from dataclasses import replace
+from typing import Any, NamedTuple
+
+import numpy as np
+
+from tools.reference import renderer
+from tools.reference.polygon_samples import DEPTH_SHIFT, Place, Samples
+from tools.reference.polygon_scenes import FEW_CORNERS, Call, Clear, Picture, Polygon, Polygons, Scene
+
+BLOCK, TILE = 8, 64
+# A column of blocks and a row.
+At = tuple[int, int]
+# What has to be the same in planes that become one: depth and alpha.
+BESIDE_COLOURS = ~0xFFFFFF
+
+
+class Pair(NamedTuple):
+    """Two planes of pixels, and of each sample whether it is that of the second."""
+
+    first: Any
+    second: Any
+    masks: Any
+
+
+def replaces_colours(shape: renderer.Triangle, samples: int) -> bool:
+    """Whether a shape gives its colour to each sample that it covers in its scissor."""
+    state, full = shape.state, (1 << samples) - 1
+    is_replaced = state.blend == "none" or (state.blend == "over" and shape.vertices[0][6] == renderer.OPAQUE)
+    return is_replaced and all(state.write[:3]) and state.depth_test == "always" and state.sample_mask & full == full
+
+
+class Blocks(Samples):
+    """Samples of a canvas of whole tiles, whose blocks are kept in ways. `counted` has how often each way was taken.
+    Mutants of it give one method another body."""
+
+    def __init__(self, scene: Scene) -> None:
+        self.counted: Counter[str] = Counter()
+        self.pairs: dict[At, Pair] = {}
+        # The blocks with planes of their own.
+        self.own: set[At] = set()
+        # The rows and columns of tiles that are as they were cleared, or were drawn whole since.
+        self.cleared: set[At] = set()
+        super().__init__(scene)
+
+    # ---- Calls but polygons
+
+    def clear(self, call: Clear) -> None:
+        self.pairs, self.own = {}, set()
+        self.cleared = set(tiles_of((slice(0, self.frame.height), slice(0, self.frame.width))))
+        super().clear(call)
+
+    def store(self, call: Picture) -> None:
+        """A picture of one sample index gives blocks planes of their own, and so does one over other depths."""
+        super().store(call)
+        self.cleared = set()
+        for at in blocks_of((slice(0, self.frame.height), slice(0, self.frame.width))):
+            self.free(at)
+            self.own.discard(at)
+            if not self.is_alike(at):
+                self.own.add(at)
+
+    def draw_triangle(self, triangle: renderer.Triangle) -> None:
+        _part, place = self.box(triangle)
+        self.cleared -= set(tiles_of(place))
+        for at in blocks_of(place):
+            self.free(at)
+            self.own.add(at)
+        super().draw_triangle(triangle)
+
+    # ---- Polygons
+
+    def paint(self, place: Place, where: Any, shape: renderer.Triangle) -> None:
+        whole = np.zeros(self.values.shape, bool)
+        whole[place] = where
+        for tile in self.cleared & set(tiles_of(place)):
+            if whole[square(tile, TILE)].all():
+                self.counted["whole cleared tile"] += 1
+            elif whole[square(tile, TILE)].any():
+                self.cleared.remove(tile)
+        for at in blocks_of(place):
+            if (words := whole[square(at)]).any():
+                self.paint_block(at, words, shape)
+
+    def paint_block(self, at: At, words: Any, shape: renderer.Triangle) -> None:
+        if self.allows(at, shape) and self.paint_planes(at, words, shape):
+            return
+        if at not in self.own:
+            self.counted["pair to own" if at in self.pairs else "single to own"] += 1
+        self.free(at)
+        self.own.add(at)
+        self.values[square(at)][words] = self.merged(self.values[square(at)][words], shape)
+
+    def allows(self, at: At, shape: renderer.Triangle) -> bool:
+        """Whether the state lets all samples of the block's tile be drawn."""
+        state, full = shape.state, (1 << self.frame.samples) - 1
+        left, top = (at[1 - k] * BLOCK // TILE * TILE + self.frame.origin[k] for k in range(2))
+        holds = state.scissor[0] <= left and state.scissor[1] <= top
+        holds = holds and left + TILE <= state.scissor[2] and top + TILE <= state.scissor[3]
+        return holds and state.sample_mask & full == full
+
+    def paint_planes(self, at: At, words: Any, shape: renderer.Triangle) -> bool:
+        """Whether the block was drawn in one plane or two."""
+        is_full = words.all()
+        if is_full and at not in self.pairs and self.has_one_plane(at, shape):
+            plane = self.values[square(at)][..., 0]
+            self.put_single(at, self.merged(plane.ravel(), shape).reshape(plane.shape))
+            return True
+        if self.frame.samples >= 8 and self.paint_as_pair(at, words, shape):
+            return True
+        if is_full and at in self.pairs:
+            self.counted["both planes"] += 1
+            self.paint_both(at, shape)
+            return True
+        return False
+
+    def has_one_plane(self, at: At, shape: renderer.Triangle) -> bool:
+        """Whether one plane stands for all samples, or can where the shape replaces the colours."""
+        if at not in self.own:
+            return True
+        if not replaces_colours(shape, self.frame.samples) or not self.has_same_depths(at):
+            return False
+        self.counted["own to single"] += 1
+        return True
+
+    def has_same_depths(self, at: At) -> bool:
+        beside = self.values[square(at)] & BESIDE_COLOURS
+        return bool((beside == beside[..., :1]).all())
+
+    def paint_as_pair(self, at: At, words: Any, shape: renderer.Triangle) -> bool:
+        if at not in self.pairs:
+            if at in self.own:
+                return False
+            first = self.values[square(at)][..., 0].copy()
+            self.counted["single to pair"] += 1
+            self.put_pair(at, Pair(first, self.plane(first, shape), words))
+            return True
+        pair = self.pairs[at]
+        if not self.replaces_pair(pair, shape):
+            return False
+        return self.replace_in_pair(at, words, self.plane(pair.first, shape))
+
+    def replaces_pair(self, pair: Pair, shape: renderer.Triangle) -> bool:
+        """Whether one colour, depth and alpha come in place of those of samples of either plane."""
+        is_same = bool(((pair.first ^ pair.second) & BESIDE_COLOURS == 0).all())
+        return is_same and replaces_colours(shape, self.frame.samples)
+
+    def replace_in_pair(self, at: At, words: Any, plane: Any) -> bool:
+        pair = self.pairs[at]
+        if words.all():
+            self.counted["pair to single"] += 1
+            self.put_single(at, plane)
+        elif self.holds(words, pair.masks):
+            self.counted["second plane replaced"] += 1
+            self.put_pair(at, Pair(pair.first, plane, words))
+        elif (words | pair.masks).all():
+            self.counted["first plane replaced"] += 1
+            self.put_pair(at, Pair(plane, pair.second, self.rest(pair.masks, words)))
+        else:
+            return False
+        return True
+
+    def holds(self, words: Any, masks: Any) -> bool:
+        """Whether all samples of the second plane are replaced."""
+        return bool((words | ~masks).all())
+
+    def rest(self, masks: Any, words: Any) -> Any:
+        """The samples that stay in the second plane."""
+        return masks & ~words
+
+    def paint_both(self, at: At, shape: renderer.Triangle) -> None:
+        first, second, masks = self.pairs[at]
+        self.put_pair(at, Pair(self.plane(first, shape), self.plane(second, shape), masks))
+
+    # ---- Planes
+
+    def plane(self, plane: Any, shape: renderer.Triangle) -> Any:
+        return self.merged(plane.ravel(), shape).reshape(plane.shape)
+
+    def put_single(self, at: At, plane: Any) -> None:
+        self.free(at)
+        self.own.discard(at)
+        self.values[square(at)] = plane[..., None]
+
+    def put_pair(self, at: At, pair: Pair) -> None:
+        self.pairs[at] = pair
+        self.values[square(at)] = np.where(self.seen(pair.masks), pair.second[..., None], pair.first[..., None])
+
+    def seen(self, masks: Any) -> Any:
+        """The masks as they are read."""
+        return masks
+
+    def free(self, at: At) -> None:
+        """The block is no pair any more; its samples are those that were read of it."""
+        self.pairs.pop(at, None)
+
+    def is_alike(self, at: At) -> bool:
+        found = self.values[square(at)]
+        return bool((found == found[..., :1]).all())
+
+
+def square(at: At, side: int = BLOCK) -> Place:
+    """The pixels of a block, or of another square of this side."""
+    return slice(side * at[0], side * at[0] + side), slice(side * at[1], side * at[1] + side)
+
+
+def blocks_of(place: Place, side: int = BLOCK) -> list[At]:
+    """The rows and columns of the blocks that have pixels of a place."""
+    rows, columns = (range(part.start // side, -(-part.stop // side)) for part in place)
+    return [(row, column) for row in rows for column in columns]
+
+
+def tiles_of(place: Place) -> list[At]:
+    return blocks_of(place, TILE)
+
+
+# ---- Mutants
+
+
+class FirstPlaneAlone(Blocks):
+    """A polygon that covers a pair is drawn in its first plane alone."""
+
+    def paint_both(self, at: At, shape: renderer.Triangle) -> None:
+        first, second, masks = self.pairs[at]
+        self.put_pair(at, Pair(self.plane(first, shape), second, masks))
+
+
+class SecondPlaneAlone(Blocks):
+    """A polygon that covers a pair is drawn in its second plane alone."""
+
+    def paint_both(self, at: At, shape: renderer.Triangle) -> None:
+        first, second, masks = self.pairs[at]
+        self.put_pair(at, Pair(first, self.plane(second, shape), masks))
+
+
+class MasksTurned(Blocks):
+    """The masks of a pair are read in the opposite order of samples."""
+
+    def seen(self, masks: Any) -> Any:
+        return masks[..., ::-1]
+
+
+class MasksSwapped(Blocks):
+    """The masks of the last two samples of a pair are read in each other's place."""
+
+    def seen(self, masks: Any) -> Any:
+        order = [*range(masks.shape[2] - 2), masks.shape[2] - 1, masks.shape[2] - 2]
+        return masks[..., order]
+
+
+class MasksOfNextRow(Blocks):
+    """The mask of the last sample of a pair is a row off."""
+
+    def seen(self, masks: Any) -> Any:
+        wrong = masks.copy()
+        wrong[1:, :, -1] = masks[:-1, :, -1]
+        return wrong
+
+
+class SingleOverDepths(Blocks):
+    """A block with its own planes goes back to one plane though its depths or alphas differ."""
+
+    def has_same_depths(self, at: At) -> bool:
+        return True
+
+
+class SingleOverSecondDepths(Blocks):
+    """Only the depths and alphas of the first pixel are compared before a block goes back to one plane."""
+
+    def has_same_depths(self, at: At) -> bool:
+        beside = self.values[square(at)][0, 0] & BESIDE_COLOURS
+        return bool((beside == beside[0]).all())
+
+
+class SingleOverAlphas(Blocks):
+    """A block with its own planes goes back to one plane though its alphas differ."""
+
+    def has_same_depths(self, at: At) -> bool:
+        depths = self.values[square(at)] >> DEPTH_SHIFT
+        return bool((depths == depths[..., :1]).all())
+
+
+class PairOverDepths(Blocks):
+    """A colour replaces samples of a pair though the depths or the alphas of its planes differ."""
+
+    def replaces_pair(self, pair: Pair, shape: renderer.Triangle) -> bool:
+        return replaces_colours(shape, self.frame.samples)
+
+
+class PairOverBlending(Blocks):
+    """A colour that is blended, tested or kept in part replaces samples of a pair."""
+
+    def replaces_pair(self, pair: Pair, shape: renderer.Triangle) -> bool:
+        return bool(((pair.first ^ pair.second) & BESIDE_COLOURS == 0).all())
+
+
+class ThirdColourLost(Blocks):
+    """The second plane of a pair is replaced though not all of its samples are covered."""
+
+    def holds(self, words: Any, masks: Any) -> bool:
+        return True
+
+
+class MasksLeft(Blocks):
+    """The masks of a pair are left as they are where its first plane is replaced."""
+
+    def rest(self, masks: Any, words: Any) -> Any:
+        return masks
+
+
+class SampleOfPair(Blocks):
+    """A picture of one sample of a pixel becomes that of all samples of a pair's plane."""
+
+    def store(self, call: Picture) -> None:
+        pairs = dict(self.pairs)
+        super().store(call)
+        if call.sample is not None:
+            for at, pair in pairs.items():
+                wrong = self.values[square(at)]
+                wrong[...] = np.where(pair.masks, wrong, wrong[..., call.sample, None])
+
+
+class PixelsWhole(Blocks):
+    """A pixel of which one sample is covered is drawn whole where one plane stands for it."""
+
+    def paint_planes(self, at: At, words: Any, shape: renderer.Triangle) -> bool:
+        return super().paint_planes(at, words.any(2, keepdims=True) | np.zeros(words.shape, bool), shape)
+
+
+class MaskOverlooked(Blocks):
+    """The sample mask of polygons is overlooked."""
+
+    def draw_polygon(self, polygon: Polygon, rule: str, shape: renderer.Triangle) -> None:
+        every = replace(shape.state, sample_mask=renderer.CANVAS.mask)
+        super().draw_polygon(polygon, rule, replace(shape, state=every))
+
+class RowsReversed(Samples):
+    """The polygons of a call are drawn in the opposite order in the second tile row."""
+
+    def draw_polygons(self, call: Polygons) -> None:
+        before = self.values.copy()
+        for number in reversed(range(len(call.polygons))):
+            self.draw_polygon(call.polygons[number], call.rule, self.shape(call, number))
+        wrong, self.values = self.values[TILE : 2 * TILE], before
+        super().draw_polygons(call)
+        self.values[TILE : 2 * TILE] = wrong
+
+
+class LargeFirst(Samples):
+    """A polygon of many corners is drawn before the small ones of its call."""
+
+    def draw_polygons(self, call: Polygons) -> None:
+        large = [sum(map(len, polygon)) > FEW_CORNERS for polygon in call.polygons]
+        for number in sorted(range(len(large)), key=lambda number: not large[number]):
+            self.draw_polygon(call.polygons[number], call.rule, self.shape(call, number))
+
+
+class LargeLeftOut(Samples):
+    """The small polygon behind one of many corners is left out."""
+
+    def draw_polygons(self, call: Polygons) -> None:
+        large = [False, *(sum(map(len, polygon)) > FEW_CORNERS for polygon in call.polygons)]
+        for number in range(len(call.polygons)):
+            if not large[number]:
+                self.draw_polygon(call.polygons[number], call.rule, self.shape(call, number))
+
+
+MUTANTS: tuple[type[Samples], ...] = (
+    FirstPlaneAlone, SecondPlaneAlone, MasksTurned, MasksSwapped, MasksOfNextRow, SingleOverDepths,
+    SingleOverSecondDepths, SingleOverAlphas, PairOverDepths, PairOverBlending, ThirdColourLost, MasksLeft,
+    SampleOfPair, PixelsWhole, MaskOverlooked, RowsReversed, LargeFirst, LargeLeftOut,
+)
+
+
+def of_whole_tiles(scene: Scene) -> Scene:
+    """The scene on a canvas of whole tiles, whose pictures repeat their last pixels there."""
+    width, height = (-(-side // TILE) * TILE for side in (scene.width, scene.height))
+
+    def widened(call: Call) -> Call:
+        if not isinstance(call, Picture):
+            return call
+        rows = [row + row[-1:] * (width - len(row)) for row in call.pixels]
+        return replace(call, pixels=rows + rows[-1:] * (height - len(rows)))
+
+    return replace(scene, width=width, height=height, calls=[widened(call) for call in scene.calls])
+
+
+def drawn(scene: Scene, kind: type[Samples] = Samples) -> tuple[Samples, list[Any]]:
+    """A canvas of a kind and of whole tiles, and the values of the scene's own samples after each call."""
+    wide = of_whole_tiles(scene)
+    samples, values = kind(wide), []
+    for call in wide.calls:
+        samples.draw(call)
+        values.append(samples.values[: scene.height, : scene.width].copy())
+    return samples, values
