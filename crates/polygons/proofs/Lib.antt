@@ -6,6 +6,7 @@ pub mod Cancel
 pub mod Outline
 pub mod Totals
 pub mod Windings
+pub mod Singles
 pub mod Plotted
 pub mod Parts
 pub mod ByteRows

@@ -1,5 +1,5 @@
 -- From flags and counters to masks.
-use Rattle.std.specs.Prelude.{◌≡◌, ℕ, zero, suc, ◌+◌, ◌*◌, ◌/◌, ◌%◌, ◌^◌, ◌<◌, cond, ◌==◌, List, slice_index}
+use Rattle.std.specs.Prelude.{◌≡◌, ℕ, Bool, true, false, zero, suc, ◌-◌, ◌+◌, ◌*◌, ◌/◌, ◌%◌, ◌^◌, ◌<◌, cond, ◌==◌, List, slice_index}
 use Rattle.std.specs.Int.{bit_at}
 use Rattle.polygons.specs.declared.marks.Marks.{Marks}
 use Rattle.polygons.specs.Cells.{in_use}
@@ -24,6 +24,11 @@ run numbers from start (suc n) = (run numbers from start n + numbers (from + n))
 -- 1 if the number is other than 0.
 abbrev pub nonzero_bit : ℕ → ℕ
 nonzero_bit n = cond (n == 0) 0 1
+
+-- 0 if the bit is 0, else 1, or -1 modulo 2 ^ 32 in the other direction.
+abbrev pub single_sum : Bool → ℕ → ℕ
+single_sum true bit = bit
+single_sum false bit = (2 ^ 32 - bit) % 2 ^ 32
 
 -- 1 if one of the numbers is 0 and the other is not.
 abbrev pub change_bit : ℕ → ℕ → ℕ
