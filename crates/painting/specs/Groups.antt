@@ -16,7 +16,7 @@ abbrev pub SaysRowsOf : Group → Polygons → Style → Origin → Canvas → T
 SaysRowsOf group polygons style origin c =
     (k : ℕ) → group.first ≤ k → k < group.end → LiesInRows (shape_in polygons style k) origin c (slice_index group.tops (k - group.first)) (slice_index group.bottoms (k - group.first))
 
--- The polygons of the group can be drawn on a canvas of this size: each has a colour, and the scratch memory is large enough and ready.
+-- The polygons of the group can be drawn on a canvas of this size. Each has a colour, and the scratch memory is large enough and ready.
 pub record CanBeDrawn (group : Group) (polygons : Polygons) (style : Style) (origin : Origin) (c : Canvas) (flags counters : List (List ℕ)) : Type 0 where
   pub rows : SaysRowsOf group polygons style origin c
   pub some : group.first < group.end

@@ -53,7 +53,7 @@
 --
 -- Groups.antt
 --   SaysRowsOf: Of each polygon of the group it says in which tile rows all samples lie that it meets.
---   CanBeDrawn: The polygons of the group can be drawn on a canvas of this size: each has a colour, and the scratch memory is large enough and ready.
+--   CanBeDrawn: The polygons of the group can be drawn on a canvas of this size.
 
 pub mod Painting
 pub mod Parts

@@ -158,6 +158,7 @@
 --   IsPlottedIn: To the sums at each sample of a part of the cells a number was added, which depends on where the sample lies.
 --   IsPartPlotted: To the sums at each sample of one part a number was added, and the other parts are unchanged.
 --   ArePlotted: To the sums at each sample of a strip a number was added, which depends on where the sample lies.
+--   IsPolygonPlotted: At each sample of a strip the edges of a polygon were counted.
 --
 -- Spreading.antt
 --   IsCarry: Of the rows of a word of 8 by 8 bits no more than the first bit of each is set.

@@ -3,8 +3,12 @@ use Rattle.std.specs.Prelude.{◌≡◌, ℕ, ◌*◌, ◌<◌, ◌≤◌, ℤ, 
 use Rattle.grid.specs.Position.{Position}
 use Rattle.grid.specs.Samples.{parts_of}
 use Rattle.polygons.specs.declared.cells.Cells.{Cells}
+use Rattle.polygons.specs.declared.rings.Rings.{Rings}
 use Rattle.polygons.specs.declared.strip.Strip.{Strip}
 use Rattle.polygons.specs.Cells.{part_columns, IsPlotted}
+use Rattle.polygons.specs.Crossing.{winding}
+use Rattle.polygons.specs.Polygon.{polygon_edges}
+use Rattle.polygons.specs.Rings.{rings_from}
 
 -- Each part of a strip's samples has its columns of flags, and by the nonzero rule of counters.
 pub record HasParts (strip : Strip) (cells : Cells) : Type 0 where
@@ -39,3 +43,7 @@ pub record IsPartPlotted (strip : Strip) (part : ℕ) (change : Position → ℤ
 pub record ArePlotted (strip : Strip) (change : Position → ℤ) (old new : Cells) : Type 0 where
   pub plotted : (part : ℕ) → part < parts_of strip.count → IsPlottedIn strip change old new part
   pub same : AreSame old new
+
+-- At each sample of a strip the edges of a polygon were counted.
+abbrev pub IsPolygonPlotted : Strip → Rings → Cells → Cells → Type 0
+IsPolygonPlotted strip rings old new = ArePlotted strip (λ p. winding (polygon_edges (rings_from rings.corners.now rings.start rings.ends.now)) p) old new

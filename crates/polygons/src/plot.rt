@@ -8,14 +8,14 @@ ghost use Rattle.polygons.specs.Columns.{HasHeight, IsSlope};
 ghost use Rattle.polygons.specs.Crossing.{winding};
 ghost use Rattle.polygons.specs.Pixels.{IsFirstPixel};
 ghost use Rattle.polygons.specs.Short.{IsShortEdge};
-ghost use Rattle.polygons.specs.Polygon.{path_edges, path_end, ring_edges, polygon_edges};
-ghost use Rattle.polygons.specs.Rings.{position_of, rings_from, end_of, AreCornersInBand};
+ghost use Rattle.polygons.specs.Polygon.{path_edges, path_end, ring_edges};
+ghost use Rattle.polygons.specs.Rings.{position_of, end_of, AreCornersInBand};
 ghost use Rattle.polygons.specs.Runs.{corner_at, corners_between, AreRunsOf, IsCrossedAsChord};
 ghost use Rattle.polygons.specs.Starts.{AreFirstRows};
 ghost use Rattle.polygons.specs.Strip.{strip_sample};
 ghost use Rattle.polygons.specs.Rows.{direction};
 ghost use Rattle.polygons.specs.Cells.{signed, added_by, HasCounters, IsAdded, IsPlotted};
-ghost use Rattle.polygons.specs.Plotting.{ArePlotted, HasParts, IsPartPlotted};
+ghost use Rattle.polygons.specs.Plotting.{ArePlotted, HasParts, IsPartPlotted, IsPolygonPlotted};
 
 use crate::apart::is_apart;
 use crate::cells::{Cells, Counters, Flags, cross};
@@ -400,9 +400,7 @@ pub(crate) fn plot<const PARTS: usize>(
     requires parts { parts_of strip.now.count ≡ PARTS }
     requires room { HasParts strip.now cells.old }
     requires runs { AreRunsOf runs.now rings.now }
-    ensures plotted { ArePlotted strip.now
-        (λ p. winding (polygon_edges (rings_from rings.now.corners.now rings.now.start rings.now.ends.now)) p)
-        cells.old cells.new }
+    ensures plotted { IsPolygonPlotted strip.now rings.now cells.old cells.new }
     ensures same_flags { cells.new.flags.ghost_name ≡ cells.old.flags.ghost_name }
     ensures same_counters { cells.new.counters.ghost_name ≡ cells.old.counters.ghost_name }
 {

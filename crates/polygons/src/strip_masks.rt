@@ -5,9 +5,8 @@ ghost use Rattle.polygons.specs.Blocks.{IsBlockMask};
 ghost use Rattle.polygons.specs.Polygon.{polygon_edges};
 ghost use Rattle.polygons.specs.Rings.{rings_from};
 ghost use Rattle.polygons.specs.Runs.{AreRunsOf};
-ghost use Rattle.polygons.specs.Crossing.{winding};
 ghost use Rattle.polygons.specs.Cells.{flags_by, columns_in, part_columns, mask_at, HasCounters, AreMarked, AreMasksAlone, AreSumMasks, AreZeros, AreZerosFrom};
-ghost use Rattle.polygons.specs.Plotting.{ArePlotted, HasParts};
+ghost use Rattle.polygons.specs.Plotting.{HasParts, IsPolygonPlotted};
 ghost use Rattle.polygons.specs.Strip.{strip_sample};
 
 use crate::cells::{Cells, Counters, Flags};
@@ -72,9 +71,7 @@ fn mask_parts(
 fn plot_parts(cells: &mut Cells<'_>, rings: &Rings<'_>, runs: &Runs, strip: &Strip)
     requires room { HasParts strip.now cells.old }
     requires runs { AreRunsOf runs.now rings.now }
-    ensures plotted { ArePlotted strip.now
-        (λ p. winding (polygon_edges (rings_from rings.now.corners.now rings.now.start rings.now.ends.now)) p)
-        cells.old cells.new }
+    ensures plotted { IsPolygonPlotted strip.now rings.now cells.old cells.new }
     ensures same_flags { cells.new.flags.ghost_name ≡ cells.old.flags.ghost_name }
     ensures same_counters { cells.new.counters.ghost_name ≡ cells.old.counters.ghost_name }
 {
