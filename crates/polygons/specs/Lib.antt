@@ -175,6 +175,7 @@
 --   change_bit: 1 if one of the numbers is 0 and the other is not.
 --   change_at: Whether cell i of a word changes the sum of its row from 0 to another number, or from another number to 0: 1 or 0.
 --   IsLevelMask: The mask of word i of a column if it has no flags.
+--   IsSummed: The mask and the sums of a word's rows.
 
 pub mod Crossing
 pub mod Polygon

@@ -43,3 +43,9 @@ change_at numbers word sums i =
 -- The mask of word i of a column if it has no flags. Each bit says whether the sum at the beginning of its row is other than 0.
 abbrev pub IsLevelMask : ℕ → ℕ → List ℕ → Type 0
 IsLevelMask level i sums = (r j : ℕ) → r < 8 → j < 8 → bit_at level (8 * r + j) ≡ nonzero_bit (slice_index sums (8 * i + r))
+
+-- The mask and the sums of a word's rows. Each bit says whether the sum of its row up to it is other than 0, and the sums are those at the ends of rows.
+pub record IsSummed (numbers : ℕ → ℕ) (word : ℕ) (sums sums' : List ℕ) (mask : ℕ) : Type 0 where
+  pub bits : (r j : ℕ) → r < 8 → j < 8 → bit_at mask (8 * r + j) ≡ nonzero_bit (run numbers (8 * r) (slice_index sums (8 * word + r)) (j + 1))
+  pub next : (r : ℕ) → r < 8 → slice_index sums' (8 * word + r) ≡ run numbers (8 * r) (slice_index sums (8 * word + r)) 8
+  pub other_sums : (q : ℕ) → (q / 8 ≡ word → ⊥) → slice_index sums' q ≡ slice_index sums q

@@ -2,7 +2,7 @@
 ghost use Rattle.std.specs.Prelude.{◌≡◌, ◌≢◌, ◌↔◌, ℕ, ◌+◌, ◌*◌, ◌/◌, ◌%◌, ◌^◌, ◌<◌, cond, pos, length, slice_index, IsTrue, ◌++◌};
 ghost use Rattle.std.specs.Int.{bit_at};
 ghost use Rattle.polygons.specs.Cells.{flag_of, running_sum, IsAlike, AreMarked, AreZeros, AreZerosFrom};
-ghost use Rattle.polygons.specs.Summing.{run, number_in, marks_of_word, nonzero_bit, single_sum, change_bit, change_at, IsLevelMask, HasFirstMarked};
+ghost use Rattle.polygons.specs.Summing.{run, number_in, marks_of_word, nonzero_bit, single_sum, change_bit, change_at, IsLevelMask, HasFirstMarked, IsSummed};
 ghost use Rattle.polygons.specs.declared.rule.Rule.TheVariants.{NonZero};
 
 use crate::byte_rows::{fill_rows, last_column};
@@ -85,11 +85,7 @@ fn sum_cells(marks: Marks, counters: &Counters, word: usize, sums: &mut Sums, le
     requires word { word < 32 }
     requires marked { HasFirstMarked marks }
     requires level { IsLevelMask level word sums.old }
-    ensures bits { (r j : ℕ) → r < 8 → j < 8 → bit_at result (8 * r + j) ≡
-        nonzero_bit (run (number_in marks counters.now word) (8 * r) (slice_index sums.old (8 * word + r)) (j + 1)) }
-    ensures next { (r : ℕ) → r < 8 → slice_index sums.new (8 * word + r) ≡
-        run (number_in marks counters.now word) (8 * r) (slice_index sums.old (8 * word + r)) 8 }
-    ensures other_sums { (q : ℕ) → (q / 8 ≡ word → ⊥) → slice_index sums.new q ≡ slice_index sums.old q }
+    ensures { IsSummed (number_in marks counters.now word) word sums.old sums.new result }
 {
     let changes = changes(marks, counters, word, sums);
     fill_rows(changes, last_column(level)).0
@@ -158,11 +154,7 @@ fn sum_word(marks: Marks, counters: &Counters, word: usize, sums: &mut Sums, lev
     requires word { word < 32 }
     requires marked { HasFirstMarked marks }
     requires level { IsLevelMask level word sums.old }
-    ensures bits { (r j : ℕ) → r < 8 → j < 8 → bit_at result (8 * r + j) ≡
-        nonzero_bit (run (number_in marks counters.now word) (8 * r) (slice_index sums.old (8 * word + r)) (j + 1)) }
-    ensures next { (r : ℕ) → r < 8 → slice_index sums.new (8 * word + r) ≡
-        run (number_in marks counters.now word) (8 * r) (slice_index sums.old (8 * word + r)) 8 }
-    ensures other_sums { (q : ℕ) → (q / 8 ≡ word → ⊥) → slice_index sums.new q ≡ slice_index sums.old q }
+    ensures { IsSummed (number_in marks counters.now word) word sums.old sums.new result }
 {
     let flips = marks.downs ^ marks.ups;
     let mask = fill_rows(flips, last_column(level)).0;

@@ -30,11 +30,15 @@ change_in numbers word sums r k h l =
     let b : (8 * r + k) % 8 ≡ k = omega arith in
     λ i. change_bit (run numbers (8 * a i) (slice_index sums (8 * word + a i)) (b i)) (run numbers (8 * a i) (slice_index sums (8 * word + a i)) (b i + 1))
 
-pub returns-clause-bits : goal.returns-clause-bits
-returns-clause-bits c r j h l =
-    let numbers = number_in c.args.marks c.args.counters.now c.args.word in
-    let start = slice_index c.args.sums.now (8 * c.args.word + r) in
-    let carry = c.last_column.ensures.bits r h ∙ c.requires.level r 7 h (omega arith) in
-    let flags = λ (k : ℕ). bit_at c.changes-changes.result (8 * r + k) in
-    c.fill_rows.ensures.filled r j h l ∙ ap (λ b. (b + parity flags (j + 1)) % 2) carry
-    ∙ telescoped numbers (8 * r) start (j + 1) flags (λ k m. c.changes-changes.ensures.changes (8 * r + k) (omega arith) ∙ change_in numbers c.args.word c.args.sums.now r k h (omega arith))
+pub returns : goal.returns
+returns c = record {
+  bits = λ r j h l.
+      let numbers = number_in c.args.marks c.args.counters.now c.args.word in
+      let start = slice_index c.args.sums.now (8 * c.args.word + r) in
+      let carry = c.last_column.ensures.bits r h ∙ c.requires.level r 7 h (omega arith) in
+      let flags = λ (k : ℕ). bit_at c.changes-changes.result (8 * r + k) in
+      c.fill_rows.ensures.filled r j h l ∙ ap (λ b. (b + parity flags (j + 1)) % 2) carry
+      ∙ telescoped numbers (8 * r) start (j + 1) flags (λ k m. c.changes-changes.ensures.changes (8 * r + k) (omega arith) ∙ change_in numbers c.args.word c.args.sums.now r k h (omega arith));
+  next = c.changes-changes.ensures.next;
+  other_sums = c.changes-changes.ensures.other_sums;
+}

@@ -40,16 +40,13 @@ agreed c i one = elim c.if-down.branch [
   | else-down w ↦ by_way c.agree-down.result false _ _ _ w.if-down.false (w.agree.ensures (sym w.value-is ∙ c.if-agree.true) i one)
 ]
 
-pub returns-then-are_single-clause-bits : goal.returns-then-are_single-clause-bits
-returns-then-are_single-clause-bits c r j h l =
+pub returns-then-are_single : goal.returns-then-are_single
+returns-then-are_single c =
     let down = c.agree-down.result in
     let mask = c.fill_rows-mask.result.0 in
-    let row = row_single down c.args.marks c.args.counters.now c.args.word c.args.sums.now c.args.level c.last_column.result mask r h c.if-marks-eq0.true (c.last_column.ensures.bits r h) c.requires.level (c.are_single.ensures c.if-are_single.true r h) c.fill_rows-mask.ensures.filled (agreed c) j l in
-    sym (single_nonzero down (bit_at mask (8 * r + j)) (bit_at-lt mask (8 * r + j))) ∙ ap nonzero_bit (sym row)
-
-pub returns-then-are_single-clause-next : goal.returns-then-are_single-clause-next
-returns-then-are_single-clause-next c r h =
-    let down = c.agree-down.result in
-    let mask = c.fill_rows-mask.result.0 in
-    c.set_sums.ensures.next r h
-    ∙ sym (row_single down c.args.marks c.args.counters.now c.args.word c.args.sums.now c.args.level c.last_column.result mask r h c.if-marks-eq0.true (c.last_column.ensures.bits r h) c.requires.level (c.are_single.ensures c.if-are_single.true r h) c.fill_rows-mask.ensures.filled (agreed c) 7 (omega arith))
+    let row = λ (r : ℕ) (h : r < 8). row_single down c.args.marks c.args.counters.now c.args.word c.args.sums.now c.args.level c.last_column.result mask r h c.if-marks-eq0.true (c.last_column.ensures.bits r h) c.requires.level (c.are_single.ensures c.if-are_single.true r h) c.fill_rows-mask.ensures.filled (agreed c) in
+    record {
+      bits = λ r j h l. sym (single_nonzero down (bit_at mask (8 * r + j)) (bit_at-lt mask (8 * r + j))) ∙ ap nonzero_bit (sym (row r h j l));
+      next = λ r h. c.set_sums.ensures.next r h ∙ sym (row r h 7 (omega arith));
+      other_sums = c.set_sums.ensures.other_sums;
+    }
