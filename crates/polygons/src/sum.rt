@@ -57,7 +57,7 @@ fn add_number(marks: Marks, counters: &Counters, word: usize, i: usize, sums: &m
 
 /// The flags of a word at which the sum of a row becomes 0 or another number again. The sums are those at the ends of
 /// the rows afterwards.
-#[inline(always)]
+#[inline(never)]
 fn changes(marks: Marks, counters: &Counters, word: usize, sums: &mut Sums) -> u64
     requires word { word < 32 }
     requires marked { HasFirstMarked marks }
@@ -77,18 +77,6 @@ fn changes(marks: Marks, counters: &Counters, word: usize, sums: &mut Sums) -> u
         left = (left >> skipped) >> 1;
     }
     changes
-}
-
-/// The mask of a word, and the sums at the ends of its rows, cell by cell. `level` is its mask if it has no flags.
-#[inline(never)]
-fn sum_cells(marks: Marks, counters: &Counters, word: usize, sums: &mut Sums, level: u64) -> u64
-    requires word { word < 32 }
-    requires marked { HasFirstMarked marks }
-    requires level { IsLevelMask level word sums.old }
-    ensures { IsSummed (number_in marks counters.now word) word sums.old sums.new result }
-{
-    let changes = changes(marks, counters, word, sums);
-    fill_rows(changes, last_column(level)).0
 }
 
 /// Whether the sums of a word's rows are 0 or 1, or 0 or -1 if not `down`.
@@ -156,14 +144,16 @@ fn sum_word(marks: Marks, counters: &Counters, word: usize, sums: &mut Sums, lev
     requires level { IsLevelMask level word sums.old }
     ensures { IsSummed (number_in marks counters.now word) word sums.old sums.new result }
 {
+    let carry = last_column(level);
     let flips = marks.downs ^ marks.ups;
-    let mask = fill_rows(flips, last_column(level)).0;
+    let mask = fill_rows(flips, carry).0;
     let down = agree(mask, marks.downs, flips);
     if marks.more == 0 && (down || agree(mask, marks.ups, flips)) && are_single(sums, word, down) {
         set_sums(sums, word, mask, down);
         return mask;
     }
-    sum_cells(marks, counters, word, sums, level)
+    let changes = changes(marks, counters, word, sums);
+    fill_rows(changes, carry).0
 }
 
 /// In each row of a word all bits, if the last one is set.

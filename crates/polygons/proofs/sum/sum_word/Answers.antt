@@ -1,14 +1,41 @@
-use Rattle.std.proofs.Common.{◌≡◌, sym, ap, ◌∙◌, arith, ℕ, ◌+◌, ◌*◌, ◌<◌, Bool, true, false, cond, List, slice_index}
+use Rattle.std.proofs.Common.{◌≡◌, sym, ap, ◌∙◌, arith, ℕ, zero, suc, ◌+◌, ◌*◌, ◌/◌, ◌%◌, ◌<◌, Bool, true, false, cond, eqb, List, slice_index}
 use Rattle.std.proofs.lemmas.Nat.Bits.{bit_at-zero, bit_at-lt, bit_at_xor}
 use Rattle.std.specs.Int.{bit_at}
 use Rattle.std.specs.Int.RustNames.{bit_xor}
 use Rattle.polygons.specs.declared.marks.Marks.{Marks}
 use Rattle.polygons.specs.Cells.{in_use}
+use Rattle.polygons.specs.Rows.{parity}
 use Rattle.polygons.specs.Spreading.{IsFilled}
-use Rattle.polygons.specs.Summing.{run, number_in, nonzero_bit, single_sum, IsLevelMask}
+use Rattle.polygons.specs.Summing.{run, number_in, nonzero_bit, single_sum, change_bit, change_at, IsLevelMask}
 use Rattle.polygons.proofs.Singles.{run_single, single_nonzero}
 use Rattle.polygons.proofs.sum.sum_word.Goals as goal
 use Rattle.polygons.proofs.sum.sum_word.Goals.{then-down, else-down}
+
+one_bit : (x : ℕ) → nonzero_bit x < 2
+one_bit x = either (eqb x 0)
+  where
+    either : (b : Bool) → cond {A = ℕ} b 0 1 < 2
+    either true = omega arith
+    either false = omega arith
+
+-- the changes up to a cell, with whether the sum before them was other than 0, say whether the sum there is
+telescoped : (numbers : ℕ → ℕ) (from start m : ℕ) (flags : ℕ → ℕ) → ((k : ℕ) → k < m → flags k ≡ change_bit (run numbers from start k) (run numbers from start (k + 1)))
+    → (nonzero_bit start + parity flags m) % 2 ≡ nonzero_bit (run numbers from start m)
+telescoped numbers from start zero flags h = let b = one_bit start in omega arith
+telescoped numbers from start (suc m) flags h =
+    let i = telescoped numbers from start m flags (λ k l. h k (omega arith)) in
+    let e = h m (omega arith) in
+    let b = one_bit (run numbers from start (m + 1)) in
+    let next : run numbers from start (m + 1) ≡ run numbers from start (suc m) = (let one : m + 1 ≡ suc m = omega arith in ap (run numbers from start) one) in
+    let f = ap nonzero_bit next in
+    omega arith
+
+change_in : (numbers : ℕ → ℕ) (word : ℕ) (sums : List ℕ) (r k : ℕ) → r < 8 → k < 8
+    → change_at numbers word sums (8 * r + k) ≡ change_bit (run numbers (8 * r) (slice_index sums (8 * word + r)) k) (run numbers (8 * r) (slice_index sums (8 * word + r)) (k + 1))
+change_in numbers word sums r k h l =
+    let a : (8 * r + k) / 8 ≡ r = omega arith in
+    let b : (8 * r + k) % 8 ≡ k = omega arith in
+    λ i. change_bit (run numbers (8 * a i) (slice_index sums (8 * word + a i)) (b i)) (run numbers (8 * a i) (slice_index sums (8 * word + a i)) (b i + 1))
 
 -- the number of a cell without a counter
 no_counter : (marks : Marks) (counters : List ℕ) (word i : ℕ) → marks.more ≡ 0 → number_in marks counters word i ≡ bit_at marks.downs i + 4294967295 * bit_at marks.ups i
@@ -44,9 +71,22 @@ pub returns-then-are_single : goal.returns-then-are_single
 returns-then-are_single c =
     let down = c.agree-down.result in
     let mask = c.fill_rows-mask.result.0 in
-    let row = λ (r : ℕ) (h : r < 8). row_single down c.args.marks c.args.counters.now c.args.word c.args.sums.now c.args.level c.last_column.result mask r h c.if-marks-eq0.true (c.last_column.ensures.bits r h) c.requires.level (c.are_single.ensures c.if-are_single.true r h) c.fill_rows-mask.ensures.filled (agreed c) in
+    let row = λ (r : ℕ) (h : r < 8). row_single down c.args.marks c.args.counters.now c.args.word c.args.sums.now c.args.level c.last_column-carry.result mask r h c.if-marks-eq0.true (c.last_column-carry.ensures.bits r h) c.requires.level (c.are_single.ensures c.if-are_single.true r h) c.fill_rows-mask.ensures.filled (agreed c) in
     record {
       bits = λ r j h l. sym (single_nonzero down (bit_at mask (8 * r + j)) (bit_at-lt mask (8 * r + j))) ∙ ap nonzero_bit (sym (row r h j l));
       next = λ r h. c.set_sums.ensures.next r h ∙ sym (row r h 7 (omega arith));
       other_sums = c.set_sums.ensures.other_sums;
     }
+
+pub returns : goal.returns
+returns c = record {
+  bits = λ r j h l.
+      let numbers = number_in c.args.marks c.args.counters.now c.args.word in
+      let start = slice_index c.args.sums.now (8 * c.args.word + r) in
+      let carry = c.last_column-carry.ensures.bits r h ∙ c.requires.level r 7 h (omega arith) in
+      let flags = λ (k : ℕ). bit_at c.changes-changes.result (8 * r + k) in
+      c.fill_rows.ensures.filled r j h l ∙ ap (λ b. (b + parity flags (j + 1)) % 2) carry
+      ∙ telescoped numbers (8 * r) start (j + 1) flags (λ k m. c.changes-changes.ensures.changes (8 * r + k) (omega arith) ∙ change_in numbers c.args.word c.args.sums.now r k h (omega arith));
+  next = c.changes-changes.ensures.next;
+  other_sums = c.changes-changes.ensures.other_sums;
+}
