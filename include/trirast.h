@@ -704,9 +704,9 @@ trirast_status trirast_proved_canvas_draw_polygons(trirast_canvas *canvas, const
  * @canvas: the tile rows. Threads may draw the same polygons on pieces of a canvas, each with scratch
  * memory of its own.
  * @polygons: what is drawn on them.
- * @scratch: memory that the call uses, aligned to 8. What is in it before does not matter. What is in its first
- *     trirast_polygons_scratch(canvas, polygons->fill_rule) bytes after TRIRAST_STATUS_OK is unspecified; otherwise it
- *     is unchanged.
+ * @scratch: memory that the call uses, aligned to 8. What is in it before does not matter. After TRIRAST_STATUS_OK its
+ *     first trirast_polygons_scratch(canvas, TRIRAST_FILL_EVEN_ODD) bytes, by the nonzero rule three times as many, are
+ *     zeros, and what is in the counters behind them is unspecified; otherwise it is unchanged.
  * @scratch_size: its bytes: at least that number.
  * @error: why nothing was drawn, or NULL.
  *

@@ -69,9 +69,13 @@ static void compare_drawn(void) {
                    "rule %u, ids %d: the triangle", rule, by_ids);
             expect(id_at(canvas, 0, 12, 12) == second && id_at(canvas, 0, 29, 29) == second,
                    "rule %u, ids %d: the ring", rule, by_ids);
+            const size_t each = rule == TRIRAST_FILL_EVEN_ODD ? 1 : 3;
+            for (size_t n = 0; n < each * trirast_polygons_scratch(canvas, TRIRAST_FILL_EVEN_ODD); n++)
+                expect(!all.scratch.bytes[n], "flags are not zeros at %zu", n);
             free_set(&all);
         }
-    report("polygons are drawn by both rules, in colours and by ids, with NULL for the error");
+    report("polygons are drawn by both rules, in colours and by ids, with NULL for the error, and flags are zeros "
+           "afterwards");
 }
 
 // The first polygon alone is the triangle of its corners, sample by sample.
