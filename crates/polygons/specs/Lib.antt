@@ -80,6 +80,7 @@
 -- Short.antt
 --   IsShortEdge: The edge is at most a pixel wide and a pixel high.
 --   AreNearRows: Each of four rows is at most 2 ^ 17 rows away.
+--   IsShortColumn: If the edge runs through the row, this is its first column whose sample is crossed.
 --   IsRowCrossed: Of rows from `first` to before `end`, the first one is a row of a strip.
 --
 -- Rows.antt
@@ -103,7 +104,10 @@
 -- Strip.antt
 --   start_of: Where the first pixel of a strip has sample s.
 --   strip_sample: Where the pixel in a row and a column of a strip has sample s.
---   AreFirstRows: Of each sample of a part, the first row of a strip that is not above the height y.
+--
+-- Starts.antt
+--   place_at: The place at an index: that of the sample, or of another one if a pixel has no such sample.
+--   AreFirstRows: Of the places at the four indices of a part, the first row of the strip that is not above the height y.
 --
 -- Apart.antt
 --   IsAbove: Both ends are at the upper border of the strip, or above it.
@@ -185,6 +189,7 @@ pub mod Blocks
 pub mod ManyRows
 pub mod Screen
 pub mod Strip
+pub mod Starts
 pub mod Apart
 pub mod Runs
 pub mod Cells

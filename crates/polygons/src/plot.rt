@@ -11,7 +11,8 @@ ghost use Rattle.polygons.specs.Short.{IsShortEdge};
 ghost use Rattle.polygons.specs.Polygon.{path_edges, path_end, ring_edges, polygon_edges};
 ghost use Rattle.polygons.specs.Rings.{position_of, rings_from, end_of, AreCornersInBand};
 ghost use Rattle.polygons.specs.Runs.{corner_at, corners_between, AreRunsOf, IsCrossedAsChord};
-ghost use Rattle.polygons.specs.Strip.{strip_sample, AreFirstRows};
+ghost use Rattle.polygons.specs.Starts.{AreFirstRows};
+ghost use Rattle.polygons.specs.Strip.{strip_sample};
 ghost use Rattle.polygons.specs.Rows.{direction};
 ghost use Rattle.polygons.specs.Cells.{signed, added_by, HasCounters, IsAdded, IsPlotted};
 ghost use Rattle.polygons.specs.Plotting.{ArePlotted, HasParts, IsPartPlotted};
@@ -23,7 +24,7 @@ use crate::edge::Edge;
 use crate::rings::Rings;
 use crate::rule::Rule;
 use crate::runs::Runs;
-use crate::short::{is_any_crossed, is_short, plot_short_sample};
+use crate::short::{is_any_crossed, is_row_crossed, is_short, short_columns};
 use crate::slope::Slope;
 use crate::starts::Starts;
 use crate::strip::{Strip, point_at};
@@ -116,17 +117,19 @@ fn plot_short_samples(
     requires runs_down { edge.now.a.y ≤ℤ edge.now.b.y }
     requires part { part < parts_of starts.now.strip.count }
     requires counters { HasCounters rule flags.old counters.old }
-    requires first { AreFirstRows starts.now.strip part edge.now.a.y first.now }
-    requires end { AreFirstRows starts.now.strip part edge.now.b.y end.now }
+    requires first { AreFirstRows starts.now part edge.now.a.y first.now }
+    requires end { AreFirstRows starts.now part edge.now.b.y end.now }
     ensures { IsPlotted rule starts.now.strip part (λ p. signed forward (direction edge.now p)) flags.old counters.old
         flags.new counters.new }
 {
+    let columns = short_columns(edge, starts, part, first);
     for s in 0..starts.strip.count.part_size() {
         let s = s as usize;
-        let start = starts.of(4 * part + s);
-        plot_short_sample(
-            flags, counters, rule, edge, forward, s, start, first[s], end[s],
-        );
+        if !is_row_crossed(first[s], end[s]) {
+            continue;
+        }
+        let column = i64::from(columns[s]);
+        cross(flags, counters, rule, s, first[s] as usize, column, forward);
     }
 }
 

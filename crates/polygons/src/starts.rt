@@ -1,15 +1,15 @@
 //! Where the samples of a strip begin.
 ghost use Rattle.std.specs.Prelude.{◌≡◌, ℕ, ◌<◌, pos, slice_index_or};
 ghost use Rattle.grid.specs.Position.{IsInBand};
-ghost use Rattle.grid.specs.Samples.{count_of, parts_of};
-ghost use Rattle.polygons.specs.Strip.{start_of, AreFirstRows};
+ghost use Rattle.grid.specs.Samples.{count_of};
+ghost use Rattle.polygons.specs.Strip.{start_of};
 
 use crate::pixels::first_pixel;
 use crate::strip::Strip;
 use grid::Point;
 
-/// A strip, and where its first pixel has each sample. These places are looked up once a strip, since an edge that is
-/// shorter than a pixel costs little more than looking them up.
+/// A strip, and where its first pixel has each sample; at an index that no sample has, sample 0. These places are looked
+/// up once a strip, since an edge that is shorter than a pixel costs little more than looking them up.
 #[derive(Clone, Copy, Debug)]
 pub(crate) struct Starts {
     pub strip: Strip,
@@ -17,18 +17,22 @@ pub(crate) struct Starts {
     heights: [i32; 16],
     pub ghost held: { (s : ℕ) → s < count_of strip.count →
         slice_index_or points s (record { x = pos 0; y = pos 0 }) ≡ start_of strip s },
-    pub ghost level: { (s : ℕ) → s < count_of strip.count →
-        slice_index_or heights s (pos 0) ≡ (start_of strip s).y },
+    pub ghost level: { (s : ℕ) → s < 16 →
+        slice_index_or heights s (pos 0) ≡ (slice_index_or points s (record { x = pos 0; y = pos 0 })).y },
     pub ghost in_band: { (s : ℕ) → s < 16 → IsInBand (slice_index_or heights s (pos 0)) },
 }
 
 impl Starts {
+    ghost use Rattle.grid.specs.Samples.{parts_of};
+    ghost use Rattle.polygons.specs.Starts.{place_at, AreFirstRows};
+
     /// The strip with these places.
     pub(crate) fn new(strip: &Strip) -> Starts
         ensures { result.strip ≡ strip.now }
     {
-        let mut points = [strip.start(0); 16];
-        let mut heights = [0; 16];
+        let first = strip.start(0);
+        let mut points = [first; 16];
+        let mut heights = [first.y(); 16];
         for s in 0..strip.count.count() {
             let start = strip.start(s);
             points[s as usize] = start;
@@ -41,21 +45,22 @@ impl Starts {
         }
     }
 
-    /// Where sample `s` lies in the first pixel.
+    /// The place at an index: that of the sample, or of another one if a pixel has no such sample.
     #[inline(always)]
     pub(crate) fn of(&self, s: usize) -> Point
-        requires { s < count_of self.now.strip.count }
-        ensures { result ≡ start_of self.now.strip s }
+        requires { s < 16 }
+        ensures { result ≡ place_at self.now s }
     {
         self.points[s]
     }
 
-    /// Of each sample of a part, the first row that is not above the height `y`. All four are found at once.
+    /// Of the places at the four indices of a part, the first row that is not above the height `y`. All four are found at
+    /// once.
     #[inline(always)]
     pub(crate) fn rows(&self, part: usize, y: i32) -> [i32; 4]
         requires part { part < parts_of self.now.strip.count }
         requires y { IsInBand y }
-        ensures { AreFirstRows self.now.strip part y result }
+        ensures { AreFirstRows self.now part y result }
     {
         let from = 4 * part;
         [

@@ -8,6 +8,6 @@ invariant-loop-s l = record {
   points_len : length l.points ≡ 16;
   heights_len : length l.heights ≡ 16;
   held : (s : ℕ) → s < l.s → slice_index_or l.points s (record { x = pos 0; y = pos 0 }) ≡ start_of l.strip s;
-  level : (s : ℕ) → s < l.s → slice_index_or l.heights s (pos 0) ≡ (start_of l.strip s).y;
+  level : (s : ℕ) → s < 16 → slice_index_or l.heights s (pos 0) ≡ (slice_index_or l.points s (record { x = pos 0; y = pos 0 })).y;
   in_band : (s : ℕ) → s < 16 → IsInBand (slice_index_or l.heights s (pos 0));
 }
