@@ -8,8 +8,8 @@ use crate::pixels::first_pixel;
 use crate::strip::Strip;
 use grid::Point;
 
-/// A strip, and where its first pixel has each sample; at an index that no sample has, sample 0. These places are looked
-/// up once a strip, since an edge that is shorter than a pixel costs little more than looking them up.
+/// A strip, and where its first pixel has each sample; at an index that no sample has, sample 0. These places are looked up once a strip, since an edge that is
+/// shorter than a pixel costs little more than looking them up.
 #[derive(Clone, Copy, Debug)]
 pub(crate) struct Starts {
     pub strip: Strip,
