@@ -5,24 +5,21 @@ use Rattle.std.specs.Int.{int_div_euclid, int_min}
 use Rattle.grid.specs.Bounds.{IsWithin}
 use Rattle.grid.specs.Position.{Position, IsInBand}
 use Rattle.grid.specs.Edge.{side}
-use Rattle.grid.specs.Samples.{part_size, parts_of}
 use Rattle.grid.proofs.Bounds.{passed}
 use Rattle.grid.proofs.Ring.{var, lit, plus, neg, times, ring}
 use Rattle.polygons.specs.declared.edge.Edge.{Edge}
 use Rattle.polygons.specs.declared.rule.Rule.{Rule}
-use Rattle.polygons.specs.declared.starts.Starts.{Starts}
+use Rattle.polygons.specs.declared.strip.Strip.{Strip}
 use Rattle.polygons.specs.Blocks.{down}
 use Rattle.polygons.specs.Columns.{along, HasHeight, IsFirstColumn}
 use Rattle.polygons.specs.Rows.{direction, from_column}
 use Rattle.polygons.specs.Cells.{signed, added_by, IsAdded}
 use Rattle.polygons.specs.Pixels.{IsFirstPixel}
 use Rattle.polygons.specs.Short.{IsShortEdge, IsShortColumn, IsRowCrossed}
-use Rattle.polygons.specs.Strip.{start_of}
-use Rattle.polygons.specs.Starts.{place_at, AreFirstRows}
+use Rattle.polygons.specs.Strip.{start_of, AreFirstRows}
 use Rattle.polygons.proofs.Columns.{side-along, is_first_column, between, at_right, at_left}
 use Rattle.polygons.proofs.Division.{division}
-use Rattle.polygons.proofs.Plotted.{direction_above, direction_below, part_small, signed_none, walk_added, added_none, added_as, added_all}
-use Rattle.polygons.proofs.Samples.{in_part}
+use Rattle.polygons.proofs.Plotted.{direction_above, direction_below, signed_none, walk_added, added_none, added_as, added_all}
 use Rattle.polygons.proofs.Triangle.{under_or_at_least}
 
 pub side-is : (a b p : Position) → side a b p ≡ (b.x -ℤ a.x) *ℤ (p.y -ℤ a.y) -ℤ (b.y -ℤ a.y) *ℤ (p.x -ℤ a.x)
@@ -129,24 +126,15 @@ none_crossed e start first end short runs_down a b none row k h = elim (under_or
 ]
 
 -- ---- the rows as they are read
-pub rows_read : (starts : Starts) (part : ℕ) (y y' : ℤ) (rows : List ℤ) → IsInBand y → y ≡ y' → AreFirstRows starts part (to_z w32 (of_z w32 y)) rows → AreFirstRows starts part y' rows
-rows_read starts part y y' rows h e first = subst (λ z. AreFirstRows starts part z rows) (passed y y' h e) first
+pub rows_read : (strip : Strip) (part : ℕ) (y y' : ℤ) (rows : List ℤ) → IsInBand y → y ≡ y' → AreFirstRows strip part (to_z w32 (of_z w32 y)) rows → AreFirstRows strip part y' rows
+rows_read strip part y y' rows h e first = subst (λ z. AreFirstRows strip part z rows) (passed y y' h e) first
 
-pub row_passed : (starts : Starts) (part s : ℕ) (start : Position) (y : ℤ) (rows : List ℤ) → start ≡ place_at starts (4 * part + s) → s < 4 → AreFirstRows starts part y rows
+pub row_passed : (strip : Strip) (part s : ℕ) (start : Position) (y : ℤ) (rows : List ℤ) → start ≡ start_of strip (4 * part + s) → s < 4 → AreFirstRows strip part y rows
     → IsFirstPixel start.y y (to_z w32 (of_z w32 (slice_index_or rows s (pos 0))))
-row_passed starts part s start y rows is h first =
+row_passed strip part s start y rows is h first =
     let near = first.near s h in
     let same : to_z w32 (of_z w32 (slice_index_or rows s (pos 0))) ≡ slice_index_or rows s (pos 0) = omega (arith, ints) in
     rw same (subst (λ (p : Position). IsFirstPixel p.y y (slice_index_or rows s (pos 0))) (sym is) (first.first s h))
-
--- the place of a sample of a part, and its first row
-pub place_is : (starts : Starts) (part s : ℕ) → part < parts_of starts.strip.count → s < part_size starts.strip.count → place_at starts (4 * part + s) ≡ start_of starts.strip (4 * part + s)
-place_is starts part s h l = starts.held (4 * part + s) (in_part starts.strip.count part s h l)
-
-pub first_row : (starts : Starts) (part s : ℕ) (y : ℤ) (rows : List ℤ) → part < parts_of starts.strip.count → s < part_size starts.strip.count → AreFirstRows starts part y rows
-    → IsFirstPixel (start_of starts.strip (4 * part + s)).y y (slice_index_or rows s (pos 0))
-first_row starts part s y rows h l first =
-    subst (λ (p : Position). IsFirstPixel p.y y (slice_index_or rows s (pos 0))) (place_is starts part s h l) (first.first s (omega (arith, l, part_small starts.strip.count)))
 
 -- ---- what a short edge adds to one sample
 -- the row as the position that many pixels below the start

@@ -102,12 +102,9 @@
 --   screen_sample: The position of sample s of pixel (i, j) of the screen, whose upper left corner is at (256 i, 256 j).
 --
 -- Strip.antt
---   start_of: Where the first pixel of a strip has sample s.
+--   start_of: Where the first pixel of a strip has sample s: in its upper left corner if a pixel has no such sample.
 --   strip_sample: Where the pixel in a row and a column of a strip has sample s.
---
--- Starts.antt
---   place_at: The place at an index: that of the sample, or of another one if a pixel has no such sample.
---   AreFirstRows: Of the places at the four indices of a part, the first row of the strip that is not above the height y.
+--   AreFirstRows: Of four indices of samples, from those of a part on, the first row of a strip that is not above the height y.
 --
 -- Apart.antt
 --   IsAbove: Both ends are at the upper border of the strip, or above it.
@@ -191,7 +188,6 @@ pub mod Blocks
 pub mod ManyRows
 pub mod Screen
 pub mod Strip
-pub mod Starts
 pub mod Apart
 pub mod Runs
 pub mod Cells

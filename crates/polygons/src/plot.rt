@@ -11,8 +11,7 @@ ghost use Rattle.polygons.specs.Short.{IsShortEdge};
 ghost use Rattle.polygons.specs.Polygon.{path_edges, path_end, ring_edges};
 ghost use Rattle.polygons.specs.Rings.{position_of, end_of, AreCornersInBand};
 ghost use Rattle.polygons.specs.Runs.{corner_at, corners_between, AreRunsOf, IsCrossedAsChord};
-ghost use Rattle.polygons.specs.Starts.{AreFirstRows};
-ghost use Rattle.polygons.specs.Strip.{strip_sample};
+ghost use Rattle.polygons.specs.Strip.{strip_sample, AreFirstRows};
 ghost use Rattle.polygons.specs.Rows.{direction};
 ghost use Rattle.polygons.specs.Cells.{signed, added_by, HasCounters, IsAdded, IsPlotted};
 ghost use Rattle.polygons.specs.Plotting.{ArePlotted, HasParts, IsPartPlotted, IsPolygonPlotted};
@@ -117,8 +116,8 @@ fn plot_short_samples(
     requires runs_down { edge.now.a.y ≤ℤ edge.now.b.y }
     requires part { part < parts_of starts.now.strip.count }
     requires counters { HasCounters rule flags.old counters.old }
-    requires first { AreFirstRows starts.now part edge.now.a.y first.now }
-    requires end { AreFirstRows starts.now part edge.now.b.y end.now }
+    requires first { AreFirstRows starts.now.strip part edge.now.a.y first.now }
+    requires end { AreFirstRows starts.now.strip part edge.now.b.y end.now }
     ensures { IsPlotted rule starts.now.strip part (λ p. signed forward (direction edge.now p)) flags.old counters.old
         flags.new counters.new }
 {

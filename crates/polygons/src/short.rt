@@ -6,7 +6,7 @@ ghost use Rattle.grid.specs.Position.{IsInBand};
 ghost use Rattle.grid.specs.Samples.{parts_of};
 ghost use Rattle.polygons.specs.Pixels.{IsFirstPixel};
 ghost use Rattle.polygons.specs.Short.{IsShortEdge, IsShortColumn, IsRowCrossed, AreNearRows};
-ghost use Rattle.polygons.specs.Starts.{place_at, AreFirstRows};
+ghost use Rattle.polygons.specs.Strip.{start_of, AreFirstRows};
 
 use crate::edge::Edge;
 use crate::pixels::first_pixel;
@@ -83,14 +83,14 @@ fn short_column(edge: &Edge, start: Point, row: i32) -> i32
     if across < along { column + 1 } else { column }
 }
 
-/// Of the places at the four indices of a part, the first column that is crossed in the sample's first row that is not
+/// Of four samples, from those of a part on, the first column that is crossed in the sample's first row that is not
 /// above the edge, if the edge runs through it. All four are found at once.
 #[inline(always)]
 pub(crate) fn short_columns(edge: &Edge, starts: &Starts, part: usize, first: &[i32; 4]) -> [i32; 4]
     requires short { IsShortEdge edge.now }
     requires part { part < parts_of starts.now.strip.count }
-    requires first { AreFirstRows starts.now part edge.now.a.y first.now }
-    ensures columns { (s : ℕ) → s < 4 → IsShortColumn edge.now (place_at starts.now (4 * part + s))
+    requires first { AreFirstRows starts.now.strip part edge.now.a.y first.now }
+    ensures columns { (s : ℕ) → s < 4 → IsShortColumn edge.now (start_of starts.now.strip (4 * part + s))
         (slice_index_or first.now s (pos 0)) (slice_index_or result s (pos 0)) }
     ensures near { (s : ℕ) → s < 4 → IsWithin (2 ^ 18) (slice_index_or result s (pos 0)) }
 {

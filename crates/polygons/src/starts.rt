@@ -1,38 +1,34 @@
 //! Where the samples of a strip begin.
 ghost use Rattle.std.specs.Prelude.{◌≡◌, ℕ, ◌<◌, pos, slice_index_or};
 ghost use Rattle.grid.specs.Position.{IsInBand};
-ghost use Rattle.grid.specs.Samples.{count_of};
-ghost use Rattle.polygons.specs.Strip.{start_of};
+ghost use Rattle.grid.specs.Samples.{parts_of};
+ghost use Rattle.polygons.specs.Strip.{start_of, AreFirstRows};
 
 use crate::pixels::first_pixel;
 use crate::strip::Strip;
 use grid::Point;
 
-/// A strip, and where its first pixel has each sample; at an index that no sample has, sample 0. These places are looked up once a strip, since an edge that is
+/// A strip, and where its first pixel has each sample, or its corner at an index that no sample has. These places are looked up once a strip, since an edge that is
 /// shorter than a pixel costs little more than looking them up.
 #[derive(Clone, Copy, Debug)]
 pub(crate) struct Starts {
     pub strip: Strip,
     points: [Point; 16],
     heights: [i32; 16],
-    pub ghost held: { (s : ℕ) → s < count_of strip.count →
+    pub ghost held: { (s : ℕ) → s < 16 →
         slice_index_or points s (record { x = pos 0; y = pos 0 }) ≡ start_of strip s },
-    pub ghost level: { (s : ℕ) → s < 16 →
-        slice_index_or heights s (pos 0) ≡ (slice_index_or points s (record { x = pos 0; y = pos 0 })).y },
+    pub ghost level: { (s : ℕ) → s < 16 → slice_index_or heights s (pos 0) ≡ (start_of strip s).y },
     pub ghost in_band: { (s : ℕ) → s < 16 → IsInBand (slice_index_or heights s (pos 0)) },
 }
 
 impl Starts {
-    ghost use Rattle.grid.specs.Samples.{parts_of};
-    ghost use Rattle.polygons.specs.Starts.{place_at, AreFirstRows};
-
     /// The strip with these places.
     pub(crate) fn new(strip: &Strip) -> Starts
         ensures { result.strip ≡ strip.now }
     {
-        let first = strip.start(0);
-        let mut points = [first; 16];
-        let mut heights = [first.y(); 16];
+        let corner = strip.corner();
+        let mut points = [corner; 16];
+        let mut heights = [corner.y(); 16];
         for s in 0..strip.count.count() {
             let start = strip.start(s);
             points[s as usize] = start;
@@ -45,22 +41,22 @@ impl Starts {
         }
     }
 
-    /// The place at an index: that of the sample, or of another one if a pixel has no such sample.
+    /// Where sample `s` lies in the first pixel, or its corner.
     #[inline(always)]
     pub(crate) fn of(&self, s: usize) -> Point
         requires { s < 16 }
-        ensures { result ≡ place_at self.now s }
+        ensures { result ≡ start_of self.now.strip s }
     {
         self.points[s]
     }
 
-    /// Of the places at the four indices of a part, the first row that is not above the height `y`. All four are found at
+    /// Of four samples, from those of a part on, the first row that is not above the height `y`. All four are found at
     /// once.
     #[inline(always)]
     pub(crate) fn rows(&self, part: usize, y: i32) -> [i32; 4]
         requires part { part < parts_of self.now.strip.count }
         requires y { IsInBand y }
-        ensures { AreFirstRows self.now part y result }
+        ensures { AreFirstRows self.now.strip part y result }
     {
         let from = 4 * part;
         [

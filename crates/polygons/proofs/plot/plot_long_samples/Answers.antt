@@ -1,11 +1,11 @@
-use Rattle.std.proofs.Common.{◌≡◌, ◌∙◌, ap, arith, ℕ, ◌<◌, ◌≤◌, pos}
+use Rattle.std.proofs.Common.{◌≡◌, ap, arith, ℕ, ◌<◌, ◌≤◌, pos}
 use Rattle.grid.specs.Position.{Position}
 use Rattle.polygons.specs.Blocks.{down}
 use Rattle.polygons.specs.Columns.{along}
 use Rattle.polygons.specs.Rows.{direction}
 use Rattle.polygons.specs.Cells.{signed}
 use Rattle.polygons.proofs.Plotted.{has_counters, part_small, no_samples, one_sample_more, all_samples}
-use Rattle.polygons.proofs.ShortEdges.{place_is, rows_read, row_passed}
+use Rattle.polygons.proofs.ShortEdges.{rows_read, row_passed}
 use Rattle.polygons.proofs.plot.plot_long_samples.Goals as goal
 
 few : (s n m : ℕ) → s < n → n ≡ m → m ≤ 4 → s < 4
@@ -29,12 +29,12 @@ plot_sample-requires-clause-in_band c = (rw c.y.ensures.value at c.y.ensures.in_
 
 pub plot_sample-requires-clause-first : goal.plot_sample-requires-clause-first
 plot_sample-requires-clause-first c =
-    row_passed c.args.starts.now c.args.part c.loop-s.s _ _ _ c.of-start.ensures (few _ _ _ c.loop-s-test.true c.part_size-s-end.ensures (part_small c.args.starts.now.strip.count))
+    row_passed c.args.starts.now.strip c.args.part c.loop-s.s _ _ _ c.of-start.ensures (few _ _ _ c.loop-s-test.true c.part_size-s-end.ensures (part_small c.args.starts.now.strip.count))
     (rows_read _ _ _ _ _ c.y.ensures.in_band c.y.ensures.value c.rows-first.ensures)
 
 pub plot_sample-requires-clause-end : goal.plot_sample-requires-clause-end
 plot_sample-requires-clause-end c =
-    row_passed c.args.starts.now c.args.part c.loop-s.s _ _ _ c.of-start.ensures (few _ _ _ c.loop-s-test.true c.part_size-s-end.ensures (part_small c.args.starts.now.strip.count))
+    row_passed c.args.starts.now.strip c.args.part c.loop-s.s _ _ _ c.of-start.ensures (few _ _ _ c.loop-s-test.true c.part_size-s-end.ensures (part_small c.args.starts.now.strip.count))
     (rows_read _ _ _ _ _ c.y-2.ensures.in_band c.y-2.ensures.value c.rows-end.ensures)
 
 pub loop-s-init : goal.loop-s-init
@@ -45,7 +45,7 @@ loop-s-preserved c =
     let e = c.args.edge.now in
     let strip = c.args.starts.now.strip in
     let small = few _ _ _ c.loop-s-test.true c.part_size-s-end.ensures (part_small strip.count) in
-    one_sample_more c.args.rule strip c.args.part _ c.loop-s.s _ _ _ _ _ _ _ small (λ row k. ap (λ (p : Position). signed c.args.forward (direction e (along (down p row) (pos k)))) (c.of-start.ensures ∙ place_is c.args.starts.now c.args.part c.loop-s.s c.requires.part (omega (arith, c.loop-s-test.true, c.part_size-s-end.ensures)))) c.loop-s.invariant c.plot_sample.ensures
+    one_sample_more c.args.rule strip c.args.part _ c.loop-s.s _ _ _ _ _ _ _ small (λ row k. ap (λ (p : Position). signed c.args.forward (direction e (along (down p row) (pos k)))) c.of-start.ensures) c.loop-s.invariant c.plot_sample.ensures
 
 pub returns : goal.returns
 returns c = all_samples c.args.rule c.args.starts.now.strip c.args.part _ c.loop-s.s _ _ _ _ (omega (arith, c.loop-s-test.false, c.part_size-s-end.ensures)) c.loop-s.invariant

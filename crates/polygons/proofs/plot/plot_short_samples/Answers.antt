@@ -1,12 +1,10 @@
 use Rattle.std.proofs.Common.{rules, ◌≡◌, refl, sym, subst, ◌∙◌, arith, Bool, true, false, ℕ, ◌+◌, ◌*◌, ◌^◌, ◌<◌, ◌≤◌, ℤ, pos, w32, to_z, of_z, slice_index_or}
 use Rattle.std.proofs.lemmas.Int.{ints}
 use Rattle.grid.specs.Bounds.{IsWithin}
-use Rattle.grid.specs.Position.{Position}
-use Rattle.grid.specs.Samples.{part_size}
 use Rattle.polygons.specs.Short.{IsRowCrossed, IsShortColumn}
 use Rattle.polygons.specs.Strip.{start_of}
 use Rattle.polygons.proofs.Plotted.{has_counters, part_small, no_samples, one_sample_more, all_samples}
-use Rattle.polygons.proofs.ShortEdges.{place_is, first_row, row_number, short_missed, short_crossed}
+use Rattle.polygons.proofs.ShortEdges.{row_number, short_missed, short_crossed}
 use Rattle.polygons.proofs.plot.plot_short_samples.Goals as goal
 
 few : (s n m : ℕ) → s < n → n ≡ m → m ≤ 4 → s < 4
@@ -54,12 +52,11 @@ loop-s-preserved-then-not-is_row_crossed c =
     let e = c.args.edge.now in
     let strip = c.args.starts.now.strip in
     let s = c.loop-s.s in
-    let own : s < part_size strip.count = omega (arith, c.loop-s-test.true, c.part_size-s-end.ensures) in
     let small = few _ _ _ c.loop-s-test.true c.part_size-s-end.ensures (part_small strip.count) in
     let near = c.requires.first.near s small in
     let near_end = c.requires.end.near s small in
     one_sample_more c.args.rule strip c.args.part _ s _ _ _ _ _ _ _ small (λ row k. refl) c.loop-s.invariant
-    (short_missed c.args.rule s e c.args.forward (start_of strip (4 * c.args.part + s)) _ _ c.loop-s.flags c.loop-s.counters small c.requires.short c.requires.runs_down (first_row c.args.starts.now c.args.part s _ _ c.requires.part own c.requires.first) (first_row c.args.starts.now c.args.part s _ _ c.requires.part own c.requires.end)
+    (short_missed c.args.rule s e c.args.forward (start_of strip (4 * c.args.part + s)) _ _ c.loop-s.flags c.loop-s.counters small c.requires.short c.requires.runs_down (c.requires.first.first s small) (c.requires.end.first s small)
     (λ crossed. either c.is_row_crossed.result c.if-not-is_row_crossed.true (c.is_row_crossed.ensures.1 (as_passed _ _ near near_end crossed))))
 
 pub loop-s-preserved : goal.loop-s-preserved
@@ -67,15 +64,14 @@ loop-s-preserved c =
     let e = c.args.edge.now in
     let strip = c.args.starts.now.strip in
     let s = c.loop-s.s in
-    let own : s < part_size strip.count = omega (arith, c.loop-s-test.true, c.part_size-s-end.ensures) in
     let small = few _ _ _ c.loop-s-test.true c.part_size-s-end.ensures (part_small strip.count) in
     let first : ℤ = slice_index_or c.args.first.now s (pos 0) in
     let end : ℤ = slice_index_or c.args.end.now s (pos 0) in
     let at : ℤ = slice_index_or c.short_columns-columns.result s (pos 0) in
-    let column = subst (λ z. IsShortColumn e (start_of strip (4 * c.args.part + s)) first z) (sym (c.from-column.ensures ∙ kept32 at (c.short_columns-columns.ensures.near s small))) (subst (λ (p : Position). IsShortColumn e p first at) (place_is c.args.starts.now c.args.part s c.requires.part own) (c.short_columns-columns.ensures.columns s small)) in
+    let column = subst (IsShortColumn e (start_of strip (4 * c.args.part + s)) first) (sym (c.from-column.ensures ∙ kept32 at (c.short_columns-columns.ensures.near s small))) (c.short_columns-columns.ensures.columns s small) in
     let crossed = as_read first end (c.requires.first.near s small) (c.requires.end.near s small) (c.is_row_crossed.ensures.0 c.if-not-is_row_crossed.false) in
     one_sample_more c.args.rule strip c.args.part _ s _ _ _ _ _ _ _ small (λ row k. refl) c.loop-s.invariant
-    (short_crossed c.args.rule s e c.args.forward (start_of strip (4 * c.args.part + s)) first end c.loop-s.flags c.loop-s.counters small c.requires.short c.requires.runs_down (first_row c.args.starts.now c.args.part s _ _ c.requires.part own c.requires.first) (first_row c.args.starts.now c.args.part s _ _ c.requires.part own c.requires.end)
+    (short_crossed c.args.rule s e c.args.forward (start_of strip (4 * c.args.part + s)) first end c.loop-s.flags c.loop-s.counters small c.requires.short c.requires.runs_down (c.requires.first.first s small) (c.requires.end.first s small)
     _ _ _ _ crossed (row_number first end crossed) (record { sfits = c.from-column.type_inv }) column c.cross.ensures)
 
 pub returns : goal.returns

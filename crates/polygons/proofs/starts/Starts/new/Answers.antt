@@ -1,4 +1,4 @@
-use Rattle.std.proofs.Common.{◌≡◌, inl, inr, sym, subst, ◌∙◌, ap, arith, ℕ, ◌+◌, ◌<◌, ℤ, pos, w32, to_z, of_z, List, length, length-set, set, slice_index_or}
+use Rattle.std.proofs.Common.{◌≡◌, inl, inr, sym, subst, ◌∙◌, ap, arith, ℕ, ◌+◌, ◌<◌, ℤ, w32, to_z, of_z, List, length, length-set, set, slice_index_or}
 use Rattle.std.proofs.lemmas.Bool.{cases_eq}
 use Rattle.std.proofs.lemmas.Int.{ints}
 use Rattle.std.proofs.lemmas.List.{get_or-set_same, get_or-set_other}
@@ -33,16 +33,13 @@ loop-s-preserved c =
     let strip = c.args.strip.now in
     let small : s < 16 = omega (arith, c.loop-s-test.true, c.count-s-end.ensures, few_samples strip.count) in
     let y = c.y.ensures in
+    let height = passed c.y.result _ y.in_band (y.value ∙ ap (λ (p : Position). p.y) c.start-start.ensures) in
     record {
       points_len = length-set c.loop-s.points s c.start-start.result ∙ v.points_len;
       heights_len = length-set c.loop-s.heights s (to_z w32 (of_z w32 c.y.result)) ∙ v.heights_len;
       held = one_more (λ i (p : Position). p ≡ start_of strip i) c.loop-s.points s _ _ (omega (arith, small, v.points_len)) v.held c.start-start.ensures;
-      level = λ i h. elim (cases_eq i s) [
-        | inl e ↦ subst (λ (j : ℕ). slice_index_or (set c.loop-s.heights s (to_z w32 (of_z w32 c.y.result))) j (pos 0) ≡ (slice_index_or (set c.loop-s.points s c.start-start.result) j (record { x = pos 0; y = pos 0 })).y) (sym e)
-            (get_or-set_same c.loop-s.heights s (to_z w32 (of_z w32 c.y.result)) (pos 0) (omega (arith, small, v.heights_len)) ∙ passed c.y.result _ y.in_band y.value
-            ∙ sym (ap (λ (p : Position). p.y) (get_or-set_same c.loop-s.points s c.start-start.result (record { x = pos 0; y = pos 0 }) (omega (arith, small, v.points_len)))))
-        | inr other ↦
-            get_or-set_other c.loop-s.heights s i (to_z w32 (of_z w32 c.y.result)) (pos 0) other ∙ v.level i h ∙ sym (ap (λ (p : Position). p.y) (get_or-set_other c.loop-s.points s i c.start-start.result (record { x = pos 0; y = pos 0 }) other))
-      ];
+      level = one_more (λ i z. z ≡ (start_of strip i).y) c.loop-s.heights s _ _ (omega (arith, small, v.heights_len)) v.level height;
+      held_rest = λ i h l. get_or-set_other c.loop-s.points s i c.start-start.result _ (λ e. omega (arith, e, h)) ∙ v.held_rest i (omega (arith, h)) l;
+      level_rest = λ i h l. get_or-set_other c.loop-s.heights s i (to_z w32 (of_z w32 c.y.result)) _ (λ e. omega (arith, e, h)) ∙ v.level_rest i (omega (arith, h)) l;
       in_band = λ i h. replaced IsInBand c.loop-s.heights s _ _ (omega (arith, small, v.heights_len)) (kept _ y.in_band) i (v.in_band i h);
     }

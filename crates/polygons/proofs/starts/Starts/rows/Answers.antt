@@ -6,7 +6,7 @@ use Rattle.grid.proofs.Bounds.{passed}
 use Rattle.grid.specs.Samples.{parts_of}
 use Rattle.polygons.specs.declared.starts.Starts.{Starts}
 use Rattle.polygons.specs.Pixels.{IsFirstPixel}
-use Rattle.polygons.specs.Starts.{place_at}
+use Rattle.polygons.specs.Strip.{start_of}
 use Rattle.polygons.proofs.Samples.{few_parts}
 use Rattle.polygons.proofs.ShortEdges.{column_range}
 use Rattle.polygons.proofs.starts.Starts.rows.Goals as goal
@@ -36,7 +36,7 @@ module _ (self : Starts) (part : ℕ) (h : part < parts_of self.strip.count) whe
     near_row : IsWithin (2 ^ 17) (to_z w32 (of_z w32 n))
     near_row = near _ _ _ (height s l) k first
 
-    first_row : IsFirstPixel (place_at self (4 * part + s)).y y (to_z w32 (of_z w32 n))
+    first_row : IsFirstPixel (start_of self.strip (4 * part + s)).y y (to_z w32 (of_z w32 n))
     first_row = first_is _ _ _ _ (self.level (4 * part + s) (few_parts self.strip.count part s h l)) (height s l) k first
 
 pub first_pixel-requires-2-clause-start : goal.first_pixel-requires-2-clause-start
@@ -64,7 +64,7 @@ returns c = record { near = near_rows; first = first_rows }
     near_rows (suc (suc (suc zero))) l = near_row c.args.self.now c.args.part c.requires.part _ _ 3 l c.requires.y c.first_pixel-4.ensures
     near_rows (suc (suc (suc (suc s)))) l = absurd (omega arith)
 
-    first_rows : (s : ℕ) → s < 4 → IsFirstPixel (place_at c.args.self.now (4 * c.args.part + s)).y c.args.y (slice_index_or (to_z w32 (of_z w32 c.first_pixel.result) ∷ to_z w32 (of_z w32 c.first_pixel-2.result) ∷ to_z w32 (of_z w32 c.first_pixel-3.result) ∷ to_z w32 (of_z w32 c.first_pixel-4.result) ∷ []) s (pos 0))
+    first_rows : (s : ℕ) → s < 4 → IsFirstPixel (start_of c.args.self.now.strip (4 * c.args.part + s)).y c.args.y (slice_index_or (to_z w32 (of_z w32 c.first_pixel.result) ∷ to_z w32 (of_z w32 c.first_pixel-2.result) ∷ to_z w32 (of_z w32 c.first_pixel-3.result) ∷ to_z w32 (of_z w32 c.first_pixel-4.result) ∷ []) s (pos 0))
     first_rows zero l = first_row c.args.self.now c.args.part c.requires.part _ _ 0 l c.requires.y first_of
     first_rows (suc zero) l = first_row c.args.self.now c.args.part c.requires.part _ _ 1 l c.requires.y c.first_pixel-2.ensures
     first_rows (suc (suc zero)) l = first_row c.args.self.now c.args.part c.requires.part _ _ 2 l c.requires.y c.first_pixel-3.ensures
