@@ -1,6 +1,5 @@
 -- Where samples lie in their pixels, and their parts.
-use Rattle.std.proofs.Common.{◌≡◌, arith, ℕ, zero, suc, ◌+◌, ◌*◌, ◌/◌, ◌%◌, ◌<◌, ◌≤◌, lit<, List, [], ◌∷◌, slice_index}
-use Rattle.std.proofs.lemmas.List.{get_or_past}
+use Rattle.std.proofs.Common.{arith, ℕ, zero, suc, ◌+◌, ◌*◌, ◌/◌, ◌%◌, ◌<◌, ◌≤◌, lit<, List, [], ◌∷◌, slice_index}
 use Rattle.grid.specs.Samples.{count_of, offsets_x, offsets_y, part_size, parts_of}
 use Rattle.grid.specs.declared.sample_count.SampleCount.{SampleCount}
 use Rattle.grid.specs.declared.sample_count.SampleCount.TheVariants.{One, Two, Four, Eight, Sixteen}
@@ -35,21 +34,6 @@ all_y Sixteen = (lit< tt, (lit< tt, (lit< tt, (lit< tt, (lit< tt, (lit< tt, (lit
 pub offset_y : (count : SampleCount) (s : ℕ) → slice_index (offsets_y count) s < 256
 offset_y count s = of_each (offsets_y count) (all_y count) s
 
--- an index that no sample has is that of the corner
-pub no_offset_x : (count : SampleCount) (s : ℕ) → count_of count ≤ s → slice_index (offsets_x count) s ≡ 0
-no_offset_x One s h = get_or_past (offsets_x One) s 0 h
-no_offset_x Two s h = get_or_past (offsets_x Two) s 0 h
-no_offset_x Four s h = get_or_past (offsets_x Four) s 0 h
-no_offset_x Eight s h = get_or_past (offsets_x Eight) s 0 h
-no_offset_x Sixteen s h = get_or_past (offsets_x Sixteen) s 0 h
-
-pub no_offset_y : (count : SampleCount) (s : ℕ) → count_of count ≤ s → slice_index (offsets_y count) s ≡ 0
-no_offset_y One s h = get_or_past (offsets_y One) s 0 h
-no_offset_y Two s h = get_or_past (offsets_y Two) s 0 h
-no_offset_y Four s h = get_or_past (offsets_y Four) s 0 h
-no_offset_y Eight s h = get_or_past (offsets_y Eight) s 0 h
-no_offset_y Sixteen s h = get_or_past (offsets_y Sixteen) s 0 h
-
 -- ---- the parts of a pixel's samples
 pub few_samples : (count : SampleCount) → count_of count ≤ 16
 few_samples One = omega arith
@@ -64,6 +48,14 @@ few_parts Two part s h l = omega arith
 few_parts Four part s h l = omega arith
 few_parts Eight part s h l = omega arith
 few_parts Sixteen part s h l = omega arith
+
+-- a part that there is has all of its samples
+pub in_part : (count : SampleCount) (part s : ℕ) → part < parts_of count → s < part_size count → 4 * part + s < count_of count
+in_part One part s h l = omega arith
+in_part Two part s h l = omega arith
+in_part Four part s h l = omega arith
+in_part Eight part s h l = omega arith
+in_part Sixteen part s h l = omega arith
 
 -- the part of a sample, and its index there
 pub part_of_sample : (count : SampleCount) (s : ℕ) → s < count_of count → (s / 4 < parts_of count) × (s % 4 < part_size count)

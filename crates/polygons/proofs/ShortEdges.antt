@@ -1,25 +1,24 @@
 -- The first column at which a short edge is crossed.
-use Rattle.std.proofs.Common.{◌≡◌, inl, inr, refl, sym, subst, arith, Bool, ℕ, ◌+◌, ◌*◌, ◌<◌, ◌≤◌, nat_abs, ◌^◌, List, [], ◌∷◌, slice_index_or, ℤ, pos, negsuc, ◌+ℤ◌, ◌-ℤ◌, ◌*ℤ◌, neg_ℤ, ◌<ℤ◌, ◌≤ℤ◌, w32, w64, to_z, of_z, FitsSigned}
+use Rattle.std.proofs.Common.{◌≡◌, inl, inr, refl, sym, subst, arith, ℕ, ◌+◌, ◌*◌, ◌<◌, nat_abs, ◌^◌, List, [], ◌∷◌, slice_index_or, ℤ, pos, negsuc, ◌+ℤ◌, ◌-ℤ◌, ◌*ℤ◌, neg_ℤ, ◌<ℤ◌, ◌≤ℤ◌, w32, to_z, of_z}
 use Rattle.std.proofs.lemmas.Int.{ints, clamps}
 use Rattle.std.specs.Int.{int_div_euclid, int_min}
 use Rattle.grid.specs.Bounds.{IsWithin}
 use Rattle.grid.specs.Position.{Position, IsInBand}
 use Rattle.grid.specs.Edge.{side}
+use Rattle.grid.specs.Samples.{part_size}
 use Rattle.grid.proofs.Bounds.{passed}
 use Rattle.grid.proofs.Ring.{var, lit, plus, neg, times, ring}
 use Rattle.polygons.specs.declared.edge.Edge.{Edge}
-use Rattle.polygons.specs.declared.rule.Rule.{Rule}
 use Rattle.polygons.specs.declared.strip.Strip.{Strip}
 use Rattle.polygons.specs.Blocks.{down}
 use Rattle.polygons.specs.Columns.{along, HasHeight, IsFirstColumn}
-use Rattle.polygons.specs.Rows.{direction, from_column}
-use Rattle.polygons.specs.Cells.{signed, added_by, IsAdded}
+use Rattle.polygons.specs.Rows.{direction}
 use Rattle.polygons.specs.Pixels.{IsFirstPixel}
-use Rattle.polygons.specs.Short.{IsShortEdge, IsShortColumn, IsRowCrossed}
+use Rattle.polygons.specs.Short.{IsShortEdge, IsRowCrossed}
 use Rattle.polygons.specs.Strip.{start_of, AreFirstRows}
 use Rattle.polygons.proofs.Columns.{side-along, is_first_column, between, at_right, at_left}
 use Rattle.polygons.proofs.Division.{division}
-use Rattle.polygons.proofs.Plotted.{direction_above, direction_below, signed_none, walk_added, added_none, added_as, added_all}
+use Rattle.polygons.proofs.Plotted.{direction_above, direction_below, part_small}
 use Rattle.polygons.proofs.Triangle.{under_or_at_least}
 
 pub side-is : (a b p : Position) → side a b p ≡ (b.x -ℤ a.x) *ℤ (p.y -ℤ a.y) -ℤ (b.y -ℤ a.y) *ℤ (p.x -ℤ a.x)
@@ -129,38 +128,9 @@ none_crossed e start first end short runs_down a b none row k h = elim (under_or
 pub rows_read : (strip : Strip) (part : ℕ) (y y' : ℤ) (rows : List ℤ) → IsInBand y → y ≡ y' → AreFirstRows strip part (to_z w32 (of_z w32 y)) rows → AreFirstRows strip part y' rows
 rows_read strip part y y' rows h e first = subst (λ z. AreFirstRows strip part z rows) (passed y y' h e) first
 
-pub row_passed : (strip : Strip) (part s : ℕ) (start : Position) (y : ℤ) (rows : List ℤ) → start ≡ start_of strip (4 * part + s) → s < 4 → AreFirstRows strip part y rows
+pub row_passed : (strip : Strip) (part s : ℕ) (start : Position) (y : ℤ) (rows : List ℤ) → start ≡ start_of strip (4 * part + s) → s < part_size strip.count → AreFirstRows strip part y rows
     → IsFirstPixel start.y y (to_z w32 (of_z w32 (slice_index_or rows s (pos 0))))
 row_passed strip part s start y rows is h first =
-    let near = first.near s h in
+    let near = first.near s (omega (arith, h, part_small strip.count)) in
     let same : to_z w32 (of_z w32 (slice_index_or rows s (pos 0))) ≡ slice_index_or rows s (pos 0) = omega (arith, ints) in
     rw same (subst (λ (p : Position). IsFirstPixel p.y y (slice_index_or rows s (pos 0))) (sym is) (first.first s h))
-
--- ---- what a short edge adds to one sample
--- the row as the position that many pixels below the start
-row_is : (start : Position) (first : ℤ) (n : ℕ) → pos n ≡ first → record { x = start.x; y = start.y +ℤ pos 256 *ℤ first } ≡ down start n
-row_is start first n e = let y : start.y +ℤ pos 256 *ℤ first ≡ start.y +ℤ pos (256 * n) = omega (arith, ints) in λ i. record { x = start.x; y = y i }
-
-before_row : (first : ℤ) (n row : ℕ) → pos n ≡ first → row < n → pos row <ℤ first
-before_row first n row e h = omega (arith, ints)
-
-behind_row : (first : ℤ) (n row : ℕ) → pos n ≡ first → n + 1 ≤ row → first <ℤ pos row
-behind_row first n row e h = omega (arith, ints)
-
-module _ (rule : Rule) (s : ℕ) (e : Edge) (forward : Bool) (start : Position) (first end : ℤ) (flags counters : List (List ℕ)) (small : s < 4) (short : IsShortEdge e) (runs_down : e.a.y ≤ℤ e.b.y) (at_a : IsFirstPixel start.y e.a.y first)
-    (at_b : IsFirstPixel start.y e.b.y end) where
-  pub short_missed : (IsRowCrossed first end → ⊥) → IsAdded rule s 0 64 (added_by e forward start) flags counters flags counters
-  short_missed none =
-      added_all rule s 0 0 _ _ _ _ _ small (λ row k h. absurd (omega arith)) (λ row k h l. signed_none forward _ (none_crossed e start first end short runs_down at_a at_b none row k l)) (added_none rule s 0 _ flags counters)
-
-  pub short_crossed : (n : ℕ) (column : ℤ) (flags' counters' : List (List ℕ)) → IsRowCrossed first end → pos n ≡ first → FitsSigned w64 column → IsShortColumn e start first column
-      → IsAdded rule s n (n + 1) (λ _ k. signed forward (from_column (to_z w64 (of_z w64 column)) (pos 1) k)) flags counters flags' counters' → IsAdded rule s 0 64 (added_by e forward start) flags counters flags' counters'
-  short_crossed n column flags' counters' crossed is fits at added =
-      let place = row_is start first n is in
-      let through = row_through e start.y first end at_a at_b crossed in
-      let there : IsFirstColumn e (down start n) column = subst (λ (q : Position). IsFirstColumn e q column) place (at through) in
-      let height : HasHeight e (down start n).y = subst (λ (q : Position). HasHeight e q.y) place through in
-      added_all rule s n (n + 1) _ _ _ _ _ small
-      (λ row k h. signed_none forward _ (row_above e start first runs_down at_a row k (before_row first n row is h)))
-      (λ row k h l. signed_none forward _ (row_below e start first short runs_down at_a row k (behind_row first n row is h)))
-      (added_as rule s n (n + 1) _ (added_by e forward start) _ _ _ _ (walk_added e start forward n (record { edge = e; row = down start n }) column fits refl there height) added)

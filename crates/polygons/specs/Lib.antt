@@ -80,7 +80,6 @@
 -- Short.antt
 --   IsShortEdge: The edge is at most a pixel wide and a pixel high.
 --   AreNearRows: Each of four rows is at most 2 ^ 17 rows away.
---   IsShortColumn: If the edge runs through the row, this is its first column whose sample is crossed.
 --   IsRowCrossed: Of rows from `first` to before `end`, the first one is a row of a strip.
 --
 -- Rows.antt
@@ -102,9 +101,9 @@
 --   screen_sample: The position of sample s of pixel (i, j) of the screen, whose upper left corner is at (256 i, 256 j).
 --
 -- Strip.antt
---   start_of: Where the first pixel of a strip has sample s: in its upper left corner if a pixel has no such sample.
+--   start_of: Where the first pixel of a strip has sample s.
 --   strip_sample: Where the pixel in a row and a column of a strip has sample s.
---   AreFirstRows: Of four indices of samples, from those of a part on, the first row of a strip that is not above the height y.
+--   AreFirstRows: Of each sample of a part, the first row of a strip that is not above the height y.
 --
 -- Apart.antt
 --   IsAbove: Both ends are at the upper border of the strip, or above it.

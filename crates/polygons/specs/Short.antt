@@ -1,9 +1,7 @@
 -- Edges that run through at most one row of each sample.
-use Rattle.std.specs.Prelude.{ℕ, ◌^◌, ◌<◌, ℤ, pos, ◌+ℤ◌, ◌*ℤ◌, ◌≤ℤ◌, ◌<ℤ◌, List, slice_index_or}
+use Rattle.std.specs.Prelude.{ℕ, ◌^◌, ◌<◌, ℤ, pos, ◌+ℤ◌, ◌≤ℤ◌, ◌<ℤ◌, List, slice_index_or}
 use Rattle.grid.specs.Bounds.{IsWithin}
-use Rattle.grid.specs.Position.{Position}
 use Rattle.polygons.specs.declared.edge.Edge.{Edge}
-use Rattle.polygons.specs.Columns.{HasHeight, IsFirstColumn}
 
 -- The edge is at most a pixel wide and a pixel high.
 pub record IsShortEdge (e : Edge) : Type 0 where
@@ -15,12 +13,6 @@ pub record IsShortEdge (e : Edge) : Type 0 where
 -- Each of four rows is at most 2 ^ 17 rows away.
 abbrev pub AreNearRows : List ℤ → Type 0
 AreNearRows rows = (s : ℕ) → s < 4 → IsWithin (2 ^ 17) (slice_index_or rows s (pos 0))
-
--- If the edge runs through the row, this is its first column whose sample is crossed. The first pixel has this sample at `start`.
-abbrev pub IsShortColumn : Edge → Position → ℤ → ℤ → Type 0
-IsShortColumn e start row column =
-    let p : Position = record { x = start.x; y = start.y +ℤ pos 256 *ℤ row } in
-    HasHeight e p.y → IsFirstColumn e p column
 
 -- Of rows from `first` to before `end`, the first one is a row of a strip.
 pub record IsRowCrossed (first end : ℤ) : Type 0 where

@@ -23,7 +23,7 @@ use crate::edge::Edge;
 use crate::rings::Rings;
 use crate::rule::Rule;
 use crate::runs::Runs;
-use crate::short::{is_any_crossed, is_row_crossed, is_short, short_columns};
+use crate::short::{is_any_crossed, is_short, plot_short_sample};
 use crate::slope::Slope;
 use crate::starts::Starts;
 use crate::strip::{Strip, point_at};
@@ -121,14 +121,12 @@ fn plot_short_samples(
     ensures { IsPlotted rule starts.now.strip part (λ p. signed forward (direction edge.now p)) flags.old counters.old
         flags.new counters.new }
 {
-    let columns = short_columns(edge, starts, part, first);
     for s in 0..starts.strip.count.part_size() {
         let s = s as usize;
-        if !is_row_crossed(first[s], end[s]) {
-            continue;
-        }
-        let column = i64::from(columns[s]);
-        cross(flags, counters, rule, s, first[s] as usize, column, forward);
+        let start = starts.of(4 * part + s);
+        plot_short_sample(
+            flags, counters, rule, edge, forward, s, start, first[s], end[s],
+        );
     }
 }
 

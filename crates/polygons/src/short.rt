@@ -1,16 +1,17 @@
 //! Edges that are at most a pixel wide and a pixel high, as most of contours, coasts and letters are. Each runs through
 //! at most one row of each sample, and its column there is found without a division.
-ghost use Rattle.std.specs.Prelude.{◌≡◌, ◌↔◌, ℕ, ◌+◌, ◌*◌, ◌^◌, ◌<◌, pos, ◌+ℤ◌, ◌*ℤ◌, ◌≤ℤ◌, IsTrue, slice_index_or};
+ghost use Rattle.std.specs.Prelude.{◌≡◌, ◌↔◌, ℕ, ◌^◌, ◌<◌, pos, ◌+ℤ◌, ◌*ℤ◌, ◌≤ℤ◌, IsTrue, slice_index_or};
 ghost use Rattle.grid.specs.Bounds.{IsWithin};
 ghost use Rattle.grid.specs.Position.{IsInBand};
-ghost use Rattle.grid.specs.Samples.{parts_of};
+ghost use Rattle.polygons.specs.Columns.{HasHeight, IsFirstColumn};
 ghost use Rattle.polygons.specs.Pixels.{IsFirstPixel};
-ghost use Rattle.polygons.specs.Short.{IsShortEdge, IsShortColumn, IsRowCrossed, AreNearRows};
-ghost use Rattle.polygons.specs.Strip.{start_of, AreFirstRows};
+ghost use Rattle.polygons.specs.Short.{IsShortEdge, IsRowCrossed, AreNearRows};
+ghost use Rattle.polygons.specs.Cells.{added_by, HasCounters, IsAdded};
 
+use crate::cells::{Counters, Flags, cross};
 use crate::edge::Edge;
 use crate::pixels::first_pixel;
-use crate::starts::Starts;
+use crate::rule::Rule;
 use grid::Point;
 
 /// Whether both coordinates are at most a pixel apart.
@@ -65,14 +66,14 @@ fn product(a: i32, b: i32) -> i32
     a * b
 }
 
-/// The first column whose sample is crossed in a row, if the edge runs through it. It is the first column that is not
-/// left of both ends, or the next one.
+/// The first column whose sample is crossed in a row. It is the first column that is not left of both ends, or the next
+/// one.
 #[inline(always)]
 fn short_column(edge: &Edge, start: Point, row: i32) -> i32
     requires short { IsShortEdge edge.now }
     requires row { IsFirstPixel start.y edge.now.a.y row }
-    ensures column { IsShortColumn edge.now start row result }
-    ensures near { IsWithin (2 ^ 18) result }
+    requires through { HasHeight edge.now (start.y +ℤ pos 256 *ℤ row) }
+    ensures { IsFirstColumn edge.now (record { x = start.x; y = start.y +ℤ pos 256 *ℤ row }) result }
 {
     let (left, top) = (edge.a.x(), edge.a.y());
     let column = first_pixel(start.x(), left.min(edge.b.x()));
@@ -83,22 +84,39 @@ fn short_column(edge: &Edge, start: Point, row: i32) -> i32
     if across < along { column + 1 } else { column }
 }
 
-/// Of four samples, from those of a part on, the first column that is crossed in the sample's first row that is not
-/// above the edge, if the edge runs through it. All four are found at once.
+/// Counts a short edge that runs downwards in the rows of sample `s`, whose first pixel has this sample at `start`. The
+/// edge runs through the rows from `first` to before `end`, and counts as one in its own direction if `forward`, else in
+/// the opposite one.
 #[inline(always)]
-pub(crate) fn short_columns(edge: &Edge, starts: &Starts, part: usize, first: &[i32; 4]) -> [i32; 4]
+pub(crate) fn plot_short_sample(
+    flags: &mut [Flags],
+    counters: &mut [Counters],
+    rule: Rule,
+    edge: &Edge,
+    forward: bool,
+    s: usize,
+    start: Point,
+    first: i32,
+    end: i32,
+)
     requires short { IsShortEdge edge.now }
-    requires part { part < parts_of starts.now.strip.count }
-    requires first { AreFirstRows starts.now.strip part edge.now.a.y first.now }
-    ensures columns { (s : ℕ) → s < 4 → IsShortColumn edge.now (start_of starts.now.strip (4 * part + s))
-        (slice_index_or first.now s (pos 0)) (slice_index_or result s (pos 0)) }
-    ensures near { (s : ℕ) → s < 4 → IsWithin (2 ^ 18) (slice_index_or result s (pos 0)) }
+    requires runs_down { edge.now.a.y ≤ℤ edge.now.b.y }
+    requires sample { s < 4 }
+    requires counters { HasCounters rule flags.old counters.old }
+    requires first { IsFirstPixel start.y edge.now.a.y first }
+    requires end { IsFirstPixel start.y edge.now.b.y end }
+    ensures { IsAdded rule s 0 64 (added_by edge.now forward start) flags.old counters.old flags.new counters.new }
 {
-    let from = 4 * part;
-    [
-        short_column(edge, starts.of(from), first[0]),
-        short_column(edge, starts.of(from + 1), first[1]),
-        short_column(edge, starts.of(from + 2), first[2]),
-        short_column(edge, starts.of(from + 3), first[3]),
-    ]
+    if is_row_crossed(first, end) {
+        let column = short_column(edge, start, first);
+        cross(
+            flags,
+            counters,
+            rule,
+            s,
+            first as usize,
+            i64::from(column),
+            forward,
+        );
+    }
 }

@@ -1,23 +1,24 @@
 //! Where the samples of a strip begin.
 ghost use Rattle.std.specs.Prelude.{◌≡◌, ℕ, ◌<◌, pos, slice_index_or};
 ghost use Rattle.grid.specs.Position.{IsInBand};
-ghost use Rattle.grid.specs.Samples.{parts_of};
+ghost use Rattle.grid.specs.Samples.{count_of, parts_of};
 ghost use Rattle.polygons.specs.Strip.{start_of, AreFirstRows};
 
 use crate::pixels::first_pixel;
 use crate::strip::Strip;
 use grid::Point;
 
-/// A strip, and where its first pixel has each sample, or its corner at an index that no sample has. These places are looked up once a strip, since an edge that is
+/// A strip, and where its first pixel has each sample. These places are looked up once a strip, since an edge that is
 /// shorter than a pixel costs little more than looking them up.
 #[derive(Clone, Copy, Debug)]
 pub(crate) struct Starts {
     pub strip: Strip,
     points: [Point; 16],
     heights: [i32; 16],
-    pub ghost held: { (s : ℕ) → s < 16 →
+    pub ghost held: { (s : ℕ) → s < count_of strip.count →
         slice_index_or points s (record { x = pos 0; y = pos 0 }) ≡ start_of strip s },
-    pub ghost level: { (s : ℕ) → s < 16 → slice_index_or heights s (pos 0) ≡ (start_of strip s).y },
+    pub ghost level: { (s : ℕ) → s < count_of strip.count →
+        slice_index_or heights s (pos 0) ≡ (start_of strip s).y },
     pub ghost in_band: { (s : ℕ) → s < 16 → IsInBand (slice_index_or heights s (pos 0)) },
 }
 
@@ -26,9 +27,8 @@ impl Starts {
     pub(crate) fn new(strip: &Strip) -> Starts
         ensures { result.strip ≡ strip.now }
     {
-        let corner = strip.corner();
-        let mut points = [corner; 16];
-        let mut heights = [corner.y(); 16];
+        let mut points = [strip.start(0); 16];
+        let mut heights = [0; 16];
         for s in 0..strip.count.count() {
             let start = strip.start(s);
             points[s as usize] = start;
@@ -41,17 +41,16 @@ impl Starts {
         }
     }
 
-    /// Where sample `s` lies in the first pixel, or its corner.
+    /// Where sample `s` lies in the first pixel.
     #[inline(always)]
     pub(crate) fn of(&self, s: usize) -> Point
-        requires { s < 16 }
+        requires { s < count_of self.now.strip.count }
         ensures { result ≡ start_of self.now.strip s }
     {
         self.points[s]
     }
 
-    /// Of four samples, from those of a part on, the first row that is not above the height `y`. All four are found at
-    /// once.
+    /// Of each sample of a part, the first row that is not above the height `y`. All four are found at once.
     #[inline(always)]
     pub(crate) fn rows(&self, part: usize, y: i32) -> [i32; 4]
         requires part { part < parts_of self.now.strip.count }

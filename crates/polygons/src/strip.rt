@@ -19,13 +19,6 @@ pub struct Strip {
 }
 
 impl Strip {
-    /// Where the upper left corner of the first pixel lies.
-    pub(crate) fn corner(&self) -> Point
-        ensures { result ≡ record { x = pos 256 *ℤ self.now.column; y = pos 256 *ℤ self.now.row } }
-    {
-        point_at(place(self.column, 0), place(self.row, 0))
-    }
-
     /// Where sample `s` of the first pixel lies.
     pub fn start(&self, s: u32) -> Point
         requires { s < count_of self.now.count }

@@ -29,12 +29,12 @@ plot_sample-requires-clause-in_band c = (rw c.y.ensures.value at c.y.ensures.in_
 
 pub plot_sample-requires-clause-first : goal.plot_sample-requires-clause-first
 plot_sample-requires-clause-first c =
-    row_passed c.args.starts.now.strip c.args.part c.loop-s.s _ _ _ c.of-start.ensures (few _ _ _ c.loop-s-test.true c.part_size-s-end.ensures (part_small c.args.starts.now.strip.count))
+    row_passed c.args.starts.now.strip c.args.part c.loop-s.s _ _ _ c.of-start.ensures (omega (arith, c.loop-s-test.true, c.part_size-s-end.ensures))
     (rows_read _ _ _ _ _ c.y.ensures.in_band c.y.ensures.value c.rows-first.ensures)
 
 pub plot_sample-requires-clause-end : goal.plot_sample-requires-clause-end
 plot_sample-requires-clause-end c =
-    row_passed c.args.starts.now.strip c.args.part c.loop-s.s _ _ _ c.of-start.ensures (few _ _ _ c.loop-s-test.true c.part_size-s-end.ensures (part_small c.args.starts.now.strip.count))
+    row_passed c.args.starts.now.strip c.args.part c.loop-s.s _ _ _ c.of-start.ensures (omega (arith, c.loop-s-test.true, c.part_size-s-end.ensures))
     (rows_read _ _ _ _ _ c.y-2.ensures.in_band c.y-2.ensures.value c.rows-end.ensures)
 
 pub loop-s-init : goal.loop-s-init

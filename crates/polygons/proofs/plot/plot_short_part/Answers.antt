@@ -19,7 +19,7 @@ returns-then-not-is_any_crossed c =
     let end = rows_read strip part _ e.b.y _ c.y-2.ensures.in_band c.y-2.ensures.value c.rows-end.ensures in
     part_unchanged strip part _ cells
     (part_nowhere cells.rule strip part _ _ _ (λ s row k h l _.
-    signed_none c.args.forward _ (none_crossed e (start_of strip (4 * part + s)) _ _ c.requires.short c.requires.runs_down (first.first s (omega (arith, h, part_small strip.count))) (end.first s (omega (arith, h, part_small strip.count)))
+    signed_none c.args.forward _ (none_crossed e (start_of strip (4 * part + s)) _ _ c.requires.short c.requires.runs_down (first.first s h) (end.first s h)
     (λ crossed. either c.is_any_crossed.result c.if-not-is_any_crossed.true (c.is_any_crossed.ensures s (omega (arith, h, part_small strip.count)) crossed)) row k l)))
 
 pub returns : goal.returns

@@ -92,12 +92,6 @@ next32 n h = omega (arith, ints)
 same32 : (n : ℤ) → IsWithin (2 ^ 17) n → to_z w32 (of_z w32 n) ≡ n
 same32 n h = omega (arith, ints)
 
-next_near : (n : ℤ) → IsWithin (2 ^ 17) n → IsWithin (2 ^ 18) (n +ℤ pos 1)
-next_near n h = record { low = omega (arith, ints); high = omega (arith, ints) }
-
-same_near : (n : ℤ) → IsWithin (2 ^ 17) n → IsWithin (2 ^ 18) n
-same_near n h = record { low = omega (arith, ints); high = omega (arith, ints) }
-
 pub returns-then-across-along : goal.returns-then-across-along
 returns-then-across-along c =
     let e = c.args.edge.now in
@@ -116,7 +110,7 @@ returns-then-across-along c =
     let z = moved32 _ _ _ y.in_band row t.in_band ∙ (λ i. (y.value i +ℤ pos 256 *ℤ c.args.row) -ℤ t.value i) in
     let s = sides e p n _ _ _ _ _ _ u v w z c.product-across.ensures.value c.product-along.ensures.value in
     let less : m <ℤ k = let i = c.if-across-along.true in let f = c.product-across.ensures.size in let g = c.product-along.ensures.size in omega (arith, ints) in
-    rw (next32 n r) (record { column = λ height. next_column e p n c.requires.short height first (over _ m k s less); near = next_near n r })
+    rw (next32 n r) (next_column e p n c.requires.short c.requires.through first (over _ m k s less))
 
 pub returns-else-across-along : goal.returns-else-across-along
 returns-else-across-along c =
@@ -136,4 +130,4 @@ returns-else-across-along c =
     let z = moved32 _ _ _ y.in_band row t.in_band ∙ (λ i. (y.value i +ℤ pos 256 *ℤ c.args.row) -ℤ t.value i) in
     let s = sides e p n _ _ _ _ _ _ u v w z c.product-across.ensures.value c.product-along.ensures.value in
     let most : k ≤ℤ m = let i = c.if-across-along.false in let f = c.product-across.ensures.size in let g = c.product-along.ensures.size in omega (arith, ints) in
-    rw (same32 n r) (record { column = λ height. this_column e p n height first (at_most _ m k s most); near = same_near n r })
+    rw (same32 n r) (this_column e p n c.requires.through first (at_most _ m k s most))

@@ -39,7 +39,5 @@ loop-s-preserved c =
       heights_len = length-set c.loop-s.heights s (to_z w32 (of_z w32 c.y.result)) ∙ v.heights_len;
       held = one_more (λ i (p : Position). p ≡ start_of strip i) c.loop-s.points s _ _ (omega (arith, small, v.points_len)) v.held c.start-start.ensures;
       level = one_more (λ i z. z ≡ (start_of strip i).y) c.loop-s.heights s _ _ (omega (arith, small, v.heights_len)) v.level height;
-      held_rest = λ i h l. get_or-set_other c.loop-s.points s i c.start-start.result _ (λ e. omega (arith, e, h)) ∙ v.held_rest i (omega (arith, h)) l;
-      level_rest = λ i h l. get_or-set_other c.loop-s.heights s i (to_z w32 (of_z w32 c.y.result)) _ (λ e. omega (arith, e, h)) ∙ v.level_rest i (omega (arith, h)) l;
       in_band = λ i h. replaced IsInBand c.loop-s.heights s _ _ (omega (arith, small, v.heights_len)) (kept _ y.in_band) i (v.in_band i h);
     }

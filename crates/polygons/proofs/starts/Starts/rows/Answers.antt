@@ -3,11 +3,12 @@ use Rattle.std.proofs.lemmas.Int.{ints}
 use Rattle.grid.specs.Bounds.{IsWithin}
 use Rattle.grid.specs.Position.{IsInBand}
 use Rattle.grid.proofs.Bounds.{passed}
-use Rattle.grid.specs.Samples.{parts_of}
+use Rattle.grid.specs.Samples.{part_size, parts_of}
 use Rattle.polygons.specs.declared.starts.Starts.{Starts}
 use Rattle.polygons.specs.Pixels.{IsFirstPixel}
 use Rattle.polygons.specs.Strip.{start_of}
-use Rattle.polygons.proofs.Samples.{few_parts}
+use Rattle.polygons.proofs.Plotted.{part_small}
+use Rattle.polygons.proofs.Samples.{few_parts, in_part}
 use Rattle.polygons.proofs.ShortEdges.{column_range}
 use Rattle.polygons.proofs.starts.Starts.rows.Goals as goal
 
@@ -36,8 +37,8 @@ module _ (self : Starts) (part : ℕ) (h : part < parts_of self.strip.count) whe
     near_row : IsWithin (2 ^ 17) (to_z w32 (of_z w32 n))
     near_row = near _ _ _ (height s l) k first
 
-    first_row : IsFirstPixel (start_of self.strip (4 * part + s)).y y (to_z w32 (of_z w32 n))
-    first_row = first_is _ _ _ _ (self.level (4 * part + s) (few_parts self.strip.count part s h l)) (height s l) k first
+    first_row : s < part_size self.strip.count → IsFirstPixel (start_of self.strip (4 * part + s)).y y (to_z w32 (of_z w32 n))
+    first_row m = first_is _ _ _ _ (self.level (4 * part + s) (in_part self.strip.count part s h m)) (height s l) k first
 
 pub first_pixel-requires-2-clause-start : goal.first_pixel-requires-2-clause-start
 first_pixel-requires-2-clause-start c = in_band _ (height c.args.self.now c.args.part c.requires.part 1 (lit< tt))
@@ -64,9 +65,9 @@ returns c = record { near = near_rows; first = first_rows }
     near_rows (suc (suc (suc zero))) l = near_row c.args.self.now c.args.part c.requires.part _ _ 3 l c.requires.y c.first_pixel-4.ensures
     near_rows (suc (suc (suc (suc s)))) l = absurd (omega arith)
 
-    first_rows : (s : ℕ) → s < 4 → IsFirstPixel (start_of c.args.self.now.strip (4 * c.args.part + s)).y c.args.y (slice_index_or (to_z w32 (of_z w32 c.first_pixel.result) ∷ to_z w32 (of_z w32 c.first_pixel-2.result) ∷ to_z w32 (of_z w32 c.first_pixel-3.result) ∷ to_z w32 (of_z w32 c.first_pixel-4.result) ∷ []) s (pos 0))
-    first_rows zero l = first_row c.args.self.now c.args.part c.requires.part _ _ 0 l c.requires.y first_of
-    first_rows (suc zero) l = first_row c.args.self.now c.args.part c.requires.part _ _ 1 l c.requires.y c.first_pixel-2.ensures
-    first_rows (suc (suc zero)) l = first_row c.args.self.now c.args.part c.requires.part _ _ 2 l c.requires.y c.first_pixel-3.ensures
-    first_rows (suc (suc (suc zero))) l = first_row c.args.self.now c.args.part c.requires.part _ _ 3 l c.requires.y c.first_pixel-4.ensures
-    first_rows (suc (suc (suc (suc s)))) l = absurd (omega arith)
+    first_rows : (s : ℕ) → s < part_size c.args.self.now.strip.count → IsFirstPixel (start_of c.args.self.now.strip (4 * c.args.part + s)).y c.args.y (slice_index_or (to_z w32 (of_z w32 c.first_pixel.result) ∷ to_z w32 (of_z w32 c.first_pixel-2.result) ∷ to_z w32 (of_z w32 c.first_pixel-3.result) ∷ to_z w32 (of_z w32 c.first_pixel-4.result) ∷ []) s (pos 0))
+    first_rows zero l = first_row c.args.self.now c.args.part c.requires.part _ _ 0 (lit< tt) c.requires.y first_of l
+    first_rows (suc zero) l = first_row c.args.self.now c.args.part c.requires.part _ _ 1 (lit< tt) c.requires.y c.first_pixel-2.ensures l
+    first_rows (suc (suc zero)) l = first_row c.args.self.now c.args.part c.requires.part _ _ 2 (lit< tt) c.requires.y c.first_pixel-3.ensures l
+    first_rows (suc (suc (suc zero))) l = first_row c.args.self.now c.args.part c.requires.part _ _ 3 (lit< tt) c.requires.y c.first_pixel-4.ensures l
+    first_rows (suc (suc (suc (suc s)))) l = absurd (let m = part_small c.args.self.now.strip.count in omega arith)
