@@ -17,6 +17,9 @@ pub mod Changes
 pub mod Outside
 pub mod Columns
 pub mod ShortEdges
+pub mod Sixteen
+pub mod LowestBit
+pub mod ShortRows
 pub mod Division
 pub mod Exact
 pub mod Parity

@@ -3,6 +3,8 @@ use Rattle.std.proofs.Common.{◌≡◌, inl, inr, refl, sym, subst, ap, ◌∙�
 use Rattle.std.proofs.lemmas.Int.{ints}
 use Rattle.std.proofs.lemmas.Bool.{cases_eq, cases_lt}
 use Rattle.std.proofs.lemmas.List.{length-take}
+use Rattle.std.proofs.lemmas.Nat.Bits.{bit_at-zero}
+use Rattle.std.specs.Int.{bit_at}
 use Rattle.grid.specs.Position.{Position, IsInBand}
 use Rattle.grid.proofs.Ring.{var, plus, times, ring}
 use Rattle.grid.specs.Samples.{part_size}
@@ -184,6 +186,58 @@ all_samples rule strip part change n f c f' c' all v = record {
   counters_len = v.counters_len;
   totals = λ s row k x y z. v.done s row k (omega arith) (let few = part_small strip.count in omega arith) y z;
   marked = v.marked;
+}
+
+-- ---- the samples of a part of a strip whose bits are set, from the lowest on
+-- what holds while those of `rest` are left
+pub record AreSamplesLeft (rule : Rule) (strip : Strip) (part : ℕ) (change : Position → ℤ) (rest : ℕ) (f c f' c' : List (List ℕ)) : Type 0 where
+  pub flags_len : length f' ≡ length f
+  pub counters_len : length c' ≡ length c
+  pub done : (s row k : ℕ) → s < part_size strip.count → bit_at rest s ≡ 0 → row < 64 → k < 8 * length f → IsAlike (modulus rule) (running_sum rule f' c' s row k) (running_sum rule f c s row k +ℤ change (strip_sample strip (4 * part + s) row k))
+  pub left : (s row k : ℕ) → s < 4 → bit_at rest s ≡ 1 → row < 64 → running_sum rule f' c' s row k ≡ running_sum rule f c s row k
+  pub kept : rule ≡ EvenOdd → c' ≡ c
+  pub marked : AreMarked rule f c → AreMarked rule f' c'
+
+pub all_left : (rule : Rule) (strip : Strip) (part : ℕ) (change : Position → ℤ) (rest : ℕ) (f c : List (List ℕ))
+    → ((s row k : ℕ) → s < part_size strip.count → bit_at rest s ≡ 0 → row < 64 → change (strip_sample strip (4 * part + s) row k) ≡ pos 0) → AreSamplesLeft rule strip part change rest f c f c
+all_left rule strip part change rest f c none = record {
+  flags_len = refl;
+  counters_len = refl;
+  done = λ s row k x y h i. alike_none (modulus rule) _ _ _ refl (none s row k x y h);
+  left = λ s row k x y h. refl;
+  kept = λ e. refl;
+  marked = λ h. h;
+}
+
+pub one_sample_less : (rule : Rule) (strip : Strip) (part : ℕ) (change : Position → ℤ) (rest n rest' : ℕ) (number : ℕ → ℕ → ℤ) (f c f' c' f'' c'' : List (List ℕ)) → n < 4 → bit_at rest n ≡ 1
+    → ((s : ℕ) → s < 4 → (s ≡ n → ⊥) → bit_at rest' s ≡ bit_at rest s) → bit_at rest' n ≡ 0
+    → ((row k : ℕ) → number row k ≡ change (strip_sample strip (4 * part + n) row k)) → AreSamplesLeft rule strip part change rest f c f' c' → IsAdded rule n 0 64 number f' c' f'' c''
+    → AreSamplesLeft rule strip part change rest' f c f'' c''
+one_sample_less rule strip part change rest n rest' number f c f' c' f'' c'' n_small set others cleared is v p = record {
+  flags_len = p.flags_len ∙ v.flags_len;
+  counters_len = p.counters_len ∙ v.counters_len;
+  done = λ s row k x y h i. let few = part_small strip.count in let small : s < 4 = omega (arith, x, few) in elim (cases_eq s n) [
+    | inl q ↦
+        let a = p.here row k (omega arith) h (let l = v.flags_len in omega arith) in
+        let at_n = alike_from (modulus rule) _ _ _ _ _ _ refl (v.left n row k n_small set h) (is row k) a in
+        subst (λ (j : ℕ). IsAlike (modulus rule) (running_sum rule f'' c'' j row k) (running_sum rule f c j row k +ℤ change (strip_sample strip (4 * part + j) row k))) (sym q) at_n
+    | inr q ↦ alike_moved (modulus rule) _ _ _ (sym (p.others s row k small h (λ z _ _. q z))) (v.done s row k x (sym (others s small q) ∙ y) h i)
+  ];
+  left = λ s row k x y h. elim (cases_eq s n) [
+    | inl q ↦ absurd (let e = ap (bit_at rest') q in omega arith)
+    | inr q ↦ p.others s row k x h (λ z _ _. q z) ∙ v.left s row k x (sym (others s x q) ∙ y) h
+  ];
+  kept = λ e. p.kept e ∙ v.kept e;
+  marked = λ h. p.marked (v.marked h);
+}
+
+pub none_left_of : (rule : Rule) (strip : Strip) (part : ℕ) (change : Position → ℤ) (rest : ℕ) (f c f' c' : List (List ℕ)) → rest ≡ 0 → AreSamplesLeft rule strip part change rest f c f' c' → IsPlotted rule strip part change f c f' c'
+none_left_of rule strip part change rest f c f' c' none v = record {
+  flags_len = v.flags_len;
+  counters_len = v.counters_len;
+  totals = λ s row k x y z. v.done s row k x (ap (λ n. bit_at n s) none ∙ bit_at-zero s) y z;
+  marked = v.marked;
+  kept = v.kept;
 }
 
 -- ---- what is added to a part

@@ -1,5 +1,6 @@
 -- The first column at which a short edge is crossed.
-use Rattle.std.proofs.Common.{◌≡◌, inl, inr, refl, sym, subst, arith, ℕ, ◌+◌, ◌*◌, ◌<◌, nat_abs, ◌^◌, List, [], ◌∷◌, slice_index_or, ℤ, pos, negsuc, ◌+ℤ◌, ◌-ℤ◌, ◌*ℤ◌, neg_ℤ, ◌<ℤ◌, ◌≤ℤ◌, w32, to_z, of_z}
+use Rattle.std.proofs.Common.{◌≡◌, inl, inr, refl, sym, subst, arith, ℕ, ◌+◌, ◌*◌, ◌<◌, ◌≤◌, nat_abs, ◌^◌, List, [], ◌∷◌, slice_index_or, ℤ, pos, negsuc, ◌+ℤ◌, ◌-ℤ◌, ◌*ℤ◌, neg_ℤ, ◌<ℤ◌, ◌≤ℤ◌, w32, to_z, of_z}
+use Rattle.std.proofs.lemmas.Bool.{cases_lt}
 use Rattle.std.proofs.lemmas.Int.{ints, clamps}
 use Rattle.std.specs.Int.{int_div_euclid, int_min}
 use Rattle.grid.specs.Bounds.{IsWithin}
@@ -14,7 +15,8 @@ use Rattle.polygons.specs.Blocks.{down}
 use Rattle.polygons.specs.Columns.{along, HasHeight, IsFirstColumn}
 use Rattle.polygons.specs.Rows.{direction}
 use Rattle.polygons.specs.Pixels.{IsFirstPixel}
-use Rattle.polygons.specs.Short.{IsShortEdge, IsRowCrossed}
+use Rattle.polygons.specs.Short.{IsShortEdge}
+use Rattle.polygons.specs.Crossed.{IsMissed}
 use Rattle.polygons.specs.Strip.{start_of, AreFirstRows}
 use Rattle.polygons.proofs.Columns.{side-along, is_first_column, between, at_right, at_left}
 use Rattle.polygons.proofs.Division.{division}
@@ -73,54 +75,31 @@ next_column e p c short height first here =
 pub column_range : (start to n : ℤ) → IsInBand start → IsInBand to → IsFirstPixel start to n → IsWithin (2 ^ 17) n
 column_range start to n h k first = let r = first.reached in let f = first.first in record { low = omega (arith, ints); high = omega (arith, ints) }
 
-pub moved32 : (s n a : ℤ) → IsInBand s → IsWithin (2 ^ 17) n → IsInBand a
-    → to_z w32 (of_z w32 (to_z w32 (of_z w32 (to_z w32 (of_z w32 s) +ℤ to_z w32 (of_z w32 (pos 256 *ℤ to_z w32 (of_z w32 n))))) -ℤ to_z w32 (of_z w32 a))) ≡ (s +ℤ pos 256 *ℤ n) -ℤ a
-moved32 s n a h k l = omega (arith, ints)
-
-pub least_is : (m a b : ℤ) → m ≡ int_min (to_z w32 (of_z w32 a)) (to_z w32 (of_z w32 b)) → IsInBand a → IsInBand b → to_z w32 (of_z w32 m) ≡ int_min a b
-least_is m a b e h k =
-    let u : to_z w32 (of_z w32 a) ≡ a = omega (arith, ints) in
-    let v : to_z w32 (of_z w32 b) ≡ b = omega (arith, ints) in
-    of_least m a b (rw (u, v) at e) h k
-  where
-    of_least : (m a b : ℤ) → m ≡ int_min a b → IsInBand a → IsInBand b → to_z w32 (of_z w32 m) ≡ int_min a b
-    of_least m a b e h k = omega (arith, ints, clamps)
-
-pub least_in_band : (a b : ℤ) → IsInBand a → IsInBand b → IsInBand (int_min a b)
-least_in_band a b h k = record { low = omega (arith, ints, clamps); high = omega (arith, ints, clamps) }
-
 -- ---- the rows of one sample
 pub not_negative : (z : ℤ) → pos 0 ≤ℤ z → pos (nat_abs z) ≡ z
 not_negative (pos n) h = refl
 not_negative (negsuc n) h = absurd (omega (arith, ints))
 
-pub row_number : (first end : ℤ) → IsRowCrossed first end → pos (nat_abs (to_z w32 (of_z w32 first))) ≡ first
-row_number first end crossed =
-    let t = crossed.top in let b = crossed.bottom in
-    let same : to_z w32 (of_z w32 first) ≡ first = omega (arith, ints) in
-    rw same (not_negative first t)
-
-pub row_through : (e : Edge) (start first end : ℤ) → IsFirstPixel start e.a.y first → IsFirstPixel start e.b.y end → IsRowCrossed first end → HasHeight e (start +ℤ pos 256 *ℤ first)
-row_through e start first end a b crossed =
-    let s = crossed.some in let f = b.first in
-    record { top = a.reached; bottom = omega (arith, ints) }
-
-pub row_above : (e : Edge) (start : Position) (first : ℤ) → e.a.y ≤ℤ e.b.y → IsFirstPixel start.y e.a.y first → (row k : ℕ) → pos row <ℤ first → direction e (along (down start row) (pos k)) ≡ pos 0
-row_above e start first runs_down a row k h = let f = a.first in direction_above e (down start row) (pos k) runs_down (omega (arith, ints))
-
-pub row_below : (e : Edge) (start : Position) (first : ℤ) → IsShortEdge e → e.a.y ≤ℤ e.b.y → IsFirstPixel start.y e.a.y first → (row k : ℕ) → first <ℤ pos row → direction e (along (down start row) (pos k)) ≡ pos 0
-row_below e start first short runs_down a row k h = let r = a.reached in let d = short.down in direction_below e (down start row) (pos k) runs_down (omega (arith, ints))
-
-pub none_crossed : (e : Edge) (start : Position) (first end : ℤ) → IsShortEdge e → e.a.y ≤ℤ e.b.y → IsFirstPixel start.y e.a.y first → IsFirstPixel start.y e.b.y end → (IsRowCrossed first end → ⊥)
-    → (row k : ℕ) → row < 64 → direction e (along (down start row) (pos k)) ≡ pos 0
-none_crossed e start first end short runs_down a b none row k h = elim (under_or_at_least (pos row -ℤ first)) [
-  | inl l ↦ row_above e start first runs_down a row k (omega (arith, ints))
-  | inr l ↦ elim (under_or_at_least (first -ℤ pos row)) [
-    | inl m ↦ row_below e start first short runs_down a row k (omega (arith, ints))
-    | inr m ↦ elim (under_or_at_least (pos row -ℤ end)) [
-      | inl o ↦ absurd (none (record { some = omega (arith, ints); top = omega (arith, ints); bottom = omega (arith, ints) }))
-      | inr o ↦ let r = b.reached in direction_below e (down start row) (pos k) runs_down (omega (arith, ints))
+-- the rows that the edge does not run through
+pub other_row : (e : Edge) (start : Position) (row j k : ℕ) → IsShortEdge e → e.a.y ≤ℤ e.b.y → HasHeight e (down start row).y → (j ≡ row → ⊥) → direction e (along (down start j) (pos k)) ≡ pos 0
+other_row e start row j k short runs_down through other =
+    let t = through.top in
+    let b = through.bottom in
+    let s = short.down in
+    elim (cases_lt j row) [
+      | inl l ↦ direction_above e (down start j) (pos k) runs_down (omega (arith, ints))
+      | inr l ↦ let m = beyond row j l other in direction_below e (down start j) (pos k) runs_down (omega (arith, ints))
     ]
+  where
+    beyond : (row j : ℕ) → row ≤ j → (j ≡ row → ⊥) → row < j
+    beyond row j l other = elim (cases_lt row j) [ inl m ↦ m | inr m ↦ absurd (other (omega arith)) ]
+
+pub missed_row : (e : Edge) (start : Position) (row k : ℕ) → e.a.y ≤ℤ e.b.y → IsMissed e start → row < 64 → direction e (along (down start row) (pos k)) ≡ pos 0
+missed_row e start row k runs_down missed h = elim (under_or_at_least ((down start row).y -ℤ e.a.y)) [
+  | inl l ↦ direction_above e (down start row) (pos k) runs_down (omega (arith, ints))
+  | inr l ↦ elim (under_or_at_least ((down start row).y -ℤ e.b.y)) [
+    | inl m ↦ absurd (missed row h (record { top = omega (arith, ints); bottom = omega (arith, ints) }))
+    | inr m ↦ direction_below e (down start row) (pos k) runs_down (omega (arith, ints))
   ]
 ]
 

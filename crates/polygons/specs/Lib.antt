@@ -78,9 +78,8 @@
 --   IsFirstPixel: Of the coordinates whole pixels from `start`, the one n pixels behind it is the first that is not before `to`.
 --
 -- Short.antt
---   IsShortEdge: The edge is at most a pixel wide and a pixel high.
+--   IsShortEdge: The edge is less than a pixel wide and at most a pixel high.
 --   AreNearRows: Each of four rows is at most 2 ^ 17 rows away.
---   IsRowCrossed: Of rows from `first` to before `end`, the first one is a row of a strip.
 --
 -- Rows.antt
 --   parity: Whether an odd number of the first n flags are set: 1 or 0.
@@ -104,6 +103,11 @@
 --   start_of: Where the first pixel of a strip has sample s.
 --   strip_sample: Where the pixel in a row and a column of a strip has sample s.
 --   AreFirstRows: Of each sample of a part, the first row of a strip that is not above the height y.
+--
+-- Crossed.antt
+--   IsCrossedFrom: The edge runs through this row of a strip at a sample whose place in the first pixel is `start`, and from this column on it is crossed.
+--   IsMissed: The edge runs through no row of a strip at that sample.
+--   AreCrossed: The bits tell at which samples of a strip the edge runs through a row, and the numbers tell where.
 --
 -- Apart.antt
 --   IsAbove: Both ends are at the upper border of the strip, or above it.
@@ -187,6 +191,7 @@ pub mod Blocks
 pub mod ManyRows
 pub mod Screen
 pub mod Strip
+pub mod Crossed
 pub mod Apart
 pub mod Runs
 pub mod Cells

@@ -21,6 +21,8 @@ mod rings;
 mod rule;
 mod runs;
 mod short;
+mod short_crossings;
+mod short_lanes;
 mod slope;
 mod starts;
 mod strip;

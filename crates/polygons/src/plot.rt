@@ -8,6 +8,7 @@ ghost use Rattle.polygons.specs.Columns.{HasHeight, IsSlope};
 ghost use Rattle.polygons.specs.Crossing.{winding};
 ghost use Rattle.polygons.specs.Pixels.{IsFirstPixel};
 ghost use Rattle.polygons.specs.Short.{IsShortEdge};
+ghost use Rattle.polygons.specs.Crossed.{AreCrossed};
 ghost use Rattle.polygons.specs.Polygon.{path_edges, path_end, ring_edges};
 ghost use Rattle.polygons.specs.Rings.{position_of, end_of, AreCornersInBand};
 ghost use Rattle.polygons.specs.Runs.{corner_at, corners_between, AreRunsOf, IsCrossedAsChord};
@@ -23,7 +24,8 @@ use crate::edge::Edge;
 use crate::rings::Rings;
 use crate::rule::Rule;
 use crate::runs::Runs;
-use crate::short::{is_any_crossed, is_short, plot_short_sample};
+use crate::short::is_short;
+use crate::short_crossings::ShortCrossings;
 use crate::slope::Slope;
 use crate::starts::Starts;
 use crate::strip::{Strip, point_at};
@@ -98,8 +100,7 @@ fn plot_rows(
     }
 }
 
-/// Marks where a short edge is crossed by samples of each index of a part, by the first rows that are not above its
-/// ends.
+/// Marks where a short edge is crossed by samples of each index of a part.
 #[inline(always)]
 fn plot_short_samples(
     flags: &mut [Flags],
@@ -109,41 +110,43 @@ fn plot_short_samples(
     forward: bool,
     starts: &Starts,
     part: usize,
-    first: &[i32; 4],
-    end: &[i32; 4],
+    crossings: &ShortCrossings,
 )
     requires short { IsShortEdge edge.now }
     requires runs_down { edge.now.a.y ≤ℤ edge.now.b.y }
     requires part { part < parts_of starts.now.strip.count }
     requires counters { HasCounters rule flags.old counters.old }
-    requires first { AreFirstRows starts.now.strip part edge.now.a.y first.now }
-    requires end { AreFirstRows starts.now.strip part edge.now.b.y end.now }
+    requires crossings { AreCrossed starts.now.strip edge.now crossings.now }
     ensures { IsPlotted rule starts.now.strip part (λ p. signed forward (direction edge.now p)) flags.old counters.old
         flags.new counters.new }
 {
-    for s in 0..starts.strip.count.part_size() {
-        let s = s as usize;
-        let start = starts.of(4 * part + s);
-        plot_short_sample(
-            flags, counters, rule, edge, forward, s, start, first[s], end[s],
-        );
+    let mut rest = crossings.bits >> (4 * part) & 15;
+    while rest != 0 {
+        let s = rest.trailing_zeros() as usize;
+        let row = crossings.row(4 * part + s);
+        let column = crossings.column(4 * part + s);
+        cross(flags, counters, rule, s, row, column, forward);
+        rest &= rest - 1;
     }
 }
 
 /// Marks where a short edge is crossed by samples of a part.
 #[inline(always)]
-fn plot_short_part(cells: &mut Cells<'_>, edge: &Edge, forward: bool, starts: &Starts, part: usize)
+fn plot_short_part(
+    cells: &mut Cells<'_>,
+    edge: &Edge,
+    forward: bool,
+    starts: &Starts,
+    part: usize,
+    crossings: &ShortCrossings,
+)
     requires short { IsShortEdge edge.now }
     requires runs_down { edge.now.a.y ≤ℤ edge.now.b.y }
     requires part { part < parts_of starts.now.strip.count }
     requires room { HasParts starts.now.strip cells.old }
+    requires crossings { AreCrossed starts.now.strip edge.now crossings.now }
     ensures { IsPartPlotted starts.now.strip part (λ p. signed forward (direction edge.now p)) cells.old cells.new }
 {
-    let first = starts.rows(part, edge.a.y());
-    let end = starts.rows(part, edge.b.y());
-    if !is_any_crossed(&first, &end) {
-        return;
-    }
     let from = part * cells.flagged;
     let counted = part * cells.counted;
     plot_short_samples(
@@ -154,8 +157,7 @@ fn plot_short_part(cells: &mut Cells<'_>, edge: &Edge, forward: bool, starts: &S
         forward,
         starts,
         part,
-        &first,
-        &end,
+        crossings,
     );
 }
 
@@ -173,8 +175,12 @@ fn plot_short<const PARTS: usize>(
     requires room { HasParts starts.now.strip cells.old }
     ensures { ArePlotted starts.now.strip (λ p. signed forward (direction edge.now p)) cells.old cells.new }
 {
+    let crossings = ShortCrossings::of(edge, starts);
+    if crossings.bits == 0 {
+        return;
+    }
     for part in 0..PARTS {
-        plot_short_part(cells, edge, forward, starts, part);
+        plot_short_part(cells, edge, forward, starts, part, &crossings);
     }
 }
 
