@@ -193,9 +193,8 @@ all_samples rule strip part change n f c f' c' all v = record {
 pub record AreSamplesLeft (rule : Rule) (strip : Strip) (part : ℕ) (change : Position → ℤ) (rest : ℕ) (f c f' c' : List (List ℕ)) : Type 0 where
   pub flags_len : length f' ≡ length f
   pub counters_len : length c' ≡ length c
-  pub done : (s row k : ℕ) → s < part_size strip.count → bit_at rest s ≡ 0 → row < 64 → k < 8 * length f → IsAlike (modulus rule) (running_sum rule f' c' s row k) (running_sum rule f c s row k +ℤ change (strip_sample strip (4 * part + s) row k))
-  pub left : (s row k : ℕ) → s < 4 → bit_at rest s ≡ 1 → row < 64 → running_sum rule f' c' s row k ≡ running_sum rule f c s row k
-  pub kept : rule ≡ EvenOdd → c' ≡ c
+  pub done : (s row k : ℕ) → s < part_size strip.count → bit_at rest s ≡ 0 → row < 64 → k < 8 * columns_in rule f c → IsAlike (modulus rule) (running_sum rule f' c' s row k) (running_sum rule f c s row k +ℤ change (strip_sample strip (4 * part + s) row k))
+  pub left : (s row k : ℕ) → s < 4 → bit_at rest s ≡ 1 → row < 64 → k < 8 * columns_in rule f c → running_sum rule f' c' s row k ≡ running_sum rule f c s row k
   pub marked : AreMarked rule f c → AreMarked rule f' c'
 
 pub all_left : (rule : Rule) (strip : Strip) (part : ℕ) (change : Position → ℤ) (rest : ℕ) (f c : List (List ℕ))
@@ -204,8 +203,7 @@ all_left rule strip part change rest f c none = record {
   flags_len = refl;
   counters_len = refl;
   done = λ s row k x y h i. alike_none (modulus rule) _ _ _ refl (none s row k x y h);
-  left = λ s row k x y h. refl;
-  kept = λ e. refl;
+  left = λ s row k x y h i. refl;
   marked = λ h. h;
 }
 
@@ -218,18 +216,20 @@ one_sample_less rule strip part change rest n rest' number f c f' c' f'' c'' n_s
   counters_len = p.counters_len ∙ v.counters_len;
   done = λ s row k x y h i. let few = part_small strip.count in let small : s < 4 = omega (arith, x, few) in elim (cases_eq s n) [
     | inl q ↦
-        let a = p.here row k (omega arith) h (let l = v.flags_len in omega arith) in
-        let at_n = alike_from (modulus rule) _ _ _ _ _ _ refl (v.left n row k n_small set h) (is row k) a in
+        let a = p.here row k (omega arith) h (inside k i) in
+        let at_n = alike_from (modulus rule) _ _ _ _ _ _ refl (v.left n row k n_small set h i) (is row k) a in
         subst (λ (j : ℕ). IsAlike (modulus rule) (running_sum rule f'' c'' j row k) (running_sum rule f c j row k +ℤ change (strip_sample strip (4 * part + j) row k))) (sym q) at_n
-    | inr q ↦ alike_moved (modulus rule) _ _ _ (sym (p.others s row k small h (λ z _ _. q z))) (v.done s row k x (sym (others s small q) ∙ y) h i)
+    | inr q ↦ alike_moved (modulus rule) _ _ _ (sym (p.others s row k small h (inside k i) (λ z _ _. q z))) (v.done s row k x (sym (others s small q) ∙ y) h i)
   ];
-  left = λ s row k x y h. elim (cases_eq s n) [
+  left = λ s row k x y h i. elim (cases_eq s n) [
     | inl q ↦ absurd (let e = ap (bit_at rest') q in omega arith)
-    | inr q ↦ p.others s row k x h (λ z _ _. q z) ∙ v.left s row k x (sym (others s x q) ∙ y) h
+    | inr q ↦ p.others s row k x h (inside k i) (λ z _ _. q z) ∙ v.left s row k x (sym (others s x q) ∙ y) h i
   ];
-  kept = λ e. p.kept e ∙ v.kept e;
   marked = λ h. p.marked (v.marked h);
 }
+  where
+    inside : (k : ℕ) → k < 8 * columns_in rule f c → k < 8 * columns_in rule f' c'
+    inside k l = let q = same_columns rule f c f' c' v.flags_len v.counters_len in omega arith
 
 pub none_left_of : (rule : Rule) (strip : Strip) (part : ℕ) (change : Position → ℤ) (rest : ℕ) (f c f' c' : List (List ℕ)) → rest ≡ 0 → AreSamplesLeft rule strip part change rest f c f' c' → IsPlotted rule strip part change f c f' c'
 none_left_of rule strip part change rest f c f' c' none v = record {
@@ -237,7 +237,6 @@ none_left_of rule strip part change rest f c f' c' none v = record {
   counters_len = v.counters_len;
   totals = λ s row k x y z. v.done s row k x (ap (λ n. bit_at n s) none ∙ bit_at-zero s) y z;
   marked = v.marked;
-  kept = v.kept;
 }
 
 -- ---- what is added to a part
