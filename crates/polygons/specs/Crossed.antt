@@ -10,7 +10,7 @@ use Rattle.polygons.specs.Blocks.{down}
 use Rattle.polygons.specs.Columns.{HasHeight, IsFirstColumn}
 use Rattle.polygons.specs.Strip.{start_of}
 
--- The edge runs through this row of a strip at a sample whose place in the first pixel is `start`, and from this column on it is crossed.
+-- The edge runs through this row of a strip at a sample, and from this column on it is crossed. The first pixel has the sample at `start`.
 pub record IsCrossedFrom (e : Edge) (start : Position) (row : ℕ) (column : ℤ) : Type 0 where
   pub within : row < 64
   pub through : HasHeight e (down start row).y

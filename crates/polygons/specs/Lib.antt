@@ -105,7 +105,7 @@
 --   AreFirstRows: Of each sample of a part, the first row of a strip that is not above the height y.
 --
 -- Crossed.antt
---   IsCrossedFrom: The edge runs through this row of a strip at a sample whose place in the first pixel is `start`, and from this column on it is crossed.
+--   IsCrossedFrom: The edge runs through this row of a strip at a sample, and from this column on it is crossed.
 --   IsMissed: The edge runs through no row of a strip at that sample.
 --   AreCrossed: The bits tell at which samples of a strip the edge runs through a row, and the numbers tell where.
 --

@@ -5,7 +5,6 @@ ghost use Rattle.grid.specs.Bounds.{IsWithin};
 ghost use Rattle.grid.specs.Position.{IsInBand};
 ghost use Rattle.polygons.specs.Screen.{IsPixelInBand};
 ghost use Rattle.polygons.specs.Short.{IsShortEdge};
-ghost use Rattle.polygons.specs.Crossed.{AreCrossed};
 
 use crate::edge::Edge;
 use crate::pixels::first_pixel;
@@ -81,6 +80,8 @@ pub(crate) struct ShortCrossings {
 }
 
 impl ShortCrossings {
+    ghost use Rattle.polygons.specs.Crossed.{AreCrossed};
+
     /// No crossings.
     #[inline(always)]
     fn none() -> ShortCrossings
