@@ -14,6 +14,7 @@ pub mod Filling
 pub mod Masks
 pub mod RunningSums
 pub mod Changes
+pub mod NoFlags
 pub mod Outside
 pub mod Columns
 pub mod ShortEdges

@@ -207,8 +207,20 @@ fn sum_at(
     levels[word] = level_of(mask);
 }
 
+/// Whether no first flag of a column is set.
+#[inline(always)]
+fn has_no_flags(downs: &Flags, ups: &Flags) -> bool
+    ensures { IsTrue result → (i : ℕ) → i < 32 → (slice_index downs.now i ≡ 0) × (slice_index ups.now i ≡ 0) }
+{
+    let mut any = 0;
+    for i in 0..32 {
+        any |= downs[i] | ups[i];
+    }
+    any == 0
+}
+
 /// Makes the masks of a column of blocks, and the sums into the next column with the masks that its words have if they
-/// have no flags.
+/// have no flags, as in many columns none has.
 fn sum_column(
     downs: &mut Flags,
     ups: &mut Flags,
@@ -228,6 +240,10 @@ fn sum_column(
         (slice_index sums.old (8 * i + r)) 8 }
     ensures clear { (i : ℕ) → (slice_index ups.new i ≡ 0) × (slice_index more.new i ≡ 0) }
 {
+    if has_no_flags(downs, ups) {
+        *downs = *levels;
+        return;
+    }
     for i in 0..32 {
         sum_at(downs, ups, more, counters, i, sums, levels);
     }

@@ -1,26 +1,9 @@
-use Rattle.std.proofs.Common.{◌≡◌, refl, sym, ap, ◌∙◌, arith, ℕ, ◌+◌, ◌*◌, ◌^◌, ◌<◌, ◌≤◌, bit_or, List, length, slice_index}
-use Rattle.std.proofs.lemmas.Nat.Bits.{bit_at-zero, bit_at_or, same_from_bits, same_from_bits_below}
+use Rattle.std.proofs.Common.{◌≡◌, refl, sym, ap, ◌∙◌, arith, ℕ, ◌+◌, ◌*◌, ◌<◌, bit_or, List, length, slice_index}
 use Rattle.std.specs.Int.{bit_at}
-use Rattle.polygons.specs.declared.marks.Marks.{Marks}
-use Rattle.polygons.specs.Summing.{marks_of_word, number_in, nonzero_bit, HasFirstMarked}
-use Rattle.polygons.proofs.Changes.{no_number}
-use Rattle.polygons.proofs.RunningSums.{run-none, set_same, set_apart}
+use Rattle.polygons.specs.Summing.{marks_of_word, nonzero_bit}
+use Rattle.polygons.proofs.NoFlags.{more_none, right_none, still}
+use Rattle.polygons.proofs.RunningSums.{set_same, set_apart}
 use Rattle.polygons.proofs.sum.sum_at.Goals as goal
-
--- a word without flags
-none_set : (d u i : ℕ) → bit_or d u ≡ 0 → bit_at (bit_or d u) i ≡ 0
-none_set d u i e = ap (λ x. bit_at x i) e ∙ bit_at-zero i
-
-left_none : (d u : ℕ) → bit_or d u ≡ 0 → d ≡ 0
-left_none d u e = same_from_bits d 0 (λ i. let o = bit_at_or d u i in let n = none_set d u i e in let z = bit_at-zero i in omega arith)
-
-right_none : (d u : ℕ) → bit_or d u ≡ 0 → u ≡ 0
-right_none d u e = same_from_bits u 0 (λ i. let o = bit_at_or d u i in let n = none_set d u i e in let z = bit_at-zero i in omega arith)
-
-more_none : (marks : Marks) → HasFirstMarked marks → bit_or marks.downs marks.ups ≡ 0 → marks.more < 2 ^ 64 → marks.more ≡ 0
-more_none marks marked none small =
-    same_from_bits_below 64 marks.more 0 small (omega arith)
-    (λ i h. marked i h (ap (λ x. bit_at x i) (left_none marks.downs marks.ups none) ∙ bit_at-zero i) (ap (λ x. bit_at x i) (right_none marks.downs marks.ups none) ∙ bit_at-zero i) ∙ sym (bit_at-zero i))
 
 same_marks : (downs ups more downs' ups' more' : List ℕ) (i : ℕ) → slice_index downs' i ≡ slice_index downs i → slice_index ups' i ≡ slice_index ups i → slice_index more' i ≡ slice_index more i
     → marks_of_word downs' ups' more' i ≡ marks_of_word downs ups more i
@@ -32,15 +15,13 @@ returns-then-firsts-eq0 c =
     let downs = c.args.downs.now in
     let level = slice_index c.args.levels.now word in
     let marks = marks_of_word downs c.args.ups.now c.args.more.now word in
-    let numbers = number_in marks c.args.counters.now word in
     let sum = λ (r : ℕ). slice_index c.args.sums.now (8 * word + r) in
     let inside : word < length downs = omega (arith, c.told-downs, c.requires.word) in
     let none : bit_or marks.downs marks.ups ≡ 0 = sym c.firsts.ensures ∙ c.if-firsts-eq0.true in
-    let still = λ (r n : ℕ) (h : r < 8) (l : n ≤ 8). run-none numbers (8 * r) (sum r) n (c.fits-sums (8 * word + r))
-    (λ k m. no_number marks c.args.counters.now word (8 * r + k) c.requires.marked (omega arith) (none_set marks.downs marks.ups (8 * r + k) none)) in
+    let sum_still = λ (r n : ℕ). still marks c.args.counters.now word (sum r) r n c.requires.marked none (c.fits-sums (8 * word + r)) in
     record {
-      bits = λ r j h l. ap (λ w. bit_at w (8 * r + j)) (set_same downs word level word inside refl) ∙ c.requires.level r j h l ∙ ap nonzero_bit (sym (still r (j + 1) h (omega arith)));
-      next = λ r h. sym (still r 8 h (omega arith));
+      bits = λ r j h l. ap (λ w. bit_at w (8 * r + j)) (set_same downs word level word inside refl) ∙ c.requires.level r j h l ∙ ap nonzero_bit (sym (sum_still r (j + 1) h (omega arith)));
+      next = λ r h. sym (sum_still r 8 h (omega arith));
       level = c.requires.level;
       clear = (right_none marks.downs marks.ups none, more_none marks c.requires.marked none (c.fits-more word));
       others = λ i n. (same_marks downs c.args.ups.now c.args.more.now _ c.args.ups.now c.args.more.now i (set_apart downs word level i n) refl refl, refl);

@@ -1,8 +1,9 @@
-use Rattle.std.proofs.Common.{◌≡◌, inl, inr, sym, subst, ap, ◌∙◌, arith, ℕ, ◌+◌, ◌*◌, ◌<◌, slice_index}
+use Rattle.std.proofs.Common.{◌≡◌, inl, inr, refl, sym, subst, ap, ◌∙◌, arith, ℕ, ◌+◌, ◌*◌, ◌<◌, bit_or, slice_index}
 use Rattle.std.proofs.lemmas.Bool.{cases_eq, cases_lt}
 use Rattle.std.specs.Int.{bit_at}
 use Rattle.polygons.specs.declared.marks.Marks.{Marks}
 use Rattle.polygons.specs.Summing.{run, number_in, marks_of_word, nonzero_bit, HasFirstMarked}
+use Rattle.polygons.proofs.NoFlags.{more_none, still}
 use Rattle.polygons.proofs.Plotted.{before_of}
 use Rattle.polygons.proofs.RunningSums.{past_end}
 use Rattle.polygons.proofs.sum.sum_column.Goals as goal
@@ -56,6 +57,33 @@ loop-i-preserved c =
           (o.0 ∙ w.0, o.1 ∙ w.1);
       sums_rest = λ q h. p.other_sums q (λ x. omega arith) ∙ v.sums_rest q (omega arith);
     }
+
+-- a column without flags
+no_firsts : (d u : ℕ) → d ≡ 0 → u ≡ 0 → bit_or d u ≡ 0
+no_firsts d u e f = λ j. bit_or (e j) (f j)
+
+pub returns-then-has_no_flags-clause-bits : goal.returns-then-has_no_flags-clause-bits
+returns-then-has_no_flags-clause-bits c i r j h lr lj =
+    let marks = marks_of_word c.args.downs.now c.args.ups.now c.args.more.now i in
+    let none = c.if-has_no_flags.ensures refl i h in
+    let start = slice_index c.args.sums.now (8 * i + r) in
+    c.requires.levels i h r j lr lj ∙ ap nonzero_bit (sym (still marks c.args.counters.now i start r (j + 1) (c.requires.marked i h) (no_firsts marks.downs marks.ups none.0 none.1) (c.fits-sums (8 * i + r)) lr (omega arith)))
+
+pub returns-then-has_no_flags-clause-next : goal.returns-then-has_no_flags-clause-next
+returns-then-has_no_flags-clause-next c i r h lr =
+    let marks = marks_of_word c.args.downs.now c.args.ups.now c.args.more.now i in
+    let none = c.if-has_no_flags.ensures refl i h in
+    let start = slice_index c.args.sums.now (8 * i + r) in
+    sym (still marks c.args.counters.now i start r 8 (c.requires.marked i h) (no_firsts marks.downs marks.ups none.0 none.1) (c.fits-sums (8 * i + r)) lr (omega arith))
+
+pub returns-then-has_no_flags-clause-clear : goal.returns-then-has_no_flags-clause-clear
+returns-then-has_no_flags-clause-clear c i = elim (cases_lt i 32) [
+  | inl l ↦
+      let marks = marks_of_word c.args.downs.now c.args.ups.now c.args.more.now i in
+      let none = c.if-has_no_flags.ensures refl i l in
+      (none.1, more_none marks (c.requires.marked i l) (no_firsts marks.downs marks.ups none.0 none.1) (c.fits-more i))
+  | inr l ↦ (past_end c.args.ups.now i (omega (arith, c.told-ups, l)), past_end c.args.more.now i (omega (arith, c.told-more, l)))
+]
 
 pub returns : goal.returns
 returns c =
