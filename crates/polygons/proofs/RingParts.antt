@@ -1,11 +1,16 @@
 -- Rings as parts of a list of corners.
-use Rattle.std.proofs.Common.{◌≡◌, refl, ap, ◌∙◌, arith, ℕ, zero, suc, ◌+◌, ◌-◌, ◌<◌, ◌≤◌, List, [], ◌∷◌, map, take, drop, length, slice_index, drop-cons, add-one, ◌+ℤ◌}
-use Rattle.std.proofs.lemmas.List.{length-take, length-map}
+use Rattle.std.proofs.Common.{◌≡◌, refl, ap, ◌∙◌, arith, ℕ, zero, suc, ◌+◌, ◌-◌, ◌<◌, ◌≤◌, List, [], ◌∷◌, map, take, drop, length, slice_index, drop-cons, add-one, pos, ◌+ℤ◌}
+use Rattle.std.proofs.lemmas.Int.{ints}
+use Rattle.std.proofs.lemmas.List.{length-take, length-map, take-map, drop-map, take-take, drop-take, drop-drop}
+use Rattle.std.proofs.lemmas.List.Elements.{All-take, All-drop}
+use Rattle.std.specs.List.{All}
 use Rattle.grid.specs.Position.{Position}
 use Rattle.polygons.specs.declared.corner.Corner.{Corner}
+use Rattle.polygons.specs.declared.extent.Extent.{Extent}
 use Rattle.polygons.specs.Crossing.{winding}
 use Rattle.polygons.specs.Polygon.{ring_edges, polygon_edges, corner_count}
-use Rattle.polygons.specs.Rings.{position_of, rings_from, end_of, AreAscendingEnds}
+use Rattle.polygons.specs.Rings.{position_of, rings_from, end_of, AreAscendingEnds, IsInExtent, IsInClosedExtent}
+use Rattle.polygons.proofs.Boxes.{ring_outside}
 use Rattle.polygons.proofs.Counts.{corners-ring}
 use Rattle.polygons.proofs.Plotted.{winding-ring}
 
@@ -67,3 +72,32 @@ few_corners corners start (end ∷ ends) h =
     let ends_in : end ≤ length corners = h.within 0 (omega arith) in
     let rest = few_corners corners end ends (record { begins = ends_in; rising = λ k l. h.rising (suc k) (omega (arith, l)); within = λ k l. h.within (suc k) (omega (arith, l)) }) in
     omega arith
+
+-- ---- the box of all corners
+-- what holds of the corners from one place to another holds of those before a place between them, and of those from there on
+module _ (P : Position → Type 0) (corners : List Corner) (start mid end : ℕ) (rises : start ≤ mid) (rests : mid ≤ end) (all : All P (map position_of (take (end - start) (drop start corners)))) where
+  all_before : All P (map position_of (take (mid - start) (drop start corners)))
+  all_before =
+      let less : mid - start ≤ end - start = omega arith in
+      let cut = All-take P (mid - start) (map position_of (take (end - start) (drop start corners))) all in
+      rw (take-map position_of (mid - start) (take (end - start) (drop start corners)), take-take (mid - start) (end - start) (drop start corners) less) at cut
+
+  all_behind : All P (map position_of (take (end - mid) (drop mid corners)))
+  all_behind =
+      let sum : (mid - start) + (end - mid) ≡ end - start = omega arith in
+      let place : start + (mid - start) ≡ mid = omega arith in
+      let rest = All-drop P (mid - start) (map position_of (take (end - start) (drop start corners))) all in
+      rw (drop-map position_of (mid - start) (take (end - start) (drop start corners)), ← sum, drop-take (mid - start) (end - mid) (drop start corners), drop-drop (mid - start) start corners, place) at rest
+
+-- rings in a box wind around nothing outside of it
+pub rings_outside : (e : Extent) (corners : List Corner) (start : ℕ) (ends : List ℕ) (limit : ℕ) (p : Position) → AreAscendingEnds start ends limit
+    → All (IsInClosedExtent e) (map position_of (take (end_of start ends - start) (drop start corners))) → ¬ IsInExtent e p → winding (polygon_edges (rings_from corners start ends)) p ≡ pos 0
+rings_outside e corners start [] limit p h all out = refl
+rings_outside e corners start (end ∷ ends) limit p h all out =
+    let rises : start ≤ end = h.rising 0 (omega arith) in
+    let last : end ≤ end_of start (end ∷ ends) = ends_within start (end ∷ ends) limit 0 h (omega arith) in
+    let ring = ring_outside e (map position_of (take (end - start) (drop start corners))) p (all_before (IsInClosedExtent e) corners start end (end_of start (end ∷ ends)) rises last all) out in
+    let rest = rings_outside e corners end ends limit p (record { begins = h.within 0 (omega arith); rising = λ k l. h.rising (suc k) (omega (arith, l)); within = λ k l. h.within (suc k) (omega (arith, l)) })
+    (all_behind (IsInClosedExtent e) corners start end (end_of start (end ∷ ends)) rises last all) out in
+    let both = winding-ring (map position_of (take (end - start) (drop start corners))) (rings_from corners end ends) p in
+    omega (arith, ints)

@@ -4,6 +4,7 @@ ghost use Rattle.polygons.specs.Rings.{AreCornersInBand, AreAscendingEnds};
 ghost use Rattle.polygons.specs.Arrays.{ArePolygons, IsFirstFall, IsFirstOutside, IsWrong, begin_of as begin};
 
 use crate::corner::Corner;
+use crate::extent::Extent;
 use crate::rings::Rings;
 
 /// Polygons: corners one ring's after another's, and where each ring and each polygon ends.
@@ -58,11 +59,15 @@ fn begin_of(ends: &[u32], k: usize) -> u32
     if k == 0 { 0 } else { ends[k - 1] }
 }
 
-/// The index of the first corner that is outside of the guard band.
+/// The index of the first corner that is outside of the guard band. The box of all corners is found faster than each is
+/// looked at.
 fn first_outside(corners: &[Corner]) -> Option<usize>
     ensures some { IfSome result (λ k. IsFirstOutside corners.now k) }
     ensures none { result ≡ Nothing → AreCornersInBand corners.now }
 {
+    if Extent::of(corners).is_in_band() {
+        return None;
+    }
     for (k, corner) in corners.iter().enumerate() {
         if corner.point().is_none() {
             return Some(k);

@@ -1,8 +1,11 @@
 //! The box of a polygon's corners.
-ghost use Rattle.grid.specs.Position.{Position};
-ghost use Rattle.polygons.specs.Rings.{position_of, IsInClosedExtent, IsInExtent};
+ghost use Rattle.std.specs.Prelude.{map, IsTrue};
+ghost use Rattle.std.specs.List.{All};
+ghost use Rattle.grid.specs.Position.{Position, IsInGuardBand};
+ghost use Rattle.polygons.specs.Rings.{position_of, IsInClosedExtent};
 
 use crate::corner::Corner;
+use grid::Point;
 
 /// A box on the screen in 1/256 pixel, with coordinates from `left` and `top` to before `right` and `bottom`.
 #[derive(Clone, Copy, Debug, PartialEq, Eq)]
@@ -22,12 +25,29 @@ pub(crate) const NOTHING: Extent = Extent {
 };
 
 impl Extent {
+    /// The box of some corners.
+    pub(crate) fn of(corners: &[Corner]) -> Extent
+        ensures { All (IsInClosedExtent result) (map position_of corners.now) }
+    {
+        let mut extent = NOTHING;
+        for corner in corners {
+            extent = extent.with(corner);
+        }
+        extent
+    }
+
+    /// Whether two opposite corners of the box, and so all of it, are inside of the guard band.
+    pub(crate) fn is_in_band(&self) -> bool
+        ensures { IsTrue result → (p : Position) → IsInClosedExtent self.now p → IsInGuardBand p }
+    {
+        Point::new(self.left, self.top).is_some() && Point::new(self.right, self.bottom).is_some()
+    }
+
     /// The box with one corner more.
     #[inline(always)]
     pub(crate) fn with(self, corner: &Corner) -> Extent
         ensures corner { IsInClosedExtent result (position_of corner.now) }
         ensures others { (p : Position) → IsInClosedExtent self p → IsInClosedExtent result p }
-        ensures inside { (p : Position) → IsInExtent self p → IsInExtent result p }
     {
         Extent {
             left: self.left.min(corner.x),

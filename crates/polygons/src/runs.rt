@@ -3,7 +3,7 @@ ghost use Rattle.std.specs.Prelude.{◌≡◌, ◌+◌, ◌*◌, ◌^◌, ◌<�
 
 use crate::apart::is_beside;
 use crate::extent::{Extent, NOTHING};
-use crate::rings::{Rings, with_ring};
+use crate::rings::Rings;
 use crate::strip::Strip;
 
 /// How many corners a run has at least. A polygon with no more has no boxes.
@@ -55,7 +55,7 @@ impl Runs {
         for run in 0..count {
             let first = start + run * self.length;
             let behind = (first + self.length + 1).min(end);
-            self.boxes[run] = with_ring(NOTHING, &rings.corners[first..behind]);
+            self.boxes[run] = Extent::of(&rings.corners[first..behind]);
         }
         self.count = count;
     }

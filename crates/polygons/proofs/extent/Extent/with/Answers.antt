@@ -17,11 +17,3 @@ returns-clause-others c p h = record {
   top = omega (arith, ints, clamps, c.min-2.ensures.value, h.top);
   bottom = omega (arith, ints, clamps, c.max-2.ensures.value, h.bottom);
 }
-
-pub returns-clause-inside : goal.returns-clause-inside
-returns-clause-inside c p h = record {
-  left = omega (arith, ints, clamps, c.min.ensures.value, h.left);
-  right = omega (arith, ints, clamps, c.max.ensures.value, h.right);
-  top = omega (arith, ints, clamps, c.min-2.ensures.value, h.top);
-  bottom = omega (arith, ints, clamps, c.max-2.ensures.value, h.bottom);
-}

@@ -6,8 +6,7 @@ use Rattle.grid.specs.Position.{Position}
 use Rattle.polygons.specs.declared.corner.Corner.{Corner}
 use Rattle.polygons.specs.declared.extent.Extent.{Extent}
 use Rattle.polygons.specs.Rings.{position_of, IsInClosedExtent}
-use Rattle.polygons.proofs.Boxes.{ring_outside}
-use Rattle.polygons.proofs.rings.with_ring.Goals as goal
+use Rattle.polygons.proofs.extent.Extent.of.Goals as goal
 
 abbrev zeros : Corner
 zeros = record { x = pos 0; y = pos 0 }
@@ -20,18 +19,11 @@ one_more e f ring i h grows here before =
     (rw (get_or-map position_of ring i zeros (position_of zeros) h) here)
 
 pub loop-corner-preserved : goal.loop-corner-preserved
-loop-corner-preserved c = record {
-  corners = one_more c.loop-corner.extent c.with-extent.result c.args.ring.now c.loop-corner.corner-index c.loop-corner-test.true c.with-extent.ensures.others c.with-extent.ensures.corner c.loop-corner.invariant.corners;
-  grows = λ p h. c.with-extent.ensures.inside p (c.loop-corner.invariant.grows p h);
-}
+loop-corner-preserved c =
+    one_more c.loop-corner.extent c.with-extent.result c.args.corners.now c.loop-corner.corner-index c.loop-corner-test.true c.with-extent.ensures.others c.with-extent.ensures.corner c.loop-corner.invariant
 
 all_within : (e : Extent) (ring : List Corner) (i : ℕ) → length ring ≤ i → All (IsInClosedExtent e) (take i (map position_of ring)) → All (IsInClosedExtent e) (map position_of ring)
 all_within e ring i h all = let long = length-map ring position_of in rw (take_all i (map position_of ring) (omega (arith, long, h))) at all
 
-pub returns-clause-within : goal.returns-clause-within
-returns-clause-within c = all_within c.loop-corner.extent c.args.ring.now c.loop-corner.corner-index (omega (arith, c.loop-corner-test.false)) c.loop-corner.invariant.corners
-
-pub returns-clause-ring : goal.returns-clause-ring
-returns-clause-ring c p out =
-    ring_outside c.loop-corner.extent (map position_of c.args.ring.now) p
-    (all_within c.loop-corner.extent c.args.ring.now c.loop-corner.corner-index (omega (arith, c.loop-corner-test.false)) c.loop-corner.invariant.corners) out
+pub returns : goal.returns
+returns c = all_within c.loop-corner.extent c.args.corners.now c.loop-corner.corner-index (omega (arith, c.loop-corner-test.false)) c.loop-corner.invariant
