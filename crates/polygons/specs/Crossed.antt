@@ -20,7 +20,7 @@ pub record IsCrossedFrom (e : Edge) (start : Position) (row : ℕ) (column : ℤ
 abbrev pub IsMissed : Edge → Position → Type 0
 IsMissed e start = (row : ℕ) → row < 64 → HasHeight e (down start row).y → ⊥
 
--- The bits tell at which samples of a strip the edge runs through a row, and the numbers tell where.
+-- The bits say at which samples of a strip the edge runs through a row, and the numbers say where.
 pub record AreCrossed (strip : Strip) (e : Edge) (c : ShortCrossings) : Type 0 where
   pub missed : (s : ℕ) → s < count_of strip.count → bit_at c.bits s ≡ 0 → IsMissed e (start_of strip s)
   pub held : (s : ℕ) → s < 16 → bit_at c.bits s ≡ 1 → s < count_of strip.count

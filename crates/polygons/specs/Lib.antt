@@ -107,7 +107,7 @@
 -- Crossed.antt
 --   IsCrossedFrom: The edge runs through this row of a strip at a sample, and from this column on it is crossed.
 --   IsMissed: The edge runs through no row of a strip at that sample.
---   AreCrossed: The bits tell at which samples of a strip the edge runs through a row, and the numbers tell where.
+--   AreCrossed: The bits say at which samples of a strip the edge runs through a row, and the numbers say where.
 --
 -- Apart.antt
 --   IsAbove: Both ends are at the upper border of the strip, or above it.

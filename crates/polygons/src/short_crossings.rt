@@ -71,7 +71,7 @@ fn whole_and_rest(pixel: i32, to: i32) -> (i32, u16)
 pub(crate) struct ShortCrossings {
     /// A bit for each sample: whether the edge runs through one of its rows.
     pub bits: u64,
-    /// The column of which `columns` tell the distances.
+    /// The column from which `columns` count.
     pub column: i32,
     /// Of each sample whose bit is set, the row.
     pub rows: [u16; 16],
