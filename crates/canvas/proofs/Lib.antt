@@ -8,12 +8,13 @@ pub mod Ends
 pub mod DrawnTiles
 pub mod ClearedTiles
 pub mod Units
+pub mod Written
 pub mod PixelRows
 pub mod Arranged
 pub mod Pairs
 pub mod MaskLanes
 pub mod MaskBits
-pub mod PairMeans
+pub mod BlockMeans
 pub mod PixelColours
 pub mod Masks
 pub mod Shown

@@ -1,12 +1,38 @@
 -- Bits of masks in lanes.
-use Rattle.std.proofs.Common.{◌≡◌, ◌≢◌, ◌∙◌, sym, ap, ℕ, zero, suc, ◌+◌, ◌*◌, ◌/◌, ◌%◌, ◌^◌, ◌<◌, List, Bool, false, not, eqb, cond, length, get_or, replicate, bit_and, w64, arith}
+use Rattle.std.proofs.Common.{◌≡◌, ◌≢◌, ◌∙◌, refl, sym, ap, subst, ℕ, zero, suc, ◌+◌, ◌*◌, ◌/◌, ◌%◌, ◌^◌, ◌<◌, List, Bool, false, not, eqb, cond, length, get_or, replicate, bit_and, w64, arith}
 use Rattle.std.specs.Int.{bit_at, to_le_bytes}
 use Rattle.std.specs.Simd.Lanes.{zip2, sel_l}
 use Rattle.std.proofs.Math.Nat.{zero-mul}
+use Rattle.shade.specs.Resolve.{total}
 use Rattle.std.proofs.lemmas.Simd.{length-zip2, get_or-zip2, length-replicate, get_or-replicate, get_or-sel_l}
 use Rattle.std.proofs.lemmas.Bool.{ne_eqb}
 use Rattle.std.proofs.lemmas.Nat.{pow_pos, shr-shr, shr_split}
 use Rattle.std.proofs.lemmas.Nat.Bits.{and_pow, bit_at-lt, bit_at_cat_low}
+
+-- ---- lanes of 64 pixels
+pub record AreLanes (v : List ℕ) (f : ℕ → ℕ) : Type 0 where
+  pub long : length v ≡ 64
+  pub each : (p : ℕ) → p < 64 → get_or v p 0 ≡ f p
+
+pub zipped : (g : ℕ → ℕ → ℕ) (xs ys : List ℕ) (f h : ℕ → ℕ) → AreLanes xs f → AreLanes ys h → AreLanes (zip2 g xs ys) (λ p. g (f p) (h p))
+zipped g xs ys f h a b =
+    let p = a.long in
+    let q = b.long in
+    record {
+      long = length-zip2 g xs ys (p ∙ sym q) ∙ p;
+      each = λ k l. get_or-zip2 g xs ys k 0 0 0 (omega (arith, l, p)) (omega (arith, l, q)) ∙ (λ i. g (a.each k l i) (b.each k l i));
+    }
+
+pub splat : (x : ℕ) → AreLanes (replicate 64 x) (λ p. x)
+splat x = record { long = length-replicate 64 x; each = λ p l. get_or-replicate 64 p x 0 l }
+
+-- a list is lanes of its own values
+pub itself : (xs : List ℕ) → length xs ≡ 64 → AreLanes xs (λ p. get_or xs p 0)
+itself xs long = record { long = long; each = λ p l i. get_or xs p 0 }
+
+-- a sum over one sample more
+pub total_next : (n : ℕ) (f : ℕ → ℕ) → total n f + f n ≡ total (n + 1) f
+total_next n f = let one : suc n ≡ n + 1 = omega arith in subst (λ m. total n f + f n ≡ total m f) one refl
 
 -- ---- a choice by a test of each lane with one value
 pub chosen : (t : ℕ → ℕ → Bool) (n x : ℕ) (lanes ys ns : List ℕ) → length lanes ≡ n → length ys ≡ n → length ns ≡ n → (k : ℕ) → k < n

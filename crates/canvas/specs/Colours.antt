@@ -1,27 +1,21 @@
 -- The colours, depths and ids of pixels.
-use Rattle.std.specs.Prelude.{◌≡◌, ℕ, ◌+◌, ◌*◌, ◌<◌, List, slice_index}
+use Rattle.std.specs.Prelude.{◌≡◌, ℕ, ◌+◌, ◌*◌, ◌/◌, ◌<◌, List, slice_index}
 use Rattle.grid.specs.declared.sample_count.SampleCount.{SampleCount}
 use Rattle.lanes.specs.declared.block_samples.BlockSamples.{BlockSamples}
 use Rattle.shade.specs.Resolve.{IsResolved}
 use Rattle.shade.specs.declared.sample.CanvasSample.{CanvasSample}
-use Rattle.raster.specs.declared.tile.Tile.{Tile}
-use Rattle.raster.specs.Colours.{IsColourAt, IsAlphaAt}
+use Rattle.lanes.specs.Block.{stored_at}
 use Rattle.canvas.specs.declared.canvas.Canvas.{Canvas}
 use Rattle.canvas.specs.declared.format.Format.{Format}
-use Rattle.canvas.specs.Layout.{stored, stored_in_tile}
-use Rattle.canvas.specs.Pixels.{pixel_bytes, pixel_of, HasAlpha, AreWritten}
+use Rattle.canvas.specs.declared.pixel_rows.PixelRows.{PixelRows}
+use Rattle.canvas.specs.Layout.{block_in_tile, pixel_in_block, stored, stored_in_tile}
+use Rattle.canvas.specs.Pixels.{pixel_bytes, pixel_of, HasAlpha, AreWritten, AreWrittenIn}
 
 -- The colour of pixel (i, j): each channel resolved from the pixel's samples, in planes from tile row `first` on.
 pub record IsColourOfPixel (c : Canvas) (first : ℕ) (samples : List BlockSamples) (i j : ℕ) (r g b : ℕ) : Type 0 where
   pub red : IsResolved c.count (λ s. (stored c first samples i j s).r) r
   pub green : IsResolved c.count (λ s. (stored c first samples i j s).g) g
   pub blue : IsResolved c.count (λ s. (stored c first samples i j s).b) b
-
--- The colour of pixel (i, j): each channel resolved from the pixel's samples, in the planes of its tile.
-pub record IsColourIn (count : SampleCount) (samples : List BlockSamples) (i j : ℕ) (r g b : ℕ) : Type 0 where
-  pub red : IsResolved count (λ s. (stored_in_tile count samples i j s).r) r
-  pub green : IsResolved count (λ s. (stored_in_tile count samples i j s).g) g
-  pub blue : IsResolved count (λ s. (stored_in_tile count samples i j s).b) b
 
 -- The bytes have this colour and this alpha in the format.
 abbrev pub AreBytesOfColour : Format → ℕ → ℕ → ℕ → ℕ → (ℕ → ℕ) → Type 0
@@ -31,16 +25,21 @@ AreBytesOfColour format r g b a bytes = (k : ℕ) → k < pixel_bytes format →
 abbrev pub IsAlphaOfPixel : Canvas → ℕ → List BlockSamples → ℕ → ℕ → ℕ → Type 0
 IsAlphaOfPixel c first samples i j = IsResolved c.count (λ s. (stored c first samples i j s).alpha)
 
--- The alpha of pixel (i, j), resolved from the pixel's samples, in the planes of its tile.
-abbrev pub IsAlphaIn : SampleCount → List BlockSamples → ℕ → ℕ → ℕ → Type 0
-IsAlphaIn count samples i j = IsResolved count (λ s. (stored_in_tile count samples i j s).alpha)
-
 -- The colour and the alpha of a sample are resolved from these samples.
 pub record IsMeanOf (count : SampleCount) (samples : ℕ → CanvasSample) (mean : CanvasSample) : Type 0 where
   pub red : IsResolved count (λ s. (samples s).r) mean.r
   pub green : IsResolved count (λ s. (samples s).g) mean.g
   pub blue : IsResolved count (λ s. (samples s).b) mean.b
   pub alpha : IsResolved count (λ s. (samples s).alpha) mean.alpha
+
+-- The bytes are the colour of the sample in the format.
+abbrev pub IsSampleColour : Format → CanvasSample → (ℕ → ℕ) → Type 0
+IsSampleColour format sample bytes = AreBytesOfColour format sample.r sample.g sample.b sample.alpha bytes
+
+-- The plane has the mean of the samples of each pixel of block k of the tile with these planes.
+abbrev pub HasMeansOf : SampleCount → List BlockSamples → ℕ → BlockSamples → Type 0
+HasMeansOf count samples k plane =
+    (i j : ℕ) → block_in_tile i j ≡ k → IsMeanOf count (λ s. stored_in_tile count samples i j s) (stored_at plane (pixel_in_block i j))
 
 -- The bytes of pixel (i, j) in the format.
 pub record IsPixelOf (c : Canvas) (first : ℕ) (samples : List BlockSamples) (format : Format) (i j : ℕ) (bytes : ℕ → ℕ) : Type 0 where
@@ -52,25 +51,11 @@ pub record IsPixelOf (c : Canvas) (first : ℕ) (samples : List BlockSamples) (f
   pub alpha : HasAlpha format → IsAlphaOfPixel c first samples i j a
   pub order : AreBytesOfColour format r g b a bytes
 
--- The bytes of pixel (i, j) in the format, by the planes of its tile.
-pub record IsPixelIn (count : SampleCount) (samples : List BlockSamples) (format : Format) (i j : ℕ) (bytes : ℕ → ℕ) : Type 0 where
-  pub r : ℕ
-  pub g : ℕ
-  pub b : ℕ
-  pub a : ℕ
-  pub colour : IsColourIn count samples i j r g b
-  pub alpha : HasAlpha format → IsAlphaIn count samples i j a
-  pub order : AreBytesOfColour format r g b a bytes
-
--- The bytes of the pixel in a row and a column of a tile, in the format.
-pub record IsTilePixel (tile : Tile) (samples : List BlockSamples) (format : Format) (row column : ℕ) (bytes : ℕ → ℕ) : Type 0 where
-  pub r : ℕ
-  pub g : ℕ
-  pub b : ℕ
-  pub a : ℕ
-  pub colour : IsColourAt tile samples row column r g b
-  pub alpha : HasAlpha format → IsAlphaAt tile samples row column a
-  pub order : AreBytesOfColour format r g b a bytes
+-- The bytes of a pixel with these samples in the format.
+pub record IsPixelWith (count : SampleCount) (samples : ℕ → CanvasSample) (format : Format) (bytes : ℕ → ℕ) : Type 0 where
+  pub mean : CanvasSample
+  pub is_mean : IsMeanOf count samples mean
+  pub order : IsSampleColour format mean bytes
 
 -- The bytes of eight pixels in the format, by those of the same pixels as red, green and blue, and by their alphas.
 abbrev pub AreArranged : Format → List ℕ → List ℕ → List ℕ → Type 0
@@ -82,6 +67,15 @@ AreArranged format rgb alphas bytes =
 abbrev pub AreResolved : Canvas → ℕ → ℕ → List BlockSamples → Format → ℕ → List ℕ → List ℕ → Type 0
 AreResolved c first end samples format stride old new =
     AreWritten c first end (pixel_bytes format) stride (λ i j bytes. IsPixelOf c first samples format i j bytes) old new
+
+-- Pixel (i, j) is in a column and a row of blocks, of which the rows are counted from tile row `first` on.
+pub record IsInBlock (first across down i j : ℕ) : Type 0 where
+  pub column : i / 8 ≡ across
+  pub row : j / 8 ≡ 8 * first + down
+
+-- The bytes of those pixels in these rows that are in `IsIn` are as `IsPixel` says, and all other bytes are unchanged.
+abbrev pub AreWrittenTo : PixelRows → (ℕ → ℕ → Type 0) → (ℕ → ℕ → (ℕ → ℕ) → Type 0) → List ℕ → List ℕ → Type 0
+AreWrittenTo rows = AreWrittenIn rows.tile_rows.canvas rows.tile_rows.first rows.tile_rows.end rows.unit rows.stride
 
 -- The id that is stored in place of a colour: red is its lowest byte.
 abbrev pub id_of : CanvasSample → ℕ
@@ -99,10 +93,6 @@ AreDepths c first end samples s stride old new = AreEntries (λ sample. sample.z
 -- In these tile rows the entry of each pixel of the picture is the id of its sample s. All other entries are unchanged.
 abbrev pub AreIds : Canvas → ℕ → ℕ → List BlockSamples → ℕ → ℕ → List ℕ → List ℕ → Type 0
 AreIds c first end samples s stride old new = AreEntries id_of c first end samples s stride old new
-
--- The bytes are the colour of the sample in the format.
-abbrev pub IsSampleColour : Format → CanvasSample → (ℕ → ℕ) → Type 0
-IsSampleColour format sample bytes = AreBytesOfColour format sample.r sample.g sample.b sample.alpha bytes
 
 -- In these tile rows the bytes of each pixel of the picture are the colour of its sample s in the format. All other bytes are unchanged.
 abbrev pub AreColours : Canvas → ℕ → ℕ → List BlockSamples → ℕ → Format → ℕ → List ℕ → List ℕ → Type 0

@@ -1,25 +1,23 @@
 //! The colours of pixels, written to the caller's memory.
-ghost use Rattle.std.specs.Prelude.{◌≡◌, slice_index_or, [], false, ◌≢◌, ◌↔◌, ◌⊎◌, ℕ, ◌+◌, ◌-◌, ◌*◌, ◌/◌, ◌<◌, ◌≤◌, length, take, slice_index, IsOk, IsTrue, OnOk, OnErr, IfErr};
-ghost use Rattle.grid.specs.Pixels.{side_of};
+ghost use Rattle.std.specs.Prelude.{◌≡◌, slice_index_or, [], ◌↔◌, ℕ, ◌+◌, ◌-◌, ◌*◌, ◌/◌, ◌<◌, ◌≤◌, length, take, slice_index, IsOk, OnOk, OnErr, IfErr};
 ghost use Rattle.grid.specs.Samples.{count_of};
-ghost use Rattle.grid.specs.declared.sample_count.SampleCount.TheVariants.{One, Four};
-ghost use Rattle.raster.specs.Samples.{planes_of};
 ghost use Rattle.lanes.specs.Block.{stored_at};
-ghost use Rattle.canvas.specs.Layout.{columns_of, rows_of, planes_of_tile, planes_of_row, stored};
-ghost use Rattle.canvas.specs.Pixels.{pixel_bytes, IsLargeEnough};
+ghost use Rattle.canvas.specs.Layout.{columns_of, planes_of_tile, planes_of_row, planes_of_rows, pixel_in_block, stored, stored_in_tile};
+ghost use Rattle.canvas.specs.Pixels.{pixel_bytes, shown_rows, IsLargeEnough};
 ghost use Rattle.canvas.specs.Entries.{FitEntries, IsEntriesMisfit};
-ghost use Rattle.canvas.specs.Colours.{IsPixelOf, IsPixelIn, IsTilePixel, IsSampleColour, AreBytesOfColour, AreResolved, AreColours};
+ghost use Rattle.canvas.specs.Colours.{IsPixelOf, IsPixelWith, IsInBlock, IsSampleColour, AreBytesOfColour, AreWrittenTo, AreResolved, AreColours};
 
+use crate::block_means::{means_of_own, means_of_pair};
 use crate::canvas::Canvas;
 use crate::format::{Format, arranged};
 use crate::misfit::Misfit;
-use crate::pair_means::means_of_pair;
+use crate::pixel_rows::PixelRows;
 use crate::place::{block_in_tile, place_by};
 use crate::view::View;
 use crate::way::{Way, way_of};
 use grid::SampleCount;
 use lanes::BlockSamples;
-use raster::{Tile, alphas_by, colours_by, eight_from, first_of_many, interleaved};
+use raster::{eight_from, first_of_many, interleaved};
 use std::simd::prelude::*;
 
 /// Copies the first bytes of `run` to all of `bytes`. If this is inlined, the lengths of eight whole pixels are known,
@@ -65,38 +63,6 @@ fn write_run(format: Format, rgb: u8x32, alphas: u8x32, count: u32, bytes: &mut 
     }
 }
 
-/// Writes the first `count` of the eight pixels in a row of the tile and in a column of its blocks. `MORE` is as in
-/// `colours_by`.
-#[inline(always)]
-fn resolve_run<const MORE: bool>(
-    tile: &Tile,
-    samples: &[BlockSamples],
-    row: u32,
-    column: u32,
-    format: Format,
-    count: u32,
-    bytes: &mut [u8],
-)
-    requires samples { length samples.now ≡ planes_of tile.now.side tile.now.count }
-    requires row { row < side_of tile.now.side }
-    requires column { column < side_of tile.now.side / 8 }
-    requires count { count ≤ 8 }
-    requires few { MORE ≡ false → (tile.now.count ≡ One) ⊎ (tile.now.count ≡ Four) }
-    requires bytes { length bytes.old ≡ count * pixel_bytes format }
-    ensures { (i : ℕ) → i < count →
-        IsTilePixel tile.now samples.now format row (8 * column + i)
-        (λ k. slice_index bytes.new (i * pixel_bytes format + k)) }
-{
-    let rgb = colours_by::<MORE>(tile, samples, row, column);
-    match format {
-        Format::Rgb8 => write_run(Format::Rgb8, rgb, rgb, count, bytes),
-        _ => {
-            let alphas = alphas_by::<MORE>(tile, samples, row, column);
-            write_run(format, rgb, alphas, count, bytes);
-        }
-    }
-}
-
 /// Writes the first `count` of the eight pixels in a row of a block, whose colours are those of the samples of one
 /// plane.
 #[inline(always)]
@@ -116,105 +82,107 @@ fn resolve_plane(plane: &BlockSamples, row: u32, format: Format, count: u32, byt
     write_run(format, interleaved(red, green, blue), alphas, count, bytes);
 }
 
-impl Canvas {
-    /// Writes the first `count` of eight pixels of row `j`, from column 8 * `block` on, from the planes of their tile,
-    /// whose own blocks begin at plane `own`.
-    #[inline(always)]
-    fn resolve_eight<const MORE: bool>(
-        &self,
-        block: u32,
-        j: u32,
-        samples: &[BlockSamples],
-        format: Format,
-        count: u32,
-        own: usize,
-        bytes: &mut [u8],
-    )
-        requires column { block / 8 < columns_of self.now }
-        requires row { j / 64 < rows_of self.now }
-        requires samples { length samples.now ≡ planes_of_tile self.now.count }
-        requires count { count ≤ 8 }
-        requires own { own ≡ 1 + count_of self.now.count }
-        requires few { MORE ≡ false → (self.now.count ≡ One) ⊎ (self.now.count ≡ Four) }
-        requires bytes { length bytes.old ≡ count * pixel_bytes format }
-        ensures { (i : ℕ) → i < count →
-            IsPixelIn self.now.count samples.now format (8 * block + i) j
-            (λ k. slice_index bytes.new (i * pixel_bytes format + k)) }
-    {
-        let number = block_in_tile(8 * block, j);
-        let way = way_of(&samples[0], number);
-        match way {
-            Way::Own => {
-                let tile = self.tile(block / 8, j / 64);
-                resolve_run::<MORE>(
-                    &tile,
-                    &samples[own..],
-                    j % 64,
-                    block % 8,
-                    format,
-                    count,
-                    bytes,
-                );
-            }
-            Way::Pair => {
-                let (colours, alphas) = means_of_pair(self.count, samples, number, j % 8);
-                write_run(format, colours, alphas, count, bytes);
-            }
-            _ => {
-                let place = place_by(self.count, way, number, 0);
-                resolve_plane(&samples[place], j % 8, format, count, bytes);
-            }
+/// Writes the pixels of the picture in a block of these rows, by its column `across` and its row `down`, whose colours are
+/// those of the samples of one plane.
+fn resolve_block_by(
+    rows: &PixelRows,
+    plane: &BlockSamples,
+    across: u32,
+    down: u32,
+    format: Format,
+    bytes: &mut [u8],
+)
+    requires column { 8 * across < rows.now.tile_rows.canvas.width }
+    requires row { 8 * down < shown_rows rows.now.tile_rows.canvas rows.now.tile_rows.first rows.now.tile_rows.end }
+    requires unit { rows.now.unit ≡ pixel_bytes format }
+    requires size { rows.now.size ≡ length bytes.old }
+    ensures { AreWrittenTo rows.now (IsInBlock rows.now.tile_rows.first across down)
+        (λ i j bytes. IsSampleColour format (stored_at plane.now (pixel_in_block i j)) bytes) bytes.old bytes.new }
+{
+    let unit = format.pixel_bytes();
+    let count = (rows.tile_rows.canvas.width - 8 * across).min(8);
+    let end = (8 * down + 8).min(rows.count());
+    for index in 8 * down..end {
+        let row = rows.row(index);
+        let from = row.entries.start + 8 * across as usize * unit;
+        resolve_plane(
+            plane,
+            row.j % 8,
+            format,
+            count,
+            &mut bytes[from..from + count as usize * unit],
+        );
+    }
+}
+
+/// Writes the pixels of the picture in a block of these rows, by its column `across` and its row `down`, from the planes
+/// of its tile.
+fn resolve_block(
+    rows: &PixelRows,
+    planes: &[BlockSamples],
+    across: u32,
+    down: u32,
+    format: Format,
+    bytes: &mut [u8],
+)
+    requires column { 8 * across < rows.now.tile_rows.canvas.width }
+    requires row { 8 * down < shown_rows rows.now.tile_rows.canvas rows.now.tile_rows.first rows.now.tile_rows.end }
+    requires planes { length planes.now ≡ planes_of_tile rows.now.tile_rows.canvas.count }
+    requires unit { rows.now.unit ≡ pixel_bytes format }
+    requires size { rows.now.size ≡ length bytes.old }
+    ensures { AreWrittenTo rows.now (IsInBlock rows.now.tile_rows.first across down)
+        (λ i j bytes. IsPixelWith rows.now.tile_rows.canvas.count
+        (stored_in_tile rows.now.tile_rows.canvas.count planes.now i j) format bytes) bytes.old bytes.new }
+{
+    let count = rows.tile_rows.canvas.count;
+    let k = block_in_tile(8 * across, 8 * down);
+    let way = way_of(&planes[0], k);
+    match way {
+        Way::Own if count != SampleCount::One => {
+            let means = means_of_own(count, planes, k);
+            resolve_block_by(rows, &means, across, down, format, bytes);
+        }
+        Way::Pair => {
+            let means = means_of_pair(count, planes, k);
+            resolve_block_by(rows, &means, across, down, format, bytes);
+        }
+        _ => {
+            let plane = &planes[place_by(count, way, k, 0)];
+            resolve_block_by(rows, plane, across, down, format, bytes);
         }
     }
+}
 
-    /// Writes row `j` of pixels, from the samples of its tile row. `MORE` is as in `colours_by`.
-    fn resolve_row_by<const MORE: bool>(
-        &self,
-        j: u32,
-        samples: &[BlockSamples],
-        format: Format,
-        bytes: &mut [u8],
-    )
-        requires row { j < self.now.height }
-        requires few { MORE ≡ false → (self.now.count ≡ One) ⊎ (self.now.count ≡ Four) }
-        requires samples { length samples.now ≡ planes_of_row self.now }
-        requires bytes { length bytes.old ≡ self.now.width * pixel_bytes format }
-        ensures { (i : ℕ) → i < self.now.width →
-            IsPixelOf self.now (j / 64) samples.now format i j (λ k. slice_index bytes.new (i * pixel_bytes format + k)) }
-    {
-        let each = self.planes_of_tile();
-        let own = 1 + self.count.count() as usize;
-        let unit = format.pixel_bytes();
-        for block in 0..(self.width + 7) / 8 {
-            let count = (self.width - 8 * block).min(8);
-            let from = (block / 8) as usize * each;
-            let at = 8 * block as usize * unit;
-            self.resolve_eight::<MORE>(
-                block,
-                j,
-                &samples[from..from + each],
-                format,
-                count,
-                own,
-                &mut bytes[at..at + count as usize * unit],
-            );
-        }
-    }
-
-    /// Writes row `j` of pixels, from the samples of its tile row.
-    fn resolve_row(&self, j: u32, samples: &[BlockSamples], format: Format, bytes: &mut [u8])
-        requires row { j < self.now.height }
-        requires samples { length samples.now ≡ planes_of_row self.now }
-        requires bytes { length bytes.old ≡ self.now.width * pixel_bytes format }
-        ensures { (i : ℕ) → i < self.now.width →
-            IsPixelOf self.now (j / 64) samples.now format i j (λ k. slice_index bytes.new (i * pixel_bytes format + k)) }
-    {
-        match self.count {
-            SampleCount::One | SampleCount::Four => {
-                self.resolve_row_by::<false>(j, samples, format, bytes);
-            }
-            _ => self.resolve_row_by::<true>(j, samples, format, bytes),
-        }
+/// Writes the pixels of the picture in row `down` of the blocks of these rows, from the planes of all their tiles.
+fn resolve_blocks(
+    rows: &PixelRows,
+    planes: &[BlockSamples],
+    down: u32,
+    format: Format,
+    bytes: &mut [u8],
+)
+    requires row { 8 * down < shown_rows rows.now.tile_rows.canvas rows.now.tile_rows.first rows.now.tile_rows.end }
+    requires planes { length planes.now ≡ planes_of_rows rows.now.tile_rows.canvas rows.now.tile_rows.first
+        rows.now.tile_rows.end }
+    requires unit { rows.now.unit ≡ pixel_bytes format }
+    requires size { rows.now.size ≡ length bytes.old }
+    ensures { AreWrittenTo rows.now (λ i j. j / 8 ≡ 8 * rows.now.tile_rows.first + down)
+        (λ i j bytes. IsPixelOf rows.now.tile_rows.canvas rows.now.tile_rows.first planes.now format i j bytes)
+        bytes.old bytes.new }
+{
+    let canvas = &rows.tile_rows.canvas;
+    let each = canvas.planes_of_tile();
+    let tiles = &planes[rows.row(8 * down).planes];
+    for across in 0..(canvas.width + 7) / 8 {
+        let from = (across / 8) as usize * each;
+        resolve_block(
+            rows,
+            &tiles[from..from + each],
+            across,
+            down,
+            format,
+            bytes,
+        );
     }
 }
 
@@ -292,12 +260,8 @@ impl View<'_> {
         let rows = self
             .rows
             .pixel_rows(format.pixel_bytes(), stride, bytes.len())?;
-        for index in 0..rows.count() {
-            let row = rows.row(index);
-            let planes = &self.planes[row.planes];
-            self.rows
-                .canvas
-                .resolve_row(row.j, planes, format, &mut bytes[row.entries]);
+        for down in 0..(rows.count() + 7) / 8 {
+            resolve_blocks(&rows, self.planes, down, format, bytes);
         }
         Ok(())
     }

@@ -2,6 +2,7 @@
 //! colours, depths and ids are read back. No call allocates. Threads share a canvas by its tile rows.
 #![tactic(auto)]
 
+mod block_means;
 mod canvas;
 mod cleared;
 mod colours;
@@ -18,7 +19,6 @@ mod mask_lanes;
 mod misfit;
 mod pair;
 mod pair_blocks;
-mod pair_means;
 mod piece;
 mod pixel_rows;
 mod place;

@@ -10,14 +10,14 @@ use std::ops::Range;
 #[derive(Clone, Copy, Debug)]
 pub(crate) struct PixelRows {
     /// The tile rows.
-    tile_rows: TileRows,
+    pub tile_rows: TileRows,
     /// How many entries a pixel has.
-    unit: usize,
+    pub unit: usize,
     /// By how many entries each row begins behind the one above.
-    stride: usize,
+    pub stride: usize,
     /// How many entries the slice has.
-    size: usize,
-    ghost fit: { IsLargeEnough tile_rows.canvas tile_rows.first tile_rows.end unit stride size },
+    pub size: usize,
+    pub ghost fit: { IsLargeEnough tile_rows.canvas tile_rows.first tile_rows.end unit stride size },
 }
 
 /// Where the samples and the entries of a row of pixels lie.

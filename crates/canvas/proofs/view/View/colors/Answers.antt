@@ -3,7 +3,8 @@ use Rattle.canvas.specs.Layout.{stored}
 use Rattle.canvas.specs.Pixels.{IsPixelRow, shown_rows, pixel_bytes}
 use Rattle.canvas.specs.Entries.{FitEntries}
 use Rattle.canvas.specs.Colours.{IsSampleColour}
-use Rattle.canvas.proofs.Units.{one_row_written, all_rows_written, entry_in}
+use Rattle.canvas.proofs.Units.{entry_in}
+use Rattle.canvas.proofs.Written.{one_row_written, all_rows_written}
 use Rattle.canvas.proofs.PixelColours.{sample_colour_same}
 use Rattle.canvas.proofs.PixelRows.{asked_row, samples_of_row}
 use Rattle.canvas.proofs.view.View.colors.Goals as goal

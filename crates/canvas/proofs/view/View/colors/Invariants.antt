@@ -1,7 +1,7 @@
 use Rattle.canvas.specs.Layout.{stored}
 use Rattle.canvas.specs.Pixels.{pixel_bytes}
 use Rattle.canvas.specs.Colours.{IsSampleColour}
-use Rattle.canvas.proofs.Units.{AreRowsWritten}
+use Rattle.canvas.proofs.Written.{AreRowsWritten}
 use Rattle.canvas.proofs.view.View.colors.Given as goal
 
 abbrev pub invariant-loop-index : goal.invariant-loop-index

@@ -4,7 +4,8 @@ use Rattle.canvas.specs.Layout.{stored}
 use Rattle.canvas.specs.Pixels.{IsPixelRow, shown_rows}
 use Rattle.canvas.specs.Entries.{FitEntries}
 use Rattle.canvas.proofs.Cut.{map-put}
-use Rattle.canvas.proofs.Units.{AreRowsWritten, one_row_written, all_rows_written, one_entry, as_units}
+use Rattle.canvas.proofs.Units.{one_entry, as_units}
+use Rattle.canvas.proofs.Written.{AreRowsWritten, one_row_written, all_rows_written}
 use Rattle.canvas.proofs.PixelRows.{asked_row, samples_of_row}
 use Rattle.canvas.proofs.view.View.entries.Goals as goal
 

@@ -1,6 +1,6 @@
 use Rattle.std.proofs.Common.{◌≡◌, map}
 use Rattle.canvas.specs.Layout.{stored}
-use Rattle.canvas.proofs.Units.{AreRowsWritten}
+use Rattle.canvas.proofs.Written.{AreRowsWritten}
 use Rattle.canvas.proofs.view.View.entries.Given as goal
 
 abbrev pub invariant-loop-index : goal.invariant-loop-index

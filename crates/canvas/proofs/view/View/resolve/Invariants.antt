@@ -1,7 +1,9 @@
-use Rattle.canvas.specs.Pixels.{pixel_bytes}
+use Rattle.std.proofs.Common.{◌+◌, ◌*◌, ◌/◌, ◌<◌}
+use Rattle.canvas.specs.Pixels.{pixel_bytes, AreWrittenIn}
 use Rattle.canvas.specs.Colours.{IsPixelOf}
-use Rattle.canvas.proofs.Units.{AreRowsWritten}
 use Rattle.canvas.proofs.view.View.resolve.Given as goal
 
-abbrev pub invariant-loop-index : goal.invariant-loop-index
-invariant-loop-index l = AreRowsWritten l.self.rows.canvas l.self.rows.first l.self.rows.end (pixel_bytes l.format) l.stride (λ i j bytes. IsPixelOf l.self.rows.canvas l.self.rows.first l.self.planes.now l.format i j bytes) l.index l.fn.bytes l.bytes
+abbrev pub invariant-loop-down : goal.invariant-loop-down
+invariant-loop-down l =
+    AreWrittenIn l.self.rows.canvas l.self.rows.first l.self.rows.end (pixel_bytes l.format) l.stride (λ i j. j / 8 < 8 * l.self.rows.first + l.down)
+    (λ i j bytes. IsPixelOf l.self.rows.canvas l.self.rows.first l.self.planes.now l.format i j bytes) l.fn.bytes l.bytes

@@ -1,0 +1,19 @@
+use Rattle.std.proofs.Common.{◌∙◌, ap, ◌-◌, ◌/◌, replicate}
+use Rattle.lanes.specs.declared.block_samples.BlockSamples.{BlockSamples}
+use Rattle.canvas.specs.declared.way.Way.TheVariants.{Pair}
+use Rattle.canvas.specs.Layout.{place_by, in_list}
+use Rattle.canvas.proofs.BlockMeans.{AreMeansBy, each_channel, means_of_both}
+use Rattle.canvas.proofs.block_means.means_of_pair.Goals as goal
+
+pub returns : goal.returns
+returns c =
+    let count = c.args.count in
+    let k = c.args.k in
+    let xs = c.args.planes.now in
+    let bits = c.count_bits-bits.result in
+    let mean : BlockSamples = record { z = replicate 64 0; r = c.means_of_both.result; g = c.means_of_both-2.result; b = c.means_of_both-3.result; alpha = c.means_of_both-4.result } in
+    means_of_both count xs k c.place_by.result c.place_by-2.result c.place_by-3.result bits mean c.requires.way c.place_by.ensures.value
+    (c.place_by-2.ensures.value ∙ ap (λ n. place_by count Pair k (n / 2)) c.count-many.ensures)
+    (c.place_by-3.ensures.value ∙ ap (λ n. place_by count Pair k (n - 1)) c.count-many.ensures)
+    c.count_bits-bits.ensures.each
+    (each_channel (AreMeansBy count bits (in_list xs c.place_by.result) (in_list xs c.place_by-2.result) mean) c.means_of_both.ensures c.means_of_both-2.ensures c.means_of_both-3.ensures c.means_of_both-4.ensures)

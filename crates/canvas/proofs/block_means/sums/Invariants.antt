@@ -1,0 +1,12 @@
+use Rattle.std.proofs.Common.{ℕ, ◌≤◌, length}
+use Rattle.lanes.specs.Block.{stored_at}
+use Rattle.canvas.specs.Layout.{in_list}
+use Rattle.canvas.specs.Lanes.{channel_of}
+use Rattle.canvas.proofs.BlockMeans.{AreSums}
+use Rattle.canvas.proofs.block_means.sums.Given as goal
+
+abbrev pub invariant-loop-plane : goal.invariant-loop-plane
+invariant-loop-plane l = record {
+  within : l.plane-index ≤ length l.planes;
+  sums : AreSums l.plane-index (λ s p. channel_of l.channel (stored_at (in_list l.planes s) p)) l.sums;
+}

@@ -1,7 +1,0 @@
-use Rattle.std.proofs.Common.{◌*◌}
-use Rattle.canvas.specs.Layout.{mask_of}
-use Rattle.canvas.proofs.MaskBits.{AreBitSums}
-use Rattle.canvas.proofs.pair_means.count_bits.Given as goal
-
-abbrev pub invariant-loop-s : goal.invariant-loop-s
-invariant-loop-s l = AreBitSums l.s (8 * l.row) (mask_of l.masks) l.sums

@@ -1,0 +1,192 @@
+//! The means of the samples of a block's pixels, all 64 pixels at once.
+ghost use Rattle.std.specs.Prelude.{◌≡◌, ℕ, ◌+◌, ◌-◌, ◌*◌, ◌/◌, ◌<◌, ◌≤◌, length, slice_index};
+ghost use Rattle.std.specs.Int.{bit_at};
+ghost use Rattle.std.specs.Simd.Lanes.{Each1};
+ghost use Rattle.grid.specs.Samples.{count_of};
+ghost use Rattle.shade.specs.Resolve.{total};
+ghost use Rattle.lanes.specs.Block.{stored_at};
+ghost use Rattle.canvas.specs.declared.way.Way.TheVariants.{Pair as AsPair, Own as AsOwn};
+ghost use Rattle.canvas.specs.Layout.{planes_of_tile, mask_of as the_mask, in_list, way_in_tile};
+ghost use Rattle.canvas.specs.Lanes.{channel_of};
+ghost use Rattle.canvas.specs.Colours.{IsMeanOf, HasMeansOf};
+
+use crate::mask_lanes::lanes_of_mask;
+use crate::pair::mask_of;
+use crate::place::place_by;
+use crate::way::Way;
+use grid::SampleCount;
+use lanes::BlockSamples;
+use std::simd::prelude::*;
+
+/// A channel of samples.
+#[derive(Clone, Copy)]
+pub(crate) enum Channel {
+    Red,
+    Green,
+    Blue,
+    Alpha,
+}
+
+/// The bytes of the 64 pixels, with room for sums.
+#[inline(always)]
+fn widened(bytes: &[u8]) -> u16x64
+    requires { length bytes.now ≡ 64 }
+    ensures whole { length result ≡ 64 }
+    ensures each { (p : ℕ) → p < 64 → slice_index result p ≡ slice_index bytes.now p }
+    ensures bytes { (p : ℕ) → p < 64 → slice_index result p ≤ 255 }
+{
+    u8x64::from_slice(bytes).cast::<u16>()
+}
+
+/// Lanes of at most 255 as bytes.
+#[inline(always)]
+fn narrowed(lanes: u16x64) -> [u8; 64]
+    requires { Each1 (λ n. n ≤ 255) lanes }
+    ensures { result ≡ lanes }
+{
+    lanes.cast::<u8>().to_array()
+}
+
+/// A channel of the samples of a plane.
+#[inline(always)]
+fn lanes_of(plane: &BlockSamples, channel: Channel) -> u16x64
+    ensures whole { length result ≡ 64 }
+    ensures each { (p : ℕ) → p < 64 → slice_index result p ≡ channel_of channel (stored_at plane.now p) }
+    ensures bytes { (p : ℕ) → p < 64 → slice_index result p ≤ 255 }
+{
+    match channel {
+        Channel::Red => widened(&plane.r),
+        Channel::Green => widened(&plane.g),
+        Channel::Blue => widened(&plane.b),
+        Channel::Alpha => widened(&plane.alpha),
+    }
+}
+
+/// The sums of a channel of the samples of these planes, of which there are up to sixteen.
+#[inline(always)]
+fn sums(planes: &[BlockSamples], channel: Channel) -> u16x64
+    requires { length planes.now ≤ 16 }
+    ensures whole { length result ≡ 64 }
+    ensures each { (p : ℕ) → p < 64 → slice_index result p ≡
+        total (length planes.now) (λ s. channel_of channel (stored_at (in_list planes.now s) p)) }
+    ensures most { (p : ℕ) → p < 64 → slice_index result p ≤ 255 * length planes.now }
+{
+    let mut sums = u16x64::splat(0);
+    for plane in planes {
+        sums = sums + lanes_of(plane, channel);
+    }
+    sums
+}
+
+/// The means by the sums of the samples.
+#[inline(always)]
+fn means_of_sums(count: SampleCount, sums: u16x64) -> [u8; 64]
+    requires whole { length sums ≡ 64 }
+    requires most { (p : ℕ) → p < 64 → slice_index sums p ≤ 255 * count_of count }
+    ensures { (p : ℕ) → p < 64 → slice_index result p ≡ (slice_index sums p + count_of count / 2) / count_of count }
+{
+    let half = u16x64::splat((count.count() / 2) as u16);
+    let bits = u16x64::splat(count.logarithm() as u16);
+    narrowed((sums + half) >> bits)
+}
+
+/// The means of the samples of these planes, one plane for each sample of a pixel.
+#[inline(always)]
+fn means(count: SampleCount, planes: &[BlockSamples]) -> BlockSamples
+    requires { length planes.now ≡ count_of count }
+    ensures { (p : ℕ) → p < 64 → IsMeanOf count (λ s. stored_at (in_list planes.now s) p) (stored_at result p) }
+{
+    BlockSamples {
+        z: [0; 64],
+        r: means_of_sums(count, sums(planes, Channel::Red)),
+        g: means_of_sums(count, sums(planes, Channel::Green)),
+        b: means_of_sums(count, sums(planes, Channel::Blue)),
+        alpha: means_of_sums(count, sums(planes, Channel::Alpha)),
+    }
+}
+
+/// The means of the samples of block `k` of a tile with these planes, if the block has a plane for each sample of a
+/// pixel.
+#[inline(never)]
+pub(crate) fn means_of_own(
+    count: SampleCount,
+    planes: &[BlockSamples],
+    k: usize,
+) -> BlockSamples
+    requires block { k < 64 }
+    requires planes { length planes.now ≡ planes_of_tile count }
+    requires way { way_in_tile planes.now k ≡ AsOwn }
+    ensures { HasMeansOf count planes.now k result }
+{
+    let own = &planes[place_by(count, Way::Own, k, 0)..];
+    // Each count by itself: where the number of planes is known, the loops over them are unrolled.
+    match count {
+        SampleCount::One => means(SampleCount::One, &own[..1]),
+        SampleCount::Two => means(SampleCount::Two, &own[..2]),
+        SampleCount::Four => means(SampleCount::Four, &own[..4]),
+        SampleCount::Eight => means(SampleCount::Eight, &own[..8]),
+        SampleCount::Sixteen => means(SampleCount::Sixteen, &own[..16]),
+    }
+}
+
+/// How many of the masks have the bit of each pixel.
+#[inline(always)]
+fn count_bits(count: SampleCount, masks: &BlockSamples) -> u16x64
+    ensures whole { length result ≡ 64 }
+    ensures each { (p : ℕ) → p < 64 → slice_index result p ≡
+        total (count_of count) (λ s. bit_at (the_mask masks.now s) p) }
+{
+    let mut bits = u8x64::splat(0);
+    for s in 0..count.count() {
+        bits = bits + lanes_of_mask(mask_of(masks, s));
+    }
+    bits.cast::<u16>()
+}
+
+/// The means of a channel: `bits` samples of each pixel have that of `second`, and the others that of `first`.
+#[inline(always)]
+fn means_of_both(
+    count: SampleCount,
+    bits: u16x64,
+    first: &BlockSamples,
+    second: &BlockSamples,
+    channel: Channel,
+) -> [u8; 64]
+    requires bits { length bits ≡ 64 }
+    requires few { (p : ℕ) → p < 64 → slice_index bits p ≤ count_of count }
+    ensures { (p : ℕ) → p < 64 → slice_index result p ≡
+        (channel_of channel (stored_at first.now p) * (count_of count - slice_index bits p) +
+        channel_of channel (stored_at second.now p) * slice_index bits p + count_of count / 2) / count_of count }
+{
+    let rest = u16x64::splat(count.count() as u16) - bits;
+    means_of_sums(
+        count,
+        lanes_of(first, channel) * rest + lanes_of(second, channel) * bits,
+    )
+}
+
+/// The means of the samples of block `k` of a tile with these planes, if the block is kept as a pair.
+#[inline(never)]
+pub(crate) fn means_of_pair(
+    count: SampleCount,
+    planes: &[BlockSamples],
+    k: usize,
+) -> BlockSamples
+    requires block { k < 64 }
+    requires planes { length planes.now ≡ planes_of_tile count }
+    requires way { way_in_tile planes.now k ≡ AsPair }
+    ensures { HasMeansOf count planes.now k result }
+{
+    let many = count.count();
+    let first = &planes[place_by(count, Way::Pair, k, 0)];
+    let second = &planes[place_by(count, Way::Pair, k, many / 2)];
+    let masks = &planes[place_by(count, Way::Pair, k, many - 1)];
+    let bits = count_bits(count, masks);
+    BlockSamples {
+        z: [0; 64],
+        r: means_of_both(count, bits, first, second, Channel::Red),
+        g: means_of_both(count, bits, first, second, Channel::Green),
+        b: means_of_both(count, bits, first, second, Channel::Blue),
+        alpha: means_of_both(count, bits, first, second, Channel::Alpha),
+    }
+}
