@@ -20,7 +20,7 @@ use Rattle.canvas.specs.declared.block_means.Channel.{Channel}
 use Rattle.canvas.specs.declared.block_means.Channel.TheVariants.{Red, Green, Blue, Alpha}
 use Rattle.canvas.specs.declared.way.Way.{Way}
 use Rattle.canvas.specs.declared.way.Way.TheVariants.{Pair, Own}
-use Rattle.canvas.specs.Layout.{planes_of_tile, place_by, mask_of, masks_in, sample_place, chosen, block_in_tile, pixel_in_block, in_list, stored_in_tile, way_in_tile}
+use Rattle.canvas.specs.Layout.{planes_of_tile, place_by, mask_of, masks_in, sample_place, chosen, pixel_in_block, in_list, stored_in_tile, way_in_tile}
 use Rattle.canvas.specs.Lanes.{channel_of}
 use Rattle.canvas.specs.Colours.{IsMeanOf, HasMeansOf}
 use Rattle.canvas.proofs.MaskLanes.{AreLanes, zipped, splat, itself, total_next}
@@ -79,7 +79,6 @@ weighted_lane a b bits n small_a small_b few most =
     let sum : a * (n - bits) + b * bits ≤ 255 * n = omega (arith, most_a, most_b, few) in
     let exact : plus (times a (n - bits)) (times b bits) ≡ a * (n - bits) + b * bits = omega (arith, sum, most) in
     (ap (λ r. plus (times a r) (times b bits)) rest ∙ exact, sum)
-
 
 -- 64 sums with a channel of one sample more
 pub record AreSums (n : ℕ) (f : ℕ → ℕ → ℕ) (sums : List ℕ) : Type 0 where

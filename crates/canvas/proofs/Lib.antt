@@ -3,7 +3,6 @@ pub mod Flat
 pub mod Places
 pub mod Ways
 pub mod TilePlanes
-pub mod Blocks
 pub mod Ends
 pub mod DrawnTiles
 pub mod ClearedTiles

@@ -1,5 +1,5 @@
 -- The bits of masks of 64 pixels.
-use Rattle.std.proofs.Common.{zero, ◌*◌, replicate, ◌≡◌, ◌≢◌, ◌∙◌, inl, inr, sym, ap, subst, ℕ, suc, ◌+◌, ◌-◌, ◌/◌, ◌%◌, ◌<◌, ◌^◌, min, max, List, length, slice_index, slice_set, bit_and, bit_or, w64, arith, ◌≤◌, refl}
+use Rattle.std.proofs.Common.{replicate, ◌≡◌, ◌≢◌, ◌∙◌, inl, inr, sym, ap, subst, ℕ, ◌+◌, ◌-◌, ◌%◌, ◌<◌, ◌^◌, min, max, List, length, slice_index, slice_set, bit_and, bit_or, w64, arith, ◌≤◌}
 use Rattle.std.specs.Int.{bit_at}
 use Rattle.std.proofs.lemmas.Bool.{cases_lt}
 use Rattle.std.proofs.lemmas.List.{get_or-set_same, get_or-set_other}

@@ -73,7 +73,7 @@ pub record IsInBlock (first across down i j : ℕ) : Type 0 where
   pub column : i / 8 ≡ across
   pub row : j / 8 ≡ 8 * first + down
 
--- The bytes of those pixels in these rows that are in `IsIn` are as `IsPixel` says, and all other bytes are unchanged.
+-- The bytes of those pixels in these rows that `IsIn` names are as `IsPixel` says. All other bytes are unchanged.
 abbrev pub AreWrittenTo : PixelRows → (ℕ → ℕ → Type 0) → (ℕ → ℕ → (ℕ → ℕ) → Type 0) → List ℕ → List ℕ → Type 0
 AreWrittenTo rows = AreWrittenIn rows.tile_rows.canvas rows.tile_rows.first rows.tile_rows.end rows.unit rows.stride
 

@@ -38,6 +38,7 @@
 --
 -- Lanes.antt
 --   AreChosen: Each pixel has the number of `set` where its lane is 1, else that of `clear`.
+--   channel_of: A channel of a sample.
 --
 -- Drawing.antt
 --   AreCleared: Each sample of the tile rows from `first` to before `end` is this one.
@@ -61,6 +62,7 @@
 --   entry_of: The index of the first entry of pixel (i, j), of which there are `unit`.
 --   IsPixelRow: The row of this index among the rows of pixels in these tile rows.
 --   AreWritten: The entries of each pixel of the picture in these tile rows are as `IsPixel` says, and all other entries are unchanged.
+--   AreWrittenIn: The entries of those pixels in these tile rows that `IsIn` names are as `IsPixel` says.
 --
 -- Entries.antt
 --   FitEntries: Entries, of which a pixel has `unit`, fit the tile rows from `first` to before `end`.
@@ -68,21 +70,21 @@
 --
 -- Colours.antt
 --   IsColourOfPixel: The colour of pixel (i, j): each channel resolved from the pixel's samples, in planes from tile row `first` on.
---   IsColourIn: The colour of pixel (i, j): each channel resolved from the pixel's samples, in the planes of its tile.
 --   AreBytesOfColour: The bytes have this colour and this alpha in the format.
 --   IsAlphaOfPixel: The alpha of pixel (i, j), resolved from the pixel's samples, in planes from tile row `first` on.
---   IsAlphaIn: The alpha of pixel (i, j), resolved from the pixel's samples, in the planes of its tile.
 --   IsMeanOf: The colour and the alpha of a sample are resolved from these samples.
+--   IsSampleColour: The bytes are the colour of the sample in the format.
+--   HasMeansOf: The plane has the mean of the samples of each pixel of block k of the tile with these planes.
 --   IsPixelOf: The bytes of pixel (i, j) in the format.
---   IsPixelIn: The bytes of pixel (i, j) in the format, by the planes of its tile.
---   IsTilePixel: The bytes of the pixel in a row and a column of a tile, in the format.
+--   IsPixelWith: The bytes of a pixel with these samples in the format.
 --   AreArranged: The bytes of eight pixels in the format, by those of the same pixels as red, green and blue, and by their alphas.
 --   AreResolved: The bytes of each pixel of the picture in these tile rows are its colour in the format, and all other bytes are unchanged.
+--   IsInBlock: Pixel (i, j) is in a column and a row of blocks, of which the rows are counted from tile row `first` on.
+--   AreWrittenTo: The bytes of those pixels in these rows that `IsIn` names are as `IsPixel` says.
 --   id_of: The id that is stored in place of a colour: red is its lowest byte.
 --   AreEntries: In these tile rows the entry of each pixel of the picture is what `entry` says of its sample s.
 --   AreDepths: In these tile rows the entry of each pixel of the picture is the depth of its sample s.
 --   AreIds: In these tile rows the entry of each pixel of the picture is the id of its sample s.
---   IsSampleColour: The bytes are the colour of the sample in the format.
 --   AreColours: In these tile rows the bytes of each pixel of the picture are the colour of its sample s in the format.
 --
 -- Rows.antt

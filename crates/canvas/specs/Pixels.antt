@@ -87,8 +87,7 @@ pub record AreWritten (c : Canvas) (first end : ℕ) (unit stride : ℕ) (IsPixe
   pub pixels : (i j : ℕ) → HasPixel c first end i j → IsPixel i j (λ k. slice_index new (entry_of first unit stride i j + k))
   pub others : (n : ℕ) → ((i j k : ℕ) → HasPixel c first end i j → k < unit → n ≢ entry_of first unit stride i j + k) → slice_index new n ≡ slice_index old n
 
--- The entries of those pixels of the picture in these tile rows that are in `IsIn` are as `IsPixel` says, and all other entries are
--- unchanged.
+-- The entries of those pixels in these tile rows that `IsIn` names are as `IsPixel` says. All other entries are unchanged.
 pub record AreWrittenIn (c : Canvas) (first end : ℕ) (unit stride : ℕ) (IsIn : ℕ → ℕ → Type 0) (IsPixel : ℕ → ℕ → (ℕ → ℕ) → Type 0) (old new : List ℕ) : Type 0 where
   pub pixels : (i j : ℕ) → HasPixel c first end i j → IsIn i j → IsPixel i j (λ k. slice_index new (entry_of first unit stride i j + k))
   pub others : (n : ℕ) → ((i j k : ℕ) → HasPixel c first end i j → IsIn i j → k < unit → n ≢ entry_of first unit stride i j + k) → slice_index new n ≡ slice_index old n

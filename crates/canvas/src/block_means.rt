@@ -108,11 +108,7 @@ fn means(count: SampleCount, planes: &[BlockSamples]) -> BlockSamples
 /// The means of the samples of block `k` of a tile with these planes, if the block has a plane for each sample of a
 /// pixel.
 #[inline(never)]
-pub(crate) fn means_of_own(
-    count: SampleCount,
-    planes: &[BlockSamples],
-    k: usize,
-) -> BlockSamples
+pub(crate) fn means_of_own(count: SampleCount, planes: &[BlockSamples], k: usize) -> BlockSamples
     requires block { k < 64 }
     requires planes { length planes.now ≡ planes_of_tile count }
     requires way { way_in_tile planes.now k ≡ AsOwn }
@@ -167,11 +163,7 @@ fn means_of_both(
 
 /// The means of the samples of block `k` of a tile with these planes, if the block is kept as a pair.
 #[inline(never)]
-pub(crate) fn means_of_pair(
-    count: SampleCount,
-    planes: &[BlockSamples],
-    k: usize,
-) -> BlockSamples
+pub(crate) fn means_of_pair(count: SampleCount, planes: &[BlockSamples], k: usize) -> BlockSamples
     requires block { k < 64 }
     requires planes { length planes.now ≡ planes_of_tile count }
     requires way { way_in_tile planes.now k ≡ AsPair }

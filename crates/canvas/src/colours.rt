@@ -175,14 +175,7 @@ fn resolve_blocks(
     let tiles = &planes[rows.row(8 * down).planes];
     for across in 0..(canvas.width + 7) / 8 {
         let from = (across / 8) as usize * each;
-        resolve_block(
-            rows,
-            &tiles[from..from + each],
-            across,
-            down,
-            format,
-            bytes,
-        );
+        resolve_block(rows, &tiles[from..from + each], across, down, format, bytes);
     }
 }
 

@@ -1,4 +1,4 @@
-use Rattle.std.proofs.Common.{◌≡◌, ◌∙◌, ap, ℕ, ◌/◌, ◌<◌, ◌≤◌, get_or, arith}
+use Rattle.std.proofs.Common.{◌∙◌, ap, ◌/◌, ◌<◌, ◌≤◌, get_or}
 use Rattle.std.proofs.lemmas.Simd.{Each1-from_get_or}
 use Rattle.canvas.proofs.BlockMeans.{means_are, mean_small}
 use Rattle.canvas.proofs.block_means.means_of_sums.Goals as goal

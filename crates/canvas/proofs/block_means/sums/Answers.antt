@@ -1,4 +1,4 @@
-use Rattle.std.proofs.Common.{◌≡◌, ◌∙◌, ap, ◌<◌, ℕ, length, arith}
+use Rattle.std.proofs.Common.{◌≡◌, ◌∙◌, ap, ℕ, length, arith}
 use Rattle.shade.specs.Resolve.{total}
 use Rattle.lanes.specs.Block.{stored_at}
 use Rattle.canvas.specs.Layout.{in_list}
@@ -15,7 +15,7 @@ loop-plane-preserved c =
     record {
       within = omega (arith, c.loop-plane-test.true);
       sums = one_added s (λ s p. channel_of c.args.channel (stored_at (in_list c.args.planes.now s) p)) c.loop-plane.sums c.lanes_of-sums.result (omega (arith, c.loop-plane-test.true, c.requires)) c.lanes_of-sums.ensures.whole
-      c.lanes_of-sums.ensures.each c.lanes_of-sums.ensures.bytes c.loop-plane.invariant.sums;
+          c.lanes_of-sums.ensures.each c.lanes_of-sums.ensures.bytes c.loop-plane.invariant.sums;
     }
 
 pub returns-clause-each : goal.returns-clause-each

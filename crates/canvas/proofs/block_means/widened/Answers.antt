@@ -1,4 +1,4 @@
-use Rattle.std.proofs.Common.{◌≡◌, ◌∙◌, ap, get_or, take, map-id, arith}
+use Rattle.std.proofs.Common.{◌∙◌, ap, get_or, take, map-id, arith}
 use Rattle.std.proofs.lemmas.List.{get_or-take}
 use Rattle.lanes.proofs.Rows.{byte}
 use Rattle.canvas.proofs.block_means.widened.Goals as goal

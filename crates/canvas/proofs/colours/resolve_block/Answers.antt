@@ -1,4 +1,4 @@
-use Rattle.std.proofs.Common.{rules, ◌≡◌, ◌≢◌, ◌∙◌, ap, sym, subst, ℕ, ◌+◌, ◌*◌, ◌/◌, ◌<◌, List, arith}
+use Rattle.std.proofs.Common.{rules, ◌≡◌, ◌≢◌, ap, sym, subst, ℕ, ◌*◌, ◌<◌, List, arith}
 use Rattle.grid.specs.Samples.{count_of}
 use Rattle.grid.specs.declared.sample_count.SampleCount.{SampleCount}
 use Rattle.grid.specs.declared.sample_count.SampleCount.TheVariants.{One}
@@ -6,8 +6,7 @@ use Rattle.lanes.specs.declared.block_samples.BlockSamples.{BlockSamples}
 use Rattle.lanes.specs.Block.{stored_at}
 use Rattle.canvas.specs.declared.format.Format.{Format}
 use Rattle.canvas.specs.declared.pixel_rows.PixelRows.{PixelRows}
-use Rattle.canvas.specs.declared.way.Way.{Way}
-use Rattle.canvas.specs.declared.way.Way.TheVariants.{Pair, Own}
+use Rattle.canvas.specs.declared.way.Way.TheVariants.{Pair}
 use Rattle.canvas.specs.Layout.{block_in_tile, pixel_in_block, place_by, in_list, stored_in_tile}
 use Rattle.canvas.specs.Colours.{HasMeansOf, IsSampleColour, IsPixelWith, IsInBlock, AreWrittenTo}
 use Rattle.canvas.proofs.TilePlanes.{one_place}

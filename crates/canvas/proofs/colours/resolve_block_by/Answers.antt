@@ -1,7 +1,7 @@
-use Rattle.std.proofs.Common.{◌≡◌, ◌∙◌, inl, inr, sym, ap, subst, refl, ℕ, ◌+◌, ◌-◌, ◌*◌, ◌/◌, ◌%◌, ◌<◌, ◌≤◌, min, length, slice_index, arith}
+use Rattle.std.proofs.Common.{◌≡◌, ◌∙◌, inl, inr, sym, ap, subst, ℕ, ◌+◌, ◌-◌, ◌*◌, ◌/◌, ◌%◌, ◌<◌, ◌≤◌, min, length, slice_index, arith}
 use Rattle.std.proofs.lemmas.Bool.{cases_lt}
 use Rattle.lanes.specs.Block.{stored_at}
-use Rattle.canvas.specs.Layout.{HasPixel, pixel_in_block}
+use Rattle.canvas.specs.Layout.{pixel_in_block}
 use Rattle.canvas.specs.Pixels.{pixel_bytes, shown_rows, IsPixelRow}
 use Rattle.canvas.specs.Colours.{IsSampleColour, IsInBlock}
 use Rattle.canvas.proofs.PixelColours.{sample_colour_same}

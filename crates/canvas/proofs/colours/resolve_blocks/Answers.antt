@@ -3,7 +3,6 @@ use Rattle.std.proofs.lemmas.Bool.{cases_lt}
 use Rattle.grid.specs.Samples.{count_of}
 use Rattle.lanes.specs.declared.block_samples.BlockSamples.{BlockSamples}
 use Rattle.canvas.specs.Layout.{columns_of, planes_of_tile, planes_of_row, stored, stored_in_tile}
-use Rattle.canvas.specs.Pixels.{pixel_bytes}
 use Rattle.canvas.specs.Colours.{IsPixelOf, IsPixelWith, IsInBlock}
 use Rattle.canvas.proofs.Places.{part_within, row_of, tile_of}
 use Rattle.canvas.proofs.PixelColours.{pixel_same, pixel_with}
