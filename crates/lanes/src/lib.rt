@@ -24,4 +24,4 @@ pub use block_mask::BlockMask;
 pub use block_samples::BlockSamples;
 pub use interpolants::Interpolants;
 pub use one_by_one::sample_position;
-pub use resolve::{alpha_sums, means_of_four, means_of_sums, sums};
+pub use resolve::{means_of_four, means_of_sums, sums};

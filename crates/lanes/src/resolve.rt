@@ -59,19 +59,6 @@ pub fn sums(samples: &[BlockSamples], at: usize) -> (u16x8, u16x8, u16x8)
     (red, green, blue)
 }
 
-/// The sums of the alpha of the samples of eight pixels in order, from a place on. There are up to sixteen samples.
-pub fn alpha_sums(samples: &[BlockSamples], at: usize) -> u16x8
-    requires room { at + 8 ≤ 64 }
-    requires few { length samples.now ≤ 16 }
-    ensures { AreSums result (length samples.now) (λ s i. slice_index (plane_of samples.now s).alpha (at + i)) }
-{
-    let mut alpha = u16x8::splat(0);
-    for s in 0..samples.len() {
-        alpha = with_row(alpha, &samples[s].alpha, at);
-    }
-    alpha
-}
-
 /// The means of eight pixels by the sums of their samples, of which there are 2^bits; half of that is `half`.
 #[inline(always)]
 pub fn means_of_sums(sums: u16x8, half: u16, bits: u16) -> u8x8

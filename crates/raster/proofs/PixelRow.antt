@@ -10,7 +10,7 @@ use Rattle.shade.specs.Resolve.{IsResolved}
 use Rattle.shade.proofs.Resolved.{total_same, by_mean_of, some_samples}
 use Rattle.raster.specs.declared.tile.Tile.{Tile}
 use Rattle.raster.specs.Samples.{place_of, planes_of, stored}
-use Rattle.raster.specs.Colours.{IsColourAt, IsAlphaAt, AreMeansAt}
+use Rattle.raster.specs.Colours.{IsColourAt, AreMeansAt}
 use Rattle.lanes.specs.BlockMask.{plane_of}
 use Rattle.lanes.specs.Sums.{AreSums}
 use Rattle.grid.specs.Pixels.{side_of}
@@ -63,17 +63,6 @@ module _ (tile : Tile) (samples : List BlockSamples) (row column : ℕ) where
       green = subst (λ n. IsResolved n (λ s. (stored tile samples row (8 * column + i) s).g) g) (sym e) (rw (block, pixel) green);
       blue = subst (λ n. IsResolved n (λ s. (stored tile samples row (8 * column + i) s).b) b) (sym e) (rw (block, pixel) blue);
     }
-
-    pub one_alpha : tile.count ≡ One → (a : ℕ) → a ≡ slice_index (plane 0).alpha k → IsAlphaAt tile samples row (8 * column + i) a
-    one_alpha e a alpha = subst (λ n. IsResolved n (λ s. (stored tile samples row (8 * column + i) s).alpha) a) (sym e) (rw (block, pixel) alpha)
-
-    pub four_alphas : tile.count ≡ Four → (a : ℕ)
-        → IsQuotient (slice_index (plane 0).alpha k + slice_index (plane 1).alpha k + slice_index (plane 2).alpha k + slice_index (plane 3).alpha k + 2) 4 a
-        → IsAlphaAt tile samples row (8 * column + i) a
-    four_alphas e a alpha = subst (λ n. IsResolved n (λ s. (stored tile samples row (8 * column + i) s).alpha) a) (sym e) (rw (block, pixel) alpha)
-
-    pub alpha_by_mean : (a : ℕ) → a ≡ mean_of (count_of tile.count) (λ s. slice_index (plane s).alpha k) → IsAlphaAt tile samples row (8 * column + i) a
-    alpha_by_mean a alpha = by_mean_of tile.count (λ s. (stored tile samples row (8 * column + i) s).alpha) a (rw (block, pixel) alpha)
 
     -- by the mean of the samples
     pub by_mean : (r g b : ℕ) → r ≡ mean_of (count_of tile.count) (λ s. slice_index (plane s).r k) → g ≡ mean_of (count_of tile.count) (λ s. slice_index (plane s).g k)
@@ -138,14 +127,3 @@ by_sums tile xs row column i at n bytes h long high wide place many means =
     (mean.0 ∙ mean_moved xs at n tile (row / 8) column (λ b. slice_index b.r k) room place ∙ (λ j. mean_of (many j) (λ s. slice_index (plane_of xs (place_of tile (row / 8) column s)).r k)))
     (mean.1 ∙ mean_moved xs at n tile (row / 8) column (λ b. slice_index b.g k) room place ∙ (λ j. mean_of (many j) (λ s. slice_index (plane_of xs (place_of tile (row / 8) column s)).g k)))
     (mean.2 ∙ mean_moved xs at n tile (row / 8) column (λ b. slice_index b.b k) room place ∙ (λ j. mean_of (many j) (λ s. slice_index (plane_of xs (place_of tile (row / 8) column s)).b k)))
-
--- ---- alpha
-pub alpha_by_sums : (tile : Tile) (xs : List BlockSamples) (row column i at n a : ℕ) → i < 8 → length xs ≡ planes_of tile.side tile.count → row < side_of tile.side → column < side_of tile.side / 8
-    → at ≡ place_of tile (row / 8) column 0 → n ≡ count_of tile.count
-    → a ≡ mean_of (length (take n (drop at xs))) (λ s. slice_index (plane_of (take n (drop at xs)) s).alpha (8 * (row % 8) + i))
-    → IsAlphaAt tile xs row (8 * column + i) a
-alpha_by_sums tile xs row column i at n a h long high wide place many mean =
-    let room : at + n ≤ length xs = omega (arith, many, planes_within tile xs row column at long high wide place) in
-    let k : ℕ = 8 * (row % 8) + i in
-    alpha_by_mean tile xs row column i h a
-    (mean ∙ mean_moved xs at n tile (row / 8) column (λ b. slice_index b.alpha k) room place ∙ (λ j. mean_of (many j) (λ s. slice_index (plane_of xs (place_of tile (row / 8) column s)).alpha k)))

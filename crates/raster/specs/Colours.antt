@@ -13,14 +13,6 @@ pub record IsColourAt (tile : Tile) (samples : List BlockSamples) (row column : 
   pub green : IsResolved tile.count (λ s. (stored tile samples row column s).g) g
   pub blue : IsResolved tile.count (λ s. (stored tile samples row column s).b) b
 
--- The alpha of the pixel in a row and a column of the tile, resolved from the pixel's samples.
-abbrev pub IsAlphaAt : Tile → List BlockSamples → ℕ → ℕ → ℕ → Type 0
-IsAlphaAt tile samples row column = IsResolved tile.count (λ s. (stored tile samples row column s).alpha)
-
--- The alphas of the eight pixels in a row of the tile and a column of its blocks.
-abbrev pub AreAlphasAt : Tile → List BlockSamples → ℕ → ℕ → List ℕ → Type 0
-AreAlphasAt tile samples row column alphas = (i : ℕ) → i < 8 → IsAlphaAt tile samples row (8 * column + i) (slice_index alphas i)
-
 -- The bytes of the eight pixels in a row of the tile and a column of its blocks: red, green and blue of each.
 abbrev pub AreColoursAt : Tile → List BlockSamples → ℕ → ℕ → List ℕ → Type 0
 AreColoursAt tile samples row column bytes =
@@ -33,10 +25,6 @@ AreMeansAt planes from bytes =
     → (slice_index bytes (3 * i) ≡ mean_of (length planes) (λ s. slice_index (plane_of planes s).r (from + i)))
     × (slice_index bytes (3 * i + 1) ≡ mean_of (length planes) (λ s. slice_index (plane_of planes s).g (from + i)))
     × (slice_index bytes (3 * i + 2) ≡ mean_of (length planes) (λ s. slice_index (plane_of planes s).b (from + i)))
-
--- The alphas of eight pixels of a block from pixel `from` on: the means of these planes.
-abbrev pub AreAlphaMeansAt : List BlockSamples → ℕ → List ℕ → Type 0
-AreAlphaMeansAt planes from alphas = (i : ℕ) → i < 8 → slice_index alphas i ≡ mean_of (length planes) (λ s. slice_index (plane_of planes s).alpha (from + i))
 
 -- The bytes are the first eight of three lists, one of each after another.
 abbrev pub AreInterleaved : List ℕ → List ℕ → List ℕ → List ℕ → Type 0

@@ -11,7 +11,7 @@ mod tile;
 
 pub use block::draw_masks;
 pub use cleared::clear;
-pub use pixel_row::{alphas_by, colours, colours_by, eight_from, first_of_many, interleaved};
+pub use pixel_row::{colours, eight_from, first_of_many, interleaved};
 pub use rasterize::{covers_tile, draw_next, draw_triangle};
 pub use scissor::holds_tile;
 pub use tile::Tile;

@@ -1,14 +1,14 @@
 //! The colours of eight pixels in a row of a block.
-ghost use Rattle.std.specs.Prelude.{◌≡◌, ◌⊎◌, false, ℕ, ◌+◌, ◌*◌, ◌/◌, ◌%◌, ◌^◌, ◌<◌, ◌≤◌, length, slice_index};
+ghost use Rattle.std.specs.Prelude.{◌≡◌, ◌⊎◌, ℕ, ◌+◌, ◌*◌, ◌/◌, ◌%◌, ◌^◌, ◌<◌, ◌≤◌, length, slice_index};
 ghost use Rattle.grid.specs.Pixels.{side_of};
 ghost use Rattle.grid.specs.Samples.{count_of};
 ghost use Rattle.grid.specs.declared.sample_count.SampleCount.TheVariants.{One, Four};
 ghost use Rattle.raster.specs.Samples.{planes_of};
-ghost use Rattle.raster.specs.Colours.{AreColoursAt, AreAlphasAt, AreMeansAt, AreAlphaMeansAt, AreInterleaved};
+ghost use Rattle.raster.specs.Colours.{AreColoursAt, AreMeansAt, AreInterleaved};
 
 use crate::tile::Tile;
 use grid::SampleCount;
-use lanes::{BlockSamples, alpha_sums, means_of_four, means_of_sums, sums};
+use lanes::{BlockSamples, means_of_four, means_of_sums, sums};
 use std::simd::prelude::*;
 
 /// Red, green and blue of eight pixels, pixel by pixel, and behind them eight bytes that nobody reads: a vector has as
@@ -103,28 +103,6 @@ fn colours_of_few(tile: &Tile, samples: &[BlockSamples], row: u32, column: u32) 
     }
 }
 
-/// What `colours` returns: code for any number of samples with `MORE`, else for one sample a pixel or four.
-#[inline(always)]
-pub fn colours_by<const MORE: bool>(
-    tile: &Tile,
-    samples: &[BlockSamples],
-    row: u32,
-    column: u32,
-) -> u8x32
-    requires samples { length samples.now ≡ planes_of tile.now.side tile.now.count }
-    requires row { row < side_of tile.now.side }
-    requires column { column < side_of tile.now.side / 8 }
-    requires few { MORE ≡ false → (tile.now.count ≡ One) ⊎ (tile.now.count ≡ Four) }
-    ensures whole { length result ≡ 32 }
-    ensures colours { AreColoursAt tile.now samples.now row column result }
-{
-    if MORE {
-        colours_of_more(tile, samples, row, column)
-    } else {
-        colours_of_few(tile, samples, row, column)
-    }
-}
-
 /// Red, green and blue of the eight pixels in a row of the tile and a column of its blocks, pixel by pixel: the first
 /// 24 bytes of the result.
 #[inline(always)]
@@ -158,34 +136,6 @@ pub fn first_of_many(alphas: u8x8) -> u8x32
     )
 }
 
-/// The alpha of eight pixels of a block from pixel `from` on: the means of 2^bits planes of samples, by their sums. Half
-/// the number of samples is `half`.
-fn alphas_by_sums(samples: &[BlockSamples], from: usize, half: u16, bits: u16) -> u8x8
-    requires from { from + 8 ≤ 64 }
-    requires bits { bits ≤ 4 }
-    requires samples { length samples.now ≡ 2 ^ bits }
-    requires half { half ≡ 2 ^ bits / 2 }
-    ensures whole { length result ≡ 8 }
-    ensures means { AreAlphaMeansAt samples.now from result }
-{
-    means_of_sums(alpha_sums(samples, from), half, bits)
-}
-
-/// What `alphas_by` returns, by the sums of any number of samples.
-#[inline(never)]
-fn alphas_of_more(tile: &Tile, samples: &[BlockSamples], row: u32, column: u32) -> u8x8
-    requires samples { length samples.now ≡ planes_of tile.now.side tile.now.count }
-    requires row { row < side_of tile.now.side }
-    requires column { column < side_of tile.now.side / 8 }
-    ensures whole { length result ≡ 8 }
-    ensures alphas { AreAlphasAt tile.now samples.now row column result }
-{
-    let place = tile.place(row / 8, column, 0);
-    let planes = &samples[place..place + tile.count.count() as usize];
-    let (bits, half) = logarithm_and_half(tile.count);
-    alphas_by_sums(planes, 8 * (row % 8) as usize, half, bits)
-}
-
 /// Eight bytes from a place on.
 #[inline(always)]
 pub fn eight_from(bytes: &[u8], from: usize) -> u8x8
@@ -194,56 +144,4 @@ pub fn eight_from(bytes: &[u8], from: usize) -> u8x8
     ensures each { (i : ℕ) → i < 8 → slice_index result i ≡ slice_index bytes.now (from + i) }
 {
     u8x8::from_slice(&bytes[from..])
-}
-
-/// What `alphas_by` returns, for one sample a pixel or four.
-#[inline(always)]
-fn alphas_of_few(tile: &Tile, samples: &[BlockSamples], row: u32, column: u32) -> u8x8
-    requires samples { length samples.now ≡ planes_of tile.now.side tile.now.count }
-    requires row { row < side_of tile.now.side }
-    requires column { column < side_of tile.now.side / 8 }
-    requires few { (tile.now.count ≡ One) ⊎ (tile.now.count ≡ Four) }
-    ensures whole { length result ≡ 8 }
-    ensures alphas { AreAlphasAt tile.now samples.now row column result }
-{
-    let start = 8 * (row % 8) as usize;
-    if tile.count == SampleCount::One {
-        let plane = &samples[tile.place_by_count(SampleCount::One, row / 8, column, 0)];
-        eight_from(&plane.alpha, start)
-    } else {
-        let place = tile.place_by_count(SampleCount::Four, row / 8, column, 0);
-        let (first, second) = (&samples[place], &samples[place + 1]);
-        let (third, fourth) = (&samples[place + 2], &samples[place + 3]);
-        means_of_four(
-            &first.alpha,
-            &second.alpha,
-            &third.alpha,
-            &fourth.alpha,
-            start,
-        )
-    }
-}
-
-/// The alpha of the eight pixels in a row of the tile and a column of its blocks: the first 8 bytes of the result. `MORE`
-/// is as in `colours_by`.
-#[inline(always)]
-pub fn alphas_by<const MORE: bool>(
-    tile: &Tile,
-    samples: &[BlockSamples],
-    row: u32,
-    column: u32,
-) -> u8x32
-    requires samples { length samples.now ≡ planes_of tile.now.side tile.now.count }
-    requires row { row < side_of tile.now.side }
-    requires column { column < side_of tile.now.side / 8 }
-    requires few { MORE ≡ false → (tile.now.count ≡ One) ⊎ (tile.now.count ≡ Four) }
-    ensures whole { length result ≡ 32 }
-    ensures alphas { AreAlphasAt tile.now samples.now row column result }
-{
-    let alphas = if MORE {
-        alphas_of_more(tile, samples, row, column)
-    } else {
-        alphas_of_few(tile, samples, row, column)
-    };
-    first_of_many(alphas)
 }
