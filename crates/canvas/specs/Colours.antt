@@ -69,7 +69,7 @@ AreResolved c first end samples format stride old new =
     AreWritten c first end (pixel_bytes format) stride (λ i j bytes. IsPixelOf c first samples format i j bytes) old new
 
 -- Pixel (i, j) is in a column and a row of blocks, of which the rows are counted from tile row `first` on.
-pub record IsInBlock (first across down i j : ℕ) : Type 0 where
+pub record LiesInBlock (first across down i j : ℕ) : Type 0 where
   pub column : i / 8 ≡ across
   pub row : j / 8 ≡ 8 * first + down
 

@@ -5,7 +5,7 @@ ghost use Rattle.lanes.specs.Block.{stored_at};
 ghost use Rattle.canvas.specs.Layout.{columns_of, planes_of_tile, planes_of_row, planes_of_rows, pixel_in_block, stored, stored_in_tile};
 ghost use Rattle.canvas.specs.Pixels.{pixel_bytes, shown_rows, IsLargeEnough};
 ghost use Rattle.canvas.specs.Entries.{FitEntries, IsEntriesMisfit};
-ghost use Rattle.canvas.specs.Colours.{IsPixelOf, IsPixelWith, IsInBlock, IsSampleColour, AreBytesOfColour, AreWrittenTo, AreResolved, AreColours};
+ghost use Rattle.canvas.specs.Colours.{IsPixelOf, IsPixelWith, LiesInBlock, IsSampleColour, AreBytesOfColour, AreWrittenTo, AreResolved, AreColours};
 
 use crate::block_means::{means_of_own, means_of_pair};
 use crate::canvas::Canvas;
@@ -96,7 +96,7 @@ fn resolve_block_by(
     requires row { 8 * down < shown_rows rows.now.tile_rows.canvas rows.now.tile_rows.first rows.now.tile_rows.end }
     requires unit { rows.now.unit ≡ pixel_bytes format }
     requires size { rows.now.size ≡ length bytes.old }
-    ensures { AreWrittenTo rows.now (IsInBlock rows.now.tile_rows.first across down)
+    ensures { AreWrittenTo rows.now (LiesInBlock rows.now.tile_rows.first across down)
         (λ i j bytes. IsSampleColour format (stored_at plane.now (pixel_in_block i j)) bytes) bytes.old bytes.new }
 {
     let unit = format.pixel_bytes();
@@ -130,7 +130,7 @@ fn resolve_block(
     requires planes { length planes.now ≡ planes_of_tile rows.now.tile_rows.canvas.count }
     requires unit { rows.now.unit ≡ pixel_bytes format }
     requires size { rows.now.size ≡ length bytes.old }
-    ensures { AreWrittenTo rows.now (IsInBlock rows.now.tile_rows.first across down)
+    ensures { AreWrittenTo rows.now (LiesInBlock rows.now.tile_rows.first across down)
         (λ i j bytes. IsPixelWith rows.now.tile_rows.canvas.count
         (stored_in_tile rows.now.tile_rows.canvas.count planes.now i j) format bytes) bytes.old bytes.new }
 {

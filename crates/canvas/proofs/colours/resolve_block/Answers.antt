@@ -8,7 +8,7 @@ use Rattle.canvas.specs.declared.format.Format.{Format}
 use Rattle.canvas.specs.declared.pixel_rows.PixelRows.{PixelRows}
 use Rattle.canvas.specs.declared.way.Way.TheVariants.{Pair}
 use Rattle.canvas.specs.Layout.{block_in_tile, pixel_in_block, place_by, in_list, stored_in_tile}
-use Rattle.canvas.specs.Colours.{HasMeansOf, IsSampleColour, IsPixelWith, IsInBlock, AreWrittenTo}
+use Rattle.canvas.specs.Colours.{HasMeansOf, IsSampleColour, IsPixelWith, LiesInBlock, AreWrittenTo}
 use Rattle.canvas.proofs.TilePlanes.{one_place}
 use Rattle.canvas.proofs.BlockMeans.{means_of_one}
 use Rattle.canvas.proofs.Ways.{own_not_pair}
@@ -18,11 +18,11 @@ use Rattle.canvas.proofs.colours.resolve_block.Goals.{in_default-via-in-Own+else
 
 -- the pixels have the colours of their means
 by_means : (rows : PixelRows) (count : SampleCount) (xs : List BlockSamples) (plane : BlockSamples) (across down k : ℕ) (format : Format) (old new : List ℕ) → k ≡ block_in_tile (8 * across) (8 * down) → HasMeansOf count xs k plane
-    → AreWrittenTo rows (IsInBlock rows.tile_rows.first across down) (λ i j bytes. IsSampleColour format (stored_at plane (pixel_in_block i j)) bytes) old new
-    → AreWrittenTo rows (IsInBlock rows.tile_rows.first across down) (λ i j bytes. IsPixelWith count (stored_in_tile count xs i j) format bytes) old new
+    → AreWrittenTo rows (LiesInBlock rows.tile_rows.first across down) (λ i j bytes. IsSampleColour format (stored_at plane (pixel_in_block i j)) bytes) old new
+    → AreWrittenTo rows (LiesInBlock rows.tile_rows.first across down) (λ i j bytes. IsPixelWith count (stored_in_tile count xs i j) format bytes) old new
 by_means rows count xs plane across down k format old new is means =
     written_as rows.tile_rows.canvas rows.tile_rows.first rows.tile_rows.end rows.unit rows.stride (λ i j bytes. IsSampleColour format (stored_at plane (pixel_in_block i j)) bytes)
-    (IsInBlock rows.tile_rows.first across down) (IsInBlock rows.tile_rows.first across down) (λ i j bytes. IsPixelWith count (stored_in_tile count xs i j) format bytes) old new (λ i j h here. here) (λ i j h here. here)
+    (LiesInBlock rows.tile_rows.first across down) (LiesInBlock rows.tile_rows.first across down) (λ i j bytes. IsPixelWith count (stored_in_tile count xs i j) format bytes) old new (λ i j h here. here) (λ i j h here. here)
     (λ i j bytes h here order.
     let block : block_in_tile i j ≡ k = omega (arith, here.column, here.row, is) in
     record { mean = stored_at plane (pixel_in_block i j); is_mean = means i j block; order = order })

@@ -3,7 +3,7 @@ use Rattle.std.proofs.lemmas.Bool.{cases_lt}
 use Rattle.lanes.specs.Block.{stored_at}
 use Rattle.canvas.specs.Layout.{pixel_in_block}
 use Rattle.canvas.specs.Pixels.{pixel_bytes, shown_rows, IsPixelRow}
-use Rattle.canvas.specs.Colours.{IsSampleColour, IsInBlock}
+use Rattle.canvas.specs.Colours.{IsSampleColour, LiesInBlock}
 use Rattle.canvas.proofs.PixelColours.{sample_colour_same}
 use Rattle.canvas.proofs.Units.{IsEntryOf, entry_in}
 use Rattle.canvas.proofs.Written.{nothing_written, both_written, run_written, written_as}
@@ -74,7 +74,7 @@ returns c =
     let shown : ℕ = shown_rows rows.tile_rows.canvas first rows.tile_rows.end in
     let last : c.min-end.result ≡ min (8 * down + 8) shown = c.min-end.ensures ∙ ap (λ n. min (8 * down + 8) n) c.count.ensures in
     let to : index ≤ 8 * down + 8 = omega (arith, c.loop-index.auto.index-end, last, c.requires.row) in
-    written_as rows.tile_rows.canvas first rows.tile_rows.end rows.unit rows.stride P (λ i j. (i / 8 ≡ across) × (64 * first + 8 * down ≤ j) × (j < 64 * first + index)) (IsInBlock first across down) P c.args.bytes.now c.loop-index.bytes
+    written_as rows.tile_rows.canvas first rows.tile_rows.end rows.unit rows.stride P (λ i j. (i / 8 ≡ across) × (64 * first + 8 * down ≤ j) × (j < 64 * first + index)) (LiesInBlock first across down) P c.args.bytes.now c.loop-index.bytes
     (λ i j h here. (here.column, omega (arith, here.row), omega (arith, here.row, last, c.loop-index-test.false, h.row, h.below, h.from)))
     (λ i j h here. record { column = here.0; row = omega (arith, here.1, here.2, to) })
     (λ i j bytes h here order. order) c.loop-index.invariant

@@ -3,7 +3,7 @@ use Rattle.std.proofs.lemmas.Bool.{cases_lt}
 use Rattle.grid.specs.Samples.{count_of}
 use Rattle.lanes.specs.declared.block_samples.BlockSamples.{BlockSamples}
 use Rattle.canvas.specs.Layout.{columns_of, planes_of_tile, planes_of_row, stored, stored_in_tile}
-use Rattle.canvas.specs.Colours.{IsPixelOf, IsPixelWith, IsInBlock}
+use Rattle.canvas.specs.Colours.{IsPixelOf, IsPixelWith, LiesInBlock}
 use Rattle.canvas.proofs.Places.{part_within, row_of, tile_of}
 use Rattle.canvas.proofs.PixelColours.{pixel_same, pixel_with}
 use Rattle.canvas.proofs.Written.{nothing_written, both_written, written_as}
@@ -49,7 +49,7 @@ loop-across-preserved c =
     let size : from + each - from ≡ planes_of_tile canvas.count = omega (arith, c.planes_of_tile-each.ensures.value) in
     let P : ℕ → ℕ → (ℕ → ℕ) → Type 0 = λ i j bytes. IsPixelOf canvas first xs format i j bytes in
     let same = λ (i j : ℕ) (f g : ℕ → ℕ) (h : (k : ℕ) → k < w → g k ≡ f k). pixel_same canvas first xs format i j f g (λ k small. h k (omega (arith, small, c.requires.unit))) in
-    let sample : (i j s : ℕ) → IsInBlock first across down i j → s < count_of canvas.count → stored_in_tile canvas.count part i j s ≡ stored canvas first xs i j s =
+    let sample : (i j s : ℕ) → LiesInBlock first across down i j → s < count_of canvas.count → stored_in_tile canvas.count part i j s ≡ stored canvas first xs i j s =
     λ i j s here l.
     let column : across / 8 ≡ i / 64 = omega (arith, here.column) in
     let row : r.j / 64 ≡ j / 64 = omega (arith, here.row, is.line) in
@@ -57,13 +57,13 @@ loop-across-preserved c =
     let begin : from ≡ i / 64 * planes_of_tile canvas.count = (λ t. column t * c.planes_of_tile-each.ensures.value t) in
     tile_of canvas i j s (j / 64) tiles (from + each - from) from refl size begin l
     ∙ row_of canvas i j s (j / 64) first xs n r.planes.start refl (omega (arith, is.planes)) (is.first_plane ∙ ap (λ y. (y - first) * planes_of_row canvas) row) wide l in
-    both_written canvas first end w rows.stride P same (λ i j. (i / 8 < across) × (j / 8 ≡ 8 * first + down)) (IsInBlock first across down) (λ i j. (i / 8 < across + 1) × (j / 8 ≡ 8 * first + down)) c.args.bytes.now c.loop-across.bytes _ rows.fit.wide
+    both_written canvas first end w rows.stride P same (λ i j. (i / 8 < across) × (j / 8 ≡ 8 * first + down)) (LiesInBlock first across down) (λ i j. (i / 8 < across + 1) × (j / 8 ≡ 8 * first + down)) c.args.bytes.now c.loop-across.bytes _ rows.fit.wide
     (λ i j h here. elim (cases_lt (i / 8) across) [ inl less ↦ inl (less, here.1) | inr more ↦ inr (record { column = omega (arith, here.0, more); row = here.1 }) ])
     (λ i j h here. (omega (arith, here.0), here.1))
     (λ i j h here. (omega (arith, here.column), here.row))
     (λ i j here there. omega (arith, here.0, there.column))
     c.loop-across.invariant
-    (written_as canvas first end w rows.stride (λ i j bytes. IsPixelWith canvas.count (stored_in_tile canvas.count part i j) format bytes) (IsInBlock first across down) (IsInBlock first across down) P c.loop-across.bytes _ (λ i j h here. here) (λ i j h here. here)
+    (written_as canvas first end w rows.stride (λ i j bytes. IsPixelWith canvas.count (stored_in_tile canvas.count part i j) format bytes) (LiesInBlock first across down) (LiesInBlock first across down) P c.loop-across.bytes _ (λ i j h here. here) (λ i j h here. here)
     (λ i j bytes h here pixel. pixel_with canvas first xs format i j (stored_in_tile canvas.count part i j) bytes (λ s l. sample i j s here l) pixel) c.resolve_block.ensures)
 
 pub returns : goal.returns
