@@ -20,14 +20,14 @@ use std::simd::prelude::*;
 
 /// A channel of samples.
 #[derive(Clone, Copy)]
-pub(crate) enum Channel {
+enum Channel {
     Red,
     Green,
     Blue,
     Alpha,
 }
 
-/// The bytes of the 64 pixels, with room for sums.
+/// The bytes of the 64 pixels in lanes of 16 bits.
 #[inline(always)]
 fn widened(bytes: &[u8]) -> u16x64
     requires { length bytes.now ≡ 64 }
