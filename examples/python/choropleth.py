@@ -7,8 +7,8 @@ ids, summed exactly.
 
 Without a map the cells are land and sea of GSHHG in squares of ten degrees, and land is coloured by its share of its
 square: it needs of Debian gmt-gshhg-low and python3-netcdf4. A map and its style are as for `python3 -m trirast.poster`
-(docs/maps.md), so a file of countries and a property of theirs will do. It needs numpy. After `pip install ./python` no
-PYTHONPATH is needed.
+(docs/maps.md), so a file of countries and a property of theirs will do. It needs numpy, and with 16 samples some 230
+bytes a pixel. After `pip install ./python` no PYTHONPATH is needed.
 """
 
 import argparse
@@ -84,10 +84,20 @@ def main() -> None:
     parser = argparse.ArgumentParser(
         description="Draws a map whose cells are coloured by a number, and counts their areas."
     )
-    parser.add_argument("picture", help="the PNG file to write")
+    parser.add_argument("picture", help="the PNG or PPM file to write")
     parser.add_argument("--map", metavar="MAP.geojson", help="polygons of GeoJSON, at most 4096 pixels a side")
     parser.add_argument("--style", metavar="STYLE.json", help="their window, and their colours by a property")
     options = parser.parse_args()
+    if not options.picture.lower().endswith((".png", ".ppm")):
+        parser.error("the picture's name has to end in .png or .ppm")
+    try:
+        draw(options)
+    except (OSError, trirast.Error, poster.PosterError) as error:
+        sys.exit(f"choropleth: {error}")
+
+
+def draw(options: argparse.Namespace) -> None:
+    """Draws the picture and prints what was counted."""
     sheet, polygons = land_by_squares() if options.map is None else given_map(options.map, options.style)
     canvas = canvas_of(sheet, sheet.clear)
     canvas.draw_polygons(*polygons.arrays, blend="over", threads=os.cpu_count() or 1)
@@ -96,12 +106,12 @@ def main() -> None:
     covers = covers_of(sheet, polygons)
     whole = sheet.width * sheet.height * sheet.samples
     print(
-        f"{polygons.count} polygons have {areas.sum():,} samples, and no polygon has {rest:,}: "
-        f"{areas.sum() + rest - whole} beside {whole:,}"
+        f"{polygons.count} polygons have {areas.sum():,} samples, and {rest:,} have no polygon: "
+        f"together {areas.sum() + rest:,} of {whole:,}"
     )
     print(f"{covers[0]:,} samples are in no polygon, {covers[1]:,} in one, {covers[2:].sum():,} in several")
     largest = np.argsort(-areas, kind="stable")[:3].tolist()
-    print("the largest: " + ", ".join(f"polygon {number} with {areas[number]:,} samples" for number in largest))
+    print("the largest, in pixels: " + ", ".join(f"feature {k} {areas[k] / sheet.samples:,.0f}" for k in largest))
 
 
 if __name__ == "__main__":

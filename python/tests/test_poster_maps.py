@@ -188,8 +188,8 @@ def test_the_closing_line_counts_features(tmp_path: Any, capsys: Any) -> None:
     )
     names = [str(tmp_path / name) for name in ("map.geojson", "style.json", "a.png", "tiles")]
     assert _command.main([names[0], "--style", names[1], "-o", names[2], "--tiles", names[3]]) == 0
-    size = "60 by 30 pixels; 2 of 4 features drawn, 1 in the style's color (0 without a number, 1 below the first step)"
-    assert capsys.readouterr() == ("", f"poster: {names[2]} and {names[3]}: {size}\n")
+    drawn = "2 of 4 features drawn, 1 coloured by a, 1 in the style's color (0 without a number, 1 below the first step)"
+    assert capsys.readouterr() == ("", f"poster: {names[2]} and {names[3]}: 60 by 30 pixels; {drawn}\n")
 
 
 def test_the_closing_line_without_steps(tmp_path: Any) -> None:
@@ -197,7 +197,7 @@ def test_the_closing_line_without_steps(tmp_path: Any) -> None:
     assert scene(tmp_path, value, {}).summary == "; 2 of 2 features drawn, 2 in the style's color"
     assert (
         scene(tmp_path, value, {"property": "a", "colors": {"b": "#000000"}}).summary
-        == "; 2 of 2 features drawn, 1 in the style's color"
+        == "; 2 of 2 features drawn, 1 coloured by a, 1 in the style's color"
     )
 
 

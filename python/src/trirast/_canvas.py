@@ -242,8 +242,8 @@ class Canvas:
         A polygon is any number of rings, and a ring any number of corners: rings may be holes, touch and cross each
         other and themselves. `corners` are rows of x and y in 1/256 pixel of the screen, of all rings one after
         another; `trirast.snap` makes them of floats in pixels. `ring_ends` has of each ring the index behind its last
-        corner, and `polygon_ends` of each polygon the index behind its last ring: the offsets of
-        `shapely.to_ragged_array` without their leading 0. `colors` is one colour of 3 or 4 channels, red, green, blue
+        corner, and `polygon_ends` of each polygon the index behind its last ring: for Polygons the offsets of
+        `shapely.to_ragged_array` (shapely 2) without their leading 0. `colors` is one colour of 3 or 4 channels, red, green, blue
         and alpha of 0 to 255, or a row of them for each polygon. `depth` is one depth, 0 to 65535, or one for each; 0,
         if there are none.
 
@@ -251,7 +251,8 @@ class Canvas:
         "nonzero" if it crosses more that run downwards than upwards, or fewer. This is exact: polygons that share
         their edges leave no gap and no overlap, and a triangle covers what `draw` draws of it.
 
-        All else is as for `draw`. With `first_id` each polygon is drawn in the colour of its id. Arrays are copied.
+        All else is as for `draw`. With `first_id` each polygon is drawn in the colour of its id, and `colors` are not looked
+        at. Arrays are copied.
 
         Raises BatchError, and then nothing was drawn, if the ends fall or leave the arrays, or a corner lies outside of
         -8388608 to 8388607; its element is the ring, the polygon or the corner. Raises PositionError if the canvas's

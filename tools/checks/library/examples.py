@@ -330,7 +330,7 @@ def check_choropleth() -> str:
         write(name, json.dumps(value))
     text = printed_by(python, "choropleth.py", path, "--map", names[0], "--style", names[1])
     must(
-        "2 polygons have 272,000 samples, and no polygon has 0: 0 beside" in text
+        "2 polygons have 272,000 samples, and 0 have no polygon: together 272,000 of 272,000" in text
         and "272,000 in one, 0 in several" in text,
         text,
     )

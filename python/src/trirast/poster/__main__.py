@@ -27,7 +27,12 @@ if __name__ == "__main__":
     is_stopped = signal.getsignal(signal.SIGINT) is signal.default_int_handler
     if is_stopped:
         signal.signal(signal.SIGINT, stop_at_once)
-    from ._command import main
+    try:
+        from ._command import main
+    except ModuleNotFoundError as error:
+        if error.name != "numpy":
+            raise
+        sys.exit("poster: this Python has no numpy; Debian's /usr/bin/python3 has it by python3-numpy")
 
     if is_stopped:
         signal.signal(signal.SIGINT, stop_once)

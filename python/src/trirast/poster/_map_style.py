@@ -59,11 +59,13 @@ class Style(NamedTuple):
         return below[-1] if below else None
 
     def count_plain(self, features: Sequence[Mapping[str, Any]]) -> str:
-        """How many of some features, of these properties, have `color`; and by steps, why."""
+        """How many of some features, of these properties, are coloured by the style's property, and how many have
+        `color`; and by steps, why."""
         plain = [properties for properties in features if self.color_of(properties) is None]
         below = sum(is_number(properties.get(self.property or "")) for properties in plain)
         why = "" if self.steps is None else f" ({len(plain) - below} without a number, {below} below the first step)"
-        return f"{len(plain)} in the style's color{why}"
+        coloured = "" if self.property is None else f"{len(features) - len(plain)} coloured by {self.property}, "
+        return f"{coloured}{len(plain)} in the style's color{why}"
 
     def check_values(self, features: Sequence[Mapping[str, Any]], path: str) -> None:
         """Raises MapError if no feature of a file, of these properties, has the style's property, or none has a
