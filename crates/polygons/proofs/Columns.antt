@@ -1,5 +1,5 @@
 -- The first column at which an edge is crossed, and the step from row to row.
-use Rattle.std.proofs.Common.{◌≡◌, inl, inr, refl, arith, ◌^◌, [], ◌∷◌, ℤ, pos, negsuc, ◌+ℤ◌, ◌-ℤ◌, ◌*ℤ◌, neg_ℤ, ◌<ℤ◌, ◌≤ℤ◌}
+use Rattle.std.proofs.Common.{◌≡◌, inl, inr, refl, arith, [], ◌∷◌, ℤ, pos, ◌+ℤ◌, ◌-ℤ◌, ◌*ℤ◌, neg_ℤ, ◌<ℤ◌, ◌≤ℤ◌}
 use Rattle.std.proofs.lemmas.Int.{ints}
 use Rattle.grid.specs.Position.{Position}
 use Rattle.grid.specs.Edge.{side}
@@ -7,8 +7,7 @@ use Rattle.grid.proofs.Ring.{Term, var, lit, plus, neg, times, ring}
 use Rattle.grid.proofs.Sign.{negative, null, positive, sign, mul_positive, mul_null}
 use Rattle.polygons.specs.declared.edge.Edge.{Edge}
 use Rattle.polygons.specs.Crossing.{CrossesDown}
-use Rattle.polygons.specs.Columns.{along, below, HasHeight, IsFirstColumn, IsAtColumn, IsEdgeStep, IsWalkInBand, IsWalking}
-use Rattle.grid.specs.Bounds.{IsWithin}
+use Rattle.polygons.specs.Columns.{along, below, HasHeight, IsFirstColumn, IsAtColumn, IsEdgeStep}
 use Rattle.polygons.proofs.Triangle.{under_or_at_least, mul_not_negative}
 
 -- ---- how the edge function changes along a row and from row to row
@@ -104,8 +103,8 @@ stays e p c f h k = record { low = h.low; high = h.high; rest_low = k; rest_high
 pub moves_on : (e : Edge) (p : Position) (c f : ℤ) → IsNearColumn e p c f → f <ℤ pos 0 → IsAtColumn e p (c +ℤ pos 1) (f +ℤ (e.b.y -ℤ e.a.y))
 moves_on e p c f h k = one_column_more e p c f h.low h.high k h.rest_low
 
--- ---- the first row: minus the edge function, divided
-from_zero : (a b p : Position) (q : ℤ) → neg_ℤ (side a b (along p (neg_ℤ q))) ≡ neg_ℤ (side a b p) -ℤ q *ℤ (pos 256 *ℤ (b.y -ℤ a.y))
+-- ---- the edge function so many columns to the left
+pub from_zero : (a b p : Position) (q : ℤ) → neg_ℤ (side a b (along p (neg_ℤ q))) ≡ neg_ℤ (side a b p) -ℤ q *ℤ (pos 256 *ℤ (b.y -ℤ a.y))
 unfolding side
 from_zero a b p q =
     let w = plus (var 2) (neg (var 0)) in
@@ -115,13 +114,7 @@ from_zero a b p q =
     (neg (at (plus (var 4) (times (lit (pos 256)) (neg (var 6))))))
     (plus (neg (at (var 4))) (neg (times (var 6) (times (lit (pos 256)) h)))) refl
 
-pub first_row : (e : Edge) (p : Position) (q r f : ℤ) → neg_ℤ (side e.a e.b p) ≡ q *ℤ (pos 256 *ℤ (e.b.y -ℤ e.a.y)) +ℤ r
-    → pos 0 ≤ℤ r → r <ℤ (pos 256 *ℤ (e.b.y -ℤ e.a.y)) → (pos 256 *ℤ f) ≤ℤ r → r <ℤ (pos 256 *ℤ f +ℤ pos 256) → IsAtColumn e p (neg_ℤ q) f
-first_row e p q r f sum low high rest_low rest_high =
-    let s = from_zero e.a e.b p q in
-    record { low = omega (arith, ints); high = omega (arith, ints); rest_low = omega (arith, ints); rest_high = omega (arith, ints) }
-
--- ---- how far the first column can be
+-- ---- the edge function by the ends of the edge
 pub between : (a b p : Position) → side a b p ≡ (b.y -ℤ p.y) *ℤ (a.x -ℤ p.x) +ℤ (p.y -ℤ a.y) *ℤ (b.x -ℤ p.x)
 unfolding side
 between a b p =
@@ -143,68 +136,3 @@ at_left u v x y hu hv hx hy =
     let m = mul_positive u x hu hx in
     let n = mul_not_negative v y hv hy in
     omega (arith, ints)
-
--- the first column is at most 2 ^ 16 to the right, and at most one more to the left
-pub column_bounds : (e : Edge) (p : Position) (c : ℤ) → HasHeight e p.y → IsWalkInBand e p.x → IsFirstColumn e p c → (negsuc 65536 ≤ℤ c) × (c ≤ℤ pos 65536)
-column_bounds e p c height band first = (low, high)
-  where
-    right : Position
-    right = along p (pos 65536)
-
-    high : c ≤ℤ pos 65536
-    high =
-        let b1 = band.ax in let b2 = band.bx in let b3 = band.start in let h = height.bottom in let t = height.top in
-        let f = between e.a e.b right in
-        let m = at_right (e.b.y -ℤ right.y) (right.y -ℤ e.a.y) (e.a.x -ℤ right.x) (e.b.x -ℤ right.x) (omega (arith, ints)) (omega (arith, ints)) (omega (arith, ints)) (omega (arith, ints)) in
-        (first (pos 65536)).0 (record { top = height.top; bottom = height.bottom; line = omega (arith, ints) })
-
-    left : Position
-    left = along p (negsuc 65536)
-
-    low : negsuc 65536 ≤ℤ c
-    low = elim (under_or_at_least (c -ℤ negsuc 65536)) [
-      | inl l ↦ absurd (
-          let b1 = band.ax in let b2 = band.bx in let b3 = band.start in let h = height.bottom in let t = height.top in
-          let crossed = (first (negsuc 65536)).1 (omega (arith, ints)) in
-          let f = between e.a e.b left in
-          let line = crossed.line in
-          let m = at_left (e.b.y -ℤ left.y) (left.y -ℤ e.a.y) (e.a.x -ℤ left.x) (e.b.x -ℤ left.x) (omega (arith, ints)) (omega (arith, ints)) (omega (arith, ints)) (omega (arith, ints)) in
-          omega (arith, ints))
-      | inr l ↦ omega (arith, ints)
-    ]
-
--- ---- what is kept of an edge
-
-pub record AreSmall (h q r c f : ℤ) : Type 0 where
-  pub height : IsWithin (2 ^ 25) h
-  pub columns : IsWithin (2 ^ 50) q
-  pub part : IsWithin (2 ^ 25) r
-  pub column : IsWithin (2 ^ 17) c
-  pub rest : IsWithin (2 ^ 25) f
-
-pub sizes_of_walk : (e : Edge) (p : Position) (h q r c f : ℤ) → IsWalking e p h q r c f → AreSmall h q r c f
-sizes_of_walk e p h q r c f w =
-    let b = column_bounds e p c w.range w.band (is_first_column e p c f w.range w.place) in
-    let b0 = b.0 in let b1 = b.1 in
-    let ay = w.band.ay in let by = w.band.by in let t = w.tall in
-    let rl = w.step.part_low in let rh = w.step.part_high in
-    let fl = w.place.rest_low in let fh = w.place.rest_high in
-    record {
-      height = record { low = omega (arith, ints); high = omega (arith, ints) };
-      columns = let s = w.size in record { low = omega (arith, ints); high = omega (arith, ints) };
-      part = record { low = omega (arith, ints); high = omega (arith, ints) };
-      column = record { low = omega (arith, ints); high = omega (arith, ints) };
-      rest = record { low = omega (arith, ints); high = omega (arith, ints) };
-    }
-
-range_below : (e : Edge) (p : Position) → HasHeight e p.y → (p.y +ℤ pos 256) <ℤ e.b.y → HasHeight e (below p).y
-range_below e p h k = let t = h.top in record { top = omega (arith, ints); bottom = k }
-
-pub walk_stays : (e : Edge) (p : Position) (h q r c f : ℤ) → IsWalking e p h q r c f → (p.y +ℤ pos 256) <ℤ e.b.y → pos 0 ≤ℤ (f -ℤ r) → IsWalking e (below p) h q r (c +ℤ q) (f -ℤ r)
-walk_stays e p h q r c f w k l =
-    record { band = w.band; range = range_below e p w.range k; tall = w.tall; step = w.step; size = w.size; place = stays e (below p) (c +ℤ q) (f -ℤ r) (next_row e p c f q r w.place w.step) l }
-
-pub walk_moves_on : (e : Edge) (p : Position) (h q r c f : ℤ) → IsWalking e p h q r c f → (p.y +ℤ pos 256) <ℤ e.b.y → (f -ℤ r) <ℤ pos 0 → IsWalking e (below p) h q r ((c +ℤ q) +ℤ pos 1) ((f -ℤ r) +ℤ h)
-walk_moves_on e p h q r c f w k l =
-    let m = moves_on e (below p) (c +ℤ q) (f -ℤ r) (next_row e p c f q r w.place w.step) l in
-    record { band = w.band; range = range_below e p w.range k; tall = w.tall; step = w.step; size = w.size; place = rw w.tall m }

@@ -33,3 +33,4 @@ pub mod Boxes
 pub mod RingParts
 pub mod ArrayParts
 pub mod RunBoxes
+pub mod Walks

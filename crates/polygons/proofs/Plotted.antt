@@ -141,50 +141,67 @@ added_all rule s first end number f c f' c' s_small above under h = record {
   marked = h.marked;
 }
 
--- ---- the samples of a part of a strip, one index after another
--- what holds once the first n of them are done
-pub record AreSamplesAdded (rule : Rule) (strip : Strip) (part : ℕ) (change : Position → ℤ) (n : ℕ) (f c f' c' : List (List ℕ)) : Type 0 where
+-- ---- the samples of a part of a strip, row by row, and in a row one index after another
+-- what holds once the first n of these cells are done
+pub record AreCellsAdded (rule : Rule) (strip : Strip) (part : ℕ) (change : Position → ℤ) (n : ℕ) (f c f' c' : List (List ℕ)) : Type 0 where
   pub flags_len : length f' ≡ length f
   pub counters_len : length c' ≡ length c
-  pub done : (s row k : ℕ) → s < n → s < 4 → row < 64 → k < 8 * columns_in rule f c → IsAlike (modulus rule) (running_sum rule f' c' s row k) (running_sum rule f c s row k +ℤ change (strip_sample strip (4 * part + s) row k))
-  pub rest : (s row k : ℕ) → n ≤ s → s < 4 → row < 64 → k < 8 * columns_in rule f c → running_sum rule f' c' s row k ≡ running_sum rule f c s row k
+  pub done : (s row k : ℕ) → s < part_size strip.count → 4 * row + s < n → row < 64 → k < 8 * columns_in rule f c → IsAlike (modulus rule) (running_sum rule f' c' s row k) (running_sum rule f c s row k +ℤ change (strip_sample strip (4 * part + s) row k))
+  pub rest : (s row k : ℕ) → s < 4 → n ≤ 4 * row + s → row < 64 → k < 8 * columns_in rule f c → running_sum rule f' c' s row k ≡ running_sum rule f c s row k
   pub marked : AreMarked rule f c → AreMarked rule f' c'
 
-pub no_samples : (rule : Rule) (strip : Strip) (part : ℕ) (change : Position → ℤ) (f c : List (List ℕ)) → AreSamplesAdded rule strip part change 0 f c f c
-no_samples rule strip part change f c = record {
+-- cells to which nothing is added
+pub cells_passed : (rule : Rule) (strip : Strip) (part : ℕ) (change : Position → ℤ) (n m : ℕ) (f c f' c' : List (List ℕ)) → n ≤ m
+    → ((s row k : ℕ) → s < part_size strip.count → n ≤ 4 * row + s → 4 * row + s < m → row < 64 → change (strip_sample strip (4 * part + s) row k) ≡ pos 0)
+    → AreCellsAdded rule strip part change n f c f' c' → AreCellsAdded rule strip part change m f c f' c'
+cells_passed rule strip part change n m f c f' c' more none v = record {
+  flags_len = v.flags_len;
+  counters_len = v.counters_len;
+  done = λ s row k x y h i. elim (cases_lt (4 * row + s) n) [
+    | inl q ↦ v.done s row k x q h i
+    | inr q ↦ alike_none (modulus rule) _ _ _ (v.rest s row k (let few = part_small strip.count in omega (arith, x, few)) q h i) (none s row k x q y h)
+  ];
+  rest = λ s row k x y h i. v.rest s row k x (omega arith) h i;
+  marked = v.marked;
+}
+
+pub no_cells : (rule : Rule) (strip : Strip) (part : ℕ) (change : Position → ℤ) (f c : List (List ℕ)) → AreCellsAdded rule strip part change 0 f c f c
+no_cells rule strip part change f c = record {
   flags_len = refl;
   counters_len = refl;
-  done = λ s row k h. absurd (omega arith);
+  done = λ s row k x h. absurd (omega arith);
   rest = λ s row k h l m b. refl;
   marked = λ h. h;
 }
 
-pub one_sample_more : (rule : Rule) (strip : Strip) (part : ℕ) (change : Position → ℤ) (n : ℕ) (number : ℕ → ℕ → ℤ) (f c f' c' f'' c'' : List (List ℕ)) → n < 4
-    → ((row k : ℕ) → number row k ≡ change (strip_sample strip (4 * part + n) row k)) → AreSamplesAdded rule strip part change n f c f' c' → IsAdded rule n 0 64 number f' c' f'' c''
-    → AreSamplesAdded rule strip part change (n + 1) f c f'' c''
-one_sample_more rule strip part change n number f c f' c' f'' c'' n_small is v p = record {
+pub one_cell_more : (rule : Rule) (strip : Strip) (part : ℕ) (change : Position → ℤ) (row s : ℕ) (number : ℕ → ℕ → ℤ) (f c f' c' f'' c'' : List (List ℕ)) → s < 4 → row < 64
+    → ((k : ℕ) → number row k ≡ change (strip_sample strip (4 * part + s) row k)) → AreCellsAdded rule strip part change (4 * row + s) f c f' c' → IsAdded rule s row (row + 1) number f' c' f'' c''
+    → AreCellsAdded rule strip part change (4 * row + (s + 1)) f c f'' c''
+one_cell_more rule strip part change row s number f c f' c' f'' c'' small low is v p = record {
   flags_len = p.flags_len ∙ v.flags_len;
   counters_len = p.counters_len ∙ v.counters_len;
-  done = λ s row k x y h i. elim (cases_eq s n) [
-    | inl q ↦
-        let a = p.here row k (omega arith) h (inside k i) in
-        let at_n = alike_from (modulus rule) _ _ _ _ _ _ refl (v.rest n row k (omega arith) n_small h i) (is row k) a in
-        subst (λ (j : ℕ). IsAlike (modulus rule) (running_sum rule f'' c'' j row k) (running_sum rule f c j row k +ℤ change (strip_sample strip (4 * part + j) row k))) (sym q) at_n
-    | inr q ↦ alike_moved (modulus rule) _ _ _ (sym (p.others s row k y h (inside k i) (λ z _ _. q z))) (v.done s row k (before_of s n x q) y h i)
+  done = λ s' row' k x y h i. let few = part_small strip.count in let small' : s' < 4 = omega (arith, x, few) in elim (cases_lt (4 * row' + s') (4 * row + s)) [
+    | inl q ↦ alike_moved (modulus rule) _ _ _ (sym (p.others s' row' k small' h (inside k i) (λ a b d. omega arith))) (v.done s' row' k x q h i)
+    | inr q ↦
+        let same_s : s' ≡ s = omega arith in
+        let same_row : row' ≡ row = omega arith in
+        let a = p.here row k (omega arith) (omega arith) (inside k i) in
+        let at = alike_from (modulus rule) _ _ _ _ _ _ refl (v.rest s row k small (omega arith) low i) (is k) a in
+        rw (same_s, same_row) at
   ];
-  rest = λ s row k x y h i. p.others s row k y h (inside k i) (λ z _ _. omega arith) ∙ v.rest s row k (omega arith) y h i;
+  rest = λ s' row' k x y h i. p.others s' row' k x h (inside k i) (λ a b d. omega arith) ∙ v.rest s' row' k x (omega arith) h i;
   marked = λ h. p.marked (v.marked h);
 }
   where
     inside : (k : ℕ) → k < 8 * columns_in rule f c → k < 8 * columns_in rule f' c'
     inside k l = let q = same_columns rule f c f' c' v.flags_len v.counters_len in omega arith
 
-pub all_samples : (rule : Rule) (strip : Strip) (part : ℕ) (change : Position → ℤ) (n : ℕ) (f c f' c' : List (List ℕ)) → part_size strip.count ≤ n → AreSamplesAdded rule strip part change n f c f' c'
+pub all_cells : (rule : Rule) (strip : Strip) (part : ℕ) (change : Position → ℤ) (n : ℕ) (f c f' c' : List (List ℕ)) → 256 ≤ n → AreCellsAdded rule strip part change n f c f' c'
     → IsPlotted rule strip part change f c f' c'
-all_samples rule strip part change n f c f' c' all v = record {
+all_cells rule strip part change n f c f' c' all v = record {
   flags_len = v.flags_len;
   counters_len = v.counters_len;
-  totals = λ s row k x y z. v.done s row k (omega arith) (let few = part_small strip.count in omega arith) y z;
+  totals = λ s row k x y z. v.done s row k x (let few = part_small strip.count in omega (arith, x, few, y, all)) y z;
   marked = v.marked;
 }
 

@@ -1,7 +1,7 @@
 -- The first sample of a row at which an edge is crossed.
 use Rattle.std.specs.Prelude.{◌≡◌, ◌↔◌, ℤ, pos, ◌+ℤ◌, ◌-ℤ◌, ◌*ℤ◌, neg_ℤ, ◌≤ℤ◌, ◌<ℤ◌, ◌^◌}
 use Rattle.grid.specs.Bounds.{IsWithin}
-use Rattle.grid.specs.Position.{Position, IsInBand}
+use Rattle.grid.specs.Position.{Position}
 use Rattle.grid.specs.Edge.{side}
 use Rattle.polygons.specs.declared.edge.Edge.{Edge}
 use Rattle.polygons.specs.declared.slope.Slope.{Slope}
@@ -46,20 +46,3 @@ pub record IsEdgeStep (e : Edge) (columns part : ℤ) : Type 0 where
 pub record IsSlope (e : Edge) (slope : Slope) : Type 0 where
   pub step : IsEdgeStep e slope.columns slope.part
   pub size : IsWithin (2 ^ 25) slope.columns
-
--- All coordinates of the edge, and x, are inside of the guard band.
-pub record IsWalkInBand (e : Edge) (x : ℤ) : Type 0 where
-  pub ax : IsInBand e.a.x
-  pub ay : IsInBand e.a.y
-  pub bx : IsInBand e.b.x
-  pub by : IsInBand e.b.y
-  pub start : IsInBand x
-
--- What is kept of an edge at a row: the numbers of the step, and the first column with what is left there.
-pub record IsWalking (e : Edge) (p : Position) (height columns part column rest : ℤ) : Type 0 where
-  pub band : IsWalkInBand e p.x
-  pub range : HasHeight e p.y
-  pub tall : height ≡ e.b.y -ℤ e.a.y
-  pub step : IsEdgeStep e columns part
-  pub size : IsWithin (2 ^ 25) columns
-  pub place : IsAtColumn e p column rest

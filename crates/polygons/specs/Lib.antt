@@ -71,8 +71,6 @@
 --   IsAtColumn: The edge function at the first column, by its absolute value in 256 times 1/65536 square pixel, rounded down.
 --   IsEdgeStep: The edge's width as a quotient and a remainder by its height.
 --   IsSlope: The slope is that of an edge that runs downwards.
---   IsWalkInBand: All coordinates of the edge, and x, are inside of the guard band.
---   IsWalking: What is kept of an edge at a row: the numbers of the step, and the first column with what is left there.
 --
 -- Pixels.antt
 --   IsFirstPixel: Of the coordinates whole pixels from `start`, the one n pixels behind it is the first that is not before `to`.
@@ -103,6 +101,14 @@
 --   start_of: Where the first pixel of a strip has sample s.
 --   strip_sample: Where the pixel in a row and a column of a strip has sample s.
 --   AreFirstRows: Of each sample of a part, the first row of a strip that is not above the height y.
+--
+-- Walking.antt
+--   if_below: A number if z is below 0, else 0.
+--   corner_of: The upper left corner of the pixel in a row and column 0 of a strip.
+--   IsSmallStep: The sizes of the numbers by which an edge goes from row to row.
+--   IsDescent: An edge that runs downwards, seen from a corner, and the rows of a strip outside of which no sample has its height.
+--   IsWalked: The columns and rests of a row. Each row may take them further.
+--   IsNext: A sample's column and rest, and those of the row below.
 --
 -- Crossed.antt
 --   IsCrossedFrom: The edge runs through this row of a strip at a sample, and from this column on it is crossed.
@@ -191,6 +197,7 @@ pub mod Blocks
 pub mod ManyRows
 pub mod Screen
 pub mod Strip
+pub mod Walking
 pub mod Crossed
 pub mod Apart
 pub mod Runs

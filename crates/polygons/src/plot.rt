@@ -1,20 +1,18 @@
 //! Where the edges of a polygon are first crossed in the rows of a strip: each edge is looked at once, walked down once
 //! for each sample of a pixel, and adds to one cell of each row that it runs through.
-ghost use Rattle.std.specs.Prelude.{◌≡◌, ℕ, ◌+◌, ◌*◌, ◌^◌, ◌<◌, ◌≤◌, pos, ◌+ℤ◌, ◌<ℤ◌, ◌≤ℤ◌, length, map, IsTrue};
+ghost use Rattle.std.specs.Prelude.{◌≡◌, ℕ, ◌+◌, ◌*◌, ◌^◌, ◌<◌, ◌≤◌, ◌<ℤ◌, ◌≤ℤ◌, length, map, IsTrue};
 ghost use Rattle.grid.specs.Position.{Position, IsInBand};
-ghost use Rattle.grid.specs.Samples.{parts_of};
-ghost use Rattle.polygons.specs.Blocks.{down};
-ghost use Rattle.polygons.specs.Columns.{HasHeight, IsSlope};
+ghost use Rattle.grid.specs.Samples.{part_size, parts_of};
 ghost use Rattle.polygons.specs.Crossing.{winding};
-ghost use Rattle.polygons.specs.Pixels.{IsFirstPixel};
 ghost use Rattle.polygons.specs.Short.{IsShortEdge};
 ghost use Rattle.polygons.specs.Polygon.{path_edges, path_end, ring_edges};
 ghost use Rattle.polygons.specs.Rings.{position_of, end_of, AreCornersInBand};
 ghost use Rattle.polygons.specs.Crossed.{AreCrossed};
 ghost use Rattle.polygons.specs.Runs.{corner_at, corners_between, AreRunsOf, IsCrossedAsChord};
-ghost use Rattle.polygons.specs.Strip.{strip_sample, AreFirstRows};
+ghost use Rattle.polygons.specs.Strip.{strip_sample};
 ghost use Rattle.polygons.specs.Rows.{direction};
-ghost use Rattle.polygons.specs.Cells.{signed, added_by, HasCounters, IsAdded, IsPlotted};
+ghost use Rattle.polygons.specs.Walking.{IsDescent};
+ghost use Rattle.polygons.specs.Cells.{signed, HasCounters, IsPlotted};
 ghost use Rattle.polygons.specs.Plotting.{ArePlotted, HasParts, IsPartPlotted, IsPolygonPlotted};
 
 use crate::apart::is_apart;
@@ -26,79 +24,10 @@ use crate::rule::Rule;
 use crate::runs::Runs;
 use crate::short::is_short;
 use crate::short_crossings::ShortCrossings;
-use crate::slope::Slope;
 use crate::starts::Starts;
-use crate::strip::{Strip, point_at};
-use crate::walk::EdgeWalk;
-use grid::Point;
-
-/// Counts an edge that runs downwards in the rows of sample `s`, whose first pixel has this sample at `start`. The edge
-/// runs through the rows from `first` to before `end`, and counts as one in its own direction if `forward`, else in the
-/// opposite one.
-#[inline(always)]
-fn plot_sample(
-    flags: &mut [Flags],
-    counters: &mut [Counters],
-    rule: Rule,
-    edge: &Edge,
-    slope: Slope,
-    forward: bool,
-    s: usize,
-    start: Point,
-    first: i32,
-    end: i32,
-)
-    requires runs_down { edge.now.a.y ≤ℤ edge.now.b.y }
-    requires in_band { IsInBand edge.now.a.y × IsInBand edge.now.b.y }
-    requires slope { IsSlope edge.now slope }
-    requires sample { s < 4 }
-    requires counters { HasCounters rule flags.old counters.old }
-    requires first { IsFirstPixel start.y edge.now.a.y first }
-    requires end { IsFirstPixel start.y edge.now.b.y end }
-    ensures { IsAdded rule s 0 64 (added_by edge.now forward start) flags.old counters.old flags.new counters.new }
-{
-    let first = first.clamp(0, 64) as usize;
-    let end = end.clamp(0, 64) as usize;
-    if first < end {
-        plot_rows(
-            flags, counters, rule, edge, slope, forward, s, start, first, end,
-        );
-    }
-}
-
-/// Marks where the edge is crossed by samples of index `s`, in the rows `first` to before `end`: those that it runs
-/// through.
-#[inline(always)]
-fn plot_rows(
-    flags: &mut [Flags],
-    counters: &mut [Counters],
-    rule: Rule,
-    edge: &Edge,
-    slope: Slope,
-    forward: bool,
-    s: usize,
-    start: Point,
-    first: usize,
-    end: usize,
-)
-    requires slope { IsSlope edge.now slope }
-    requires rows { first < end }
-    requires most { end ≤ 64 }
-    requires in_band { IsInBand (start.y +ℤ pos (256 * first)) }
-    requires through { (r : ℕ) → first ≤ r → r < end → HasHeight edge.now (down start r).y }
-    requires sample { s < 4 }
-    requires counters { HasCounters rule flags.old counters.old }
-    ensures { IsAdded rule s first end (added_by edge.now forward start) flags.old counters.old flags.new counters.new }
-{
-    let place = point_at(start.x(), start.y() + 256 * first as i32);
-    let mut walk = EdgeWalk::new(*edge, slope, place);
-    for row in first..end {
-        cross(flags, counters, rule, s, row, walk.column(), forward);
-        if row + 1 < end {
-            walk.step();
-        }
-    }
-}
+use crate::strip::Strip;
+use crate::walk::{Descent, PartWalk};
+use grid::{Point, SampleCount};
 
 /// Marks where a short edge is crossed by samples of each index of a part.
 #[inline(always)]
@@ -186,31 +115,63 @@ fn plot_short<const PARTS: usize>(
 
 /// Marks where an edge is crossed by samples of each index of a part, walking it down from row to row.
 #[inline(always)]
-fn plot_long_samples(
+fn plot_rows<const SIZE: usize>(
     flags: &mut [Flags],
     counters: &mut [Counters],
     rule: Rule,
-    edge: &Edge,
-    slope: Slope,
+    descent: &Descent,
     forward: bool,
     starts: &Starts,
     part: usize,
 )
-    requires runs_down { edge.now.a.y ≤ℤ edge.now.b.y }
-    requires slope { IsSlope edge.now slope }
+    requires descent { IsDescent starts.now.strip descent.now }
+    requires part { part < parts_of starts.now.strip.count }
+    requires size { part_size starts.now.strip.count ≡ SIZE }
+    requires counters { HasCounters rule flags.old counters.old }
+    ensures { IsPlotted rule starts.now.strip part (λ p. signed forward (direction descent.now.edge p)) flags.old
+        counters.old flags.new counters.new }
+{
+    let from = starts.rows(part, descent.edge.a.y());
+    let to = starts.rows(part, descent.edge.b.y());
+    let mut walk = PartWalk::new(descent, starts, part);
+    for row in descent.first..descent.end {
+        for s in 0..SIZE {
+            if from[s] <= row as i32 && (row as i32) < to[s] {
+                cross(flags, counters, rule, s, row, walk.columns[s], forward);
+            }
+        }
+        walk = walk.next(descent);
+    }
+}
+
+/// Marks where an edge is crossed by samples of each index of a part. The compiler is told their number, so that it takes
+/// them at once.
+#[inline(always)]
+fn plot_long_samples(
+    flags: &mut [Flags],
+    counters: &mut [Counters],
+    rule: Rule,
+    descent: &Descent,
+    forward: bool,
+    starts: &Starts,
+    part: usize,
+)
+    requires descent { IsDescent starts.now.strip descent.now }
     requires part { part < parts_of starts.now.strip.count }
     requires counters { HasCounters rule flags.old counters.old }
-    ensures { IsPlotted rule starts.now.strip part (λ p. signed forward (direction edge.now p)) flags.old counters.old
-        flags.new counters.new }
+    ensures { IsPlotted rule starts.now.strip part (λ p. signed forward (direction descent.now.edge p)) flags.old
+        counters.old flags.new counters.new }
 {
-    let first = starts.rows(part, edge.a.y());
-    let end = starts.rows(part, edge.b.y());
-    for s in 0..starts.strip.count.part_size() {
-        let s = s as usize;
-        let start = starts.of(4 * part + s);
-        plot_sample(
-            flags, counters, rule, edge, slope, forward, s, start, first[s], end[s],
-        );
+    match starts.strip.count {
+        SampleCount::One => {
+            plot_rows::<1>(flags, counters, rule, descent, forward, starts, part);
+        }
+        SampleCount::Two => {
+            plot_rows::<2>(flags, counters, rule, descent, forward, starts, part);
+        }
+        SampleCount::Four | SampleCount::Eight | SampleCount::Sixteen => {
+            plot_rows::<4>(flags, counters, rule, descent, forward, starts, part);
+        }
     }
 }
 
@@ -218,17 +179,16 @@ fn plot_long_samples(
 #[inline(always)]
 fn plot_long_part(
     cells: &mut Cells<'_>,
-    edge: &Edge,
-    slope: Slope,
+    descent: &Descent,
     forward: bool,
     starts: &Starts,
     part: usize,
 )
-    requires runs_down { edge.now.a.y ≤ℤ edge.now.b.y }
-    requires slope { IsSlope edge.now slope }
+    requires descent { IsDescent starts.now.strip descent.now }
     requires part { part < parts_of starts.now.strip.count }
     requires room { HasParts starts.now.strip cells.old }
-    ensures { IsPartPlotted starts.now.strip part (λ p. signed forward (direction edge.now p)) cells.old cells.new }
+    ensures { IsPartPlotted starts.now.strip part (λ p. signed forward (direction descent.now.edge p)) cells.old
+        cells.new }
 {
     let from = part * cells.flagged;
     let counted = part * cells.counted;
@@ -236,8 +196,7 @@ fn plot_long_part(
         &mut cells.flags[from..from + cells.flagged],
         &mut cells.counters[counted..counted + cells.counted],
         cells.rule,
-        edge,
-        slope,
+        descent,
         forward,
         starts,
         part,
@@ -252,9 +211,9 @@ fn plot_long<const PARTS: usize>(cells: &mut Cells<'_>, edge: Edge, forward: boo
     requires room { HasParts starts.now.strip cells.old }
     ensures { ArePlotted starts.now.strip (λ p. signed forward (direction edge p)) cells.old cells.new }
 {
-    let slope = Slope::of(&edge);
+    let descent = Descent::of(edge, &starts.strip);
     for part in 0..PARTS {
-        plot_long_part(cells, &edge, slope, forward, starts, part);
+        plot_long_part(cells, &descent, forward, starts, part);
     }
 }
 

@@ -1,10 +1,15 @@
-use Rattle.std.proofs.Common.{◌≡◌, ◌<◌}
-use Rattle.polygons.specs.Blocks.{down}
-use Rattle.polygons.specs.Cells.{added_by, IsAdded}
+use Rattle.std.proofs.Common.{◌+◌, ◌*◌}
+use Rattle.polygons.specs.Rows.{direction}
+use Rattle.polygons.specs.Cells.{signed}
+use Rattle.polygons.specs.Walking.{IsWalked}
+use Rattle.polygons.proofs.Plotted.{AreCellsAdded}
 use Rattle.polygons.proofs.plot.plot_rows.Given as goal
 
 abbrev pub invariant-loop-row : goal.invariant-loop-row
-invariant-loop-row l = record {
-  walk : l.row < l.end → l.walk ≡ record { edge = l.edge; row = down l.fn.start l.row };
-  added : IsAdded l.rule l.s l.first l.row (added_by l.edge l.forward l.fn.start) l.initial.flags l.initial.counters l.flags l.counters;
+invariant-loop-row g l = record {
+  walked : IsWalked l.starts.strip l.part l.descent l.row l.walk;
+  added : AreCellsAdded l.rule l.starts.strip l.part (λ p. signed l.forward (direction l.descent.edge p)) (4 * l.row) l.fn.flags l.fn.counters l.flags l.counters;
 }
+
+abbrev pub invariant-loop-s : goal.invariant-loop-s
+invariant-loop-s g l = AreCellsAdded l.rule l.starts.strip l.part (λ p. signed l.forward (direction l.descent.edge p)) (4 * l.row + l.s) l.fn.flags l.fn.counters l.flags l.counters
