@@ -1,5 +1,5 @@
-//! Where the edges of a polygon are first crossed in the rows of a strip: each edge is looked at once, walked down once
-//! for each sample of a pixel, and adds to one cell of each row that it runs through.
+//! Where the edges of a polygon are first crossed in the rows of a strip: each edge is looked at once, walked down by up to
+//! four samples of a pixel at once, and adds to one cell of each row that it runs through.
 ghost use Rattle.std.specs.Prelude.{◌≡◌, ℕ, ◌+◌, ◌*◌, ◌^◌, ◌<◌, ◌≤◌, ◌<ℤ◌, ◌≤ℤ◌, length, map, IsTrue};
 ghost use Rattle.grid.specs.Position.{Position, IsInBand};
 ghost use Rattle.grid.specs.Samples.{part_size, parts_of};
@@ -144,8 +144,8 @@ fn plot_rows<const SIZE: usize>(
     }
 }
 
-/// Marks where an edge is crossed by samples of each index of a part. The compiler is told their number, so that it takes
-/// them at once.
+/// Marks where an edge is crossed by samples of each index of a part. Their number is known in each call, so that the
+/// compiler takes them at once.
 #[inline(always)]
 fn plot_long_samples(
     flags: &mut [Flags],

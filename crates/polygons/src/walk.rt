@@ -90,8 +90,8 @@ impl Descent {
         (256 - i64::from(below)) * self.columns - (256 - i64::from(right))
     }
 
-    /// The edge function by its opposite, at the sample so many whole pixels to the right. Below 0 that sample is not
-    /// crossed yet: the first one is at most two columns further.
+    /// The opposite of the edge function at the sample as many whole pixels further right as `behind` has. Below 0 that
+    /// sample is not crossed yet: the first one is at most two columns further.
     #[inline(always)]
     fn before(&self, behind: i64, below: u16) -> i64
         requires step { IsSmallStep self.now }
