@@ -188,7 +188,8 @@ def test_the_closing_line_counts_features(tmp_path: Any, capsys: Any) -> None:
     )
     names = [str(tmp_path / name) for name in ("map.geojson", "style.json", "a.png", "tiles")]
     assert _command.main([names[0], "--style", names[1], "-o", names[2], "--tiles", names[3]]) == 0
-    drawn = "2 of 4 features drawn, 1 coloured by a, 1 in the style's color (0 without a number, 1 below the first step)"
+    plain = "1 in the style's color (0 without a number, 1 below the first step)"
+    drawn = f"2 of 4 features drawn, 1 coloured by a, {plain}"
     assert capsys.readouterr() == ("", f"poster: {names[2]} and {names[3]}: 60 by 30 pixels; {drawn}\n")
 
 

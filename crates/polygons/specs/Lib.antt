@@ -107,8 +107,8 @@
 --   corner_of: The upper left corner of the pixel in a row and column 0 of a strip.
 --   IsSmallStep: The sizes of the numbers by which an edge goes from row to row.
 --   IsDescent: An edge that runs downwards, seen from a corner, and the rows of a strip outside of which no sample has its height.
---   IsWalked: The columns and rests of a row. Each row may take them further.
---   IsNext: A sample's column and rest, and those of the row below.
+--   IsWalked: The columns and rests of a row.
+--   IsNextRow: A sample's column and rest, and those of the row below.
 --
 -- Crossed.antt
 --   IsCrossedFrom: The edge runs through this row of a strip at a sample, and from this column on it is crossed.

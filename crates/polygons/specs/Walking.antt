@@ -46,6 +46,6 @@ pub record IsWalked (strip : Strip) (part : ℕ) (d : Descent) (row : ℕ) (w : 
   pub rests : (s : ℕ) → s < 4 → IsWithin (2 ^ 51 + 2 ^ 26 * row) (slice_index_or w.rests s (pos 0))
 
 -- A sample's column and rest, and those of the row below.
-pub record IsNext (d : Descent) (column rest column' rest' : ℤ) : Type 0 where
+pub record IsNextRow (d : Descent) (column rest column' rest' : ℤ) : Type 0 where
   pub next_column : column' ≡ (column +ℤ d.columns) +ℤ if_below (rest -ℤ d.part) (pos 1)
   pub next_rest : rest' ≡ (rest -ℤ d.part) +ℤ if_below (rest -ℤ d.part) d.height

@@ -3,7 +3,7 @@ ghost use Rattle.std.specs.Prelude.{◌≡◌, ℕ, ◌+◌, ◌^◌, ◌<◌, �
 ghost use Rattle.std.specs.Int.{int_div_euclid, int_rem_euclid};
 ghost use Rattle.grid.specs.Bounds.{IsWithin};
 ghost use Rattle.grid.specs.Samples.{parts_of};
-ghost use Rattle.polygons.specs.Walking.{if_below, IsSmallStep, IsDescent, IsWalked, IsNext};
+ghost use Rattle.polygons.specs.Walking.{if_below, IsSmallStep, IsDescent, IsWalked, IsNextRow};
 
 use crate::divide::{divide, divide_near};
 use crate::edge::Edge;
@@ -144,7 +144,7 @@ impl Descent {
         requires step { IsSmallStep self.now }
         requires column { IsWithin (2 ^ 52) column }
         requires rest { IsWithin (2 ^ 52) rest }
-        ensures { IsNext self.now column rest result.0 result.1 }
+        ensures { IsNextRow self.now column rest result.0 result.1 }
     {
         let less = rest - self.part;
         (
@@ -207,7 +207,7 @@ impl PartWalk {
         requires step { IsSmallStep descent.now }
         requires columns { (s : ℕ) → s < 4 → IsWithin (2 ^ 52) (slice_index_or self.now.columns s (pos 0)) }
         requires rests { (s : ℕ) → s < 4 → IsWithin (2 ^ 52) (slice_index_or self.now.rests s (pos 0)) }
-        ensures { (s : ℕ) → s < 4 → IsNext descent.now (slice_index_or self.now.columns s (pos 0))
+        ensures { (s : ℕ) → s < 4 → IsNextRow descent.now (slice_index_or self.now.columns s (pos 0))
             (slice_index_or self.now.rests s (pos 0)) (slice_index_or result.columns s (pos 0))
             (slice_index_or result.rests s (pos 0)) }
     {

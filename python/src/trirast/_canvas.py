@@ -243,16 +243,16 @@ class Canvas:
         other and themselves. `corners` are rows of x and y in 1/256 pixel of the screen, of all rings one after
         another; `trirast.snap` makes them of floats in pixels. `ring_ends` has of each ring the index behind its last
         corner, and `polygon_ends` of each polygon the index behind its last ring: for Polygons the offsets of
-        `shapely.to_ragged_array` (shapely 2) without their leading 0. `colors` is one colour of 3 or 4 channels, red, green, blue
-        and alpha of 0 to 255, or a row of them for each polygon. `depth` is one depth, 0 to 65535, or one for each; 0,
-        if there are none.
+        `shapely.to_ragged_array` (shapely 2) without their leading 0. `colors` is one colour of 3 or 4 channels, red,
+        green, blue and alpha of 0 to 255, or a row of them for each polygon. `depth` is one depth, 0 to 65535, or one
+        for each; 0, if there are none.
 
         By the rule "even-odd" a sample is inside if a ray from it to the left crosses an odd number of edges, by
         "nonzero" if it crosses more that run downwards than upwards, or fewer. This is exact: polygons that share
         their edges leave no gap and no overlap, and a triangle covers what `draw` draws of it.
 
-        All else is as for `draw`. With `first_id` each polygon is drawn in the colour of its id, and `colors` are not looked
-        at. Arrays are copied.
+        All else is as for `draw`. With `first_id` each polygon is drawn in the colour of its id, whatever `colors` are.
+        Arrays are copied.
 
         Raises BatchError, and then nothing was drawn, if the ends fall or leave the arrays, or a corner lies outside of
         -8388608 to 8388607; its element is the ring, the polygon or the corner. Raises PositionError if the canvas's

@@ -12,7 +12,7 @@ use Rattle.polygons.specs.Pixels.{IsFirstPixel}
 use Rattle.polygons.specs.Rows.{direction, from_column}
 use Rattle.polygons.specs.Cells.{signed}
 use Rattle.polygons.specs.Strip.{start_of, strip_sample}
-use Rattle.polygons.specs.Walking.{if_below, IsDescent, IsWalked, IsNext}
+use Rattle.polygons.specs.Walking.{if_below, IsDescent, IsWalked, IsNextRow}
 use Rattle.polygons.proofs.Columns.{is_first_column}
 use Rattle.polygons.proofs.Counters.{direction-from}
 use Rattle.polygons.proofs.Plotted.{has_counters, part_small, row_after, signed_none, direction_above, direction_below, no_cells, cells_passed, one_cell_more, all_cells}
@@ -71,7 +71,7 @@ crossed strip d forward part row s w walked here low height k =
 
 -- the walk in the next row
 walked_on : (strip : Strip) (part : ℕ) (d : Descent) (row : ℕ) (w w' : PartWalk) → IsDescent strip d → IsWalked strip part d row w
-    → ((s : ℕ) → s < 4 → IsNext d (slice_index_or w.columns s (pos 0)) (slice_index_or w.rests s (pos 0)) (slice_index_or w'.columns s (pos 0)) (slice_index_or w'.rests s (pos 0)))
+    → ((s : ℕ) → s < 4 → IsNextRow d (slice_index_or w.columns s (pos 0)) (slice_index_or w.rests s (pos 0)) (slice_index_or w'.columns s (pos 0)) (slice_index_or w'.rests s (pos 0)))
     → IsWalked strip part d (row + 1) w'
 walked_on strip part d row w w' k h next = record {
   at = λ s l.

@@ -2,21 +2,21 @@ use Rattle.std.proofs.Common.{◌≡◌, ◌∙◌, arith, zero, suc, ◌^◌, �
 use Rattle.std.proofs.lemmas.Int.{ints}
 use Rattle.grid.specs.Bounds.{IsWithin}
 use Rattle.polygons.specs.declared.walk.Descent.{Descent}
-use Rattle.polygons.specs.Walking.{IsSmallStep, IsNext}
+use Rattle.polygons.specs.Walking.{IsSmallStep, IsNextRow}
 use Rattle.polygons.proofs.Walks.{below_size}
 use Rattle.polygons.proofs.walk.PartWalk.next.Goals as goal
 
 one : IsWithin (2 ^ 25) (pos 1)
 one = record { low = omega (arith, ints); high = omega (arith, ints) }
 
-lane : (d : Descent) (x y c f : ℤ) → IsSmallStep d → IsWithin (2 ^ 52) x → IsWithin (2 ^ 52) y → IsNext d (to_z w64 (of_z w64 x)) (to_z w64 (of_z w64 y)) c f
-    → IsNext d x y (to_z w64 (of_z w64 c)) (to_z w64 (of_z w64 f))
+lane : (d : Descent) (x y c f : ℤ) → IsSmallStep d → IsWithin (2 ^ 52) x → IsWithin (2 ^ 52) y → IsNextRow d (to_z w64 (of_z w64 x)) (to_z w64 (of_z w64 y)) c f
+    → IsNextRow d x y (to_z w64 (of_z w64 c)) (to_z w64 (of_z w64 f))
 lane d x y c f s h k n =
     let x_is : to_z w64 (of_z w64 x) ≡ x = omega (arith, ints) in
     let y_is : to_z w64 (of_z w64 y) ≡ y = omega (arith, ints) in
     as_numbers (rw (x_is, y_is) at n)
   where
-    as_numbers : IsNext d x y c f → IsNext d x y (to_z w64 (of_z w64 c)) (to_z w64 (of_z w64 f))
+    as_numbers : IsNextRow d x y c f → IsNextRow d x y (to_z w64 (of_z w64 c)) (to_z w64 (of_z w64 f))
     as_numbers m =
         let a = below_size (2 ^ 25) (y -ℤ d.part) (pos 1) one in
         let b = below_size (2 ^ 25) (y -ℤ d.part) d.height s.height in
