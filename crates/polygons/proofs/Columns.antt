@@ -103,7 +103,7 @@ stays e p c f h k = record { low = h.low; high = h.high; rest_low = k; rest_high
 pub moves_on : (e : Edge) (p : Position) (c f : ℤ) → IsNearColumn e p c f → f <ℤ pos 0 → IsAtColumn e p (c +ℤ pos 1) (f +ℤ (e.b.y -ℤ e.a.y))
 moves_on e p c f h k = one_column_more e p c f h.low h.high k h.rest_low
 
--- ---- the edge function so many columns to the left
+-- ---- the edge function q columns to the left
 pub from_zero : (a b p : Position) (q : ℤ) → neg_ℤ (side a b (along p (neg_ℤ q))) ≡ neg_ℤ (side a b p) -ℤ q *ℤ (pos 256 *ℤ (b.y -ℤ a.y))
 unfolding side
 from_zero a b p q =
