@@ -107,6 +107,7 @@ class Polygons(unittest.TestCase):
             with self.assertRaisesRegex(BatchError, f": {values}$") as caught:
                 canvas.draw_polygons(corners, ends, of_polygons)
             self.assertEqual((caught.exception.name, caught.exception.element), (name, element), (ends, of_polygons))
+            self.assertNotIn("vertex", str(caught.exception))
         with self.assertRaises(BatchError) as caught:
             canvas.draw_polygons([(0, 0), (256, 0), (0, 1 << 23)], [3], [1])
         place, wanted = (

@@ -149,6 +149,17 @@ def test_a_slip_is_an_error(tmp_path: Any, value: Any, style: Any, text: str) ->
         scene(tmp_path, value, style)
 
 
+def test_a_map_whose_name_ends_in_json_needs_a_style(tmp_path: Any) -> None:
+    files = {"map.json": collection(feature(polygon(SQUARE))), "style.json": {}}
+    for name, value in files.items():
+        (tmp_path / name).write_text(json.dumps(value))
+    assert poster.scene_of(tmp_path / "map.json", tmp_path / "style.json").polygons.count == 1
+    with pytest.raises(poster.MapError, match="map.json: it looks like GeoJSON, and is no draw list"):
+        poster.scene_of(tmp_path / "map.json")
+    with pytest.raises(poster.MapError, match="a style is for GeoJSON.*, and not for .*map.npz"):
+        poster.scene_of(tmp_path / "map.npz", tmp_path / "style.json")
+
+
 @pytest.mark.parametrize(
     "geometry, count",
     [

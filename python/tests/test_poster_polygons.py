@@ -367,7 +367,7 @@ class Maps(Files):
         for name, color in (("kind", "a"), ("people", "5")):
             self.scene(value, {"property": name, "colors": {color: "#000000"}})
         with self.assertRaisesRegex(
-            poster.MapError, r"style: property: one of \['kind', 'people'\] of .*, and not 'poeple'"
+            poster.MapError, r"style.json: property: one of \['kind', 'people'\] of .*, and not 'poeple'"
         ):
             self.scene(value, {"property": "poeple", "steps": [[1, "#000000"]]})
         with self.assertRaisesRegex(poster.MapError, r"one of \[\] of "):
@@ -398,9 +398,9 @@ class Maps(Files):
         with self.assertRaisesRegex(poster.MapError, "opacity, and not 'colours'"):
             self.scene(good, {"property": "kind", "colours": {}})
         for name in (7, None, ["kind"]):
-            with self.assertRaisesRegex(poster.MapError, "style: property: a name, and not "):
+            with self.assertRaisesRegex(poster.MapError, "style.json: property: a name, and not "):
                 self.scene(good, {"property": name, "colors": {}})
-        with self.assertRaises(poster.ArraysError):
+        with self.assertRaisesRegex(poster.MapError, "style.json: samples: one of 1, 2, 4, 8, 16, and not 3"):
             self.scene(good, {"samples": 3})
         with self.assertRaisesRegex(poster.MapError, "width: 32768 by this window makes the height 5242880"):
             self.scene(good, {"window": [0, -80, 1, 80], "width": 32768})

@@ -20,7 +20,7 @@ from ._png import png_chunks
 from ._polygons import RULES, Rule, polygons_of, scratch_of
 from ._records import HIGH, LOW, POSITION, table_of
 from ._threads import share
-from ._values import BatchValues, PolygonValues, point_values
+from ._values import OF_DRAWS, BatchValues, PolygonValues, point_values
 from ._version import INTERFACE
 from ._vertices import PLACE
 
@@ -265,7 +265,7 @@ class Canvas:
         size = library().trirast_polygons_scratch(self._whole, polygons.fill_rule)
         for each in self.origin:
             between("origin", each, *ORIGINS, PositionError.of_line, " pixels")
-        with adding(BatchError, PolygonValues(polygons, *(ids or (None,))).of):
+        with adding(BatchError, PolygonValues(polygons, *(ids or (None,))).of, without=OF_DRAWS):
             self._each(threads, lambda piece, _top: call(piece, polygons, *ids, scratch_of(size), size, CError()))
 
     def rgb(self, out: Optional[Any] = None, *, threads: SupportsIndex = 1) -> Any:

@@ -160,11 +160,12 @@ def error_of(status: int, line: str, cause: int = 0, draw: int = NONE, element: 
 
 
 @contextmanager
-def adding(kind: Type[Kind], values_of: Callable[[Kind], str]) -> Iterator[None]:
-    """Puts what was passed, and what may be, behind the line of an error of this kind that is raised within."""
+def adding(kind: Type[Kind], values_of: Callable[[Kind], str], without: str = "") -> Iterator[None]:
+    """Puts what was passed, and what may be, behind the line of an error of this kind that is raised within, and takes
+    out `without`, what the line says of other calls."""
     try:
         yield
     except kind as error:
-        values = values_of(error)
-        error.args = (f"{error}: {values}" if values else str(error),)
+        line, values = str(error).replace(without, ""), values_of(error)
+        error.args = (f"{line}: {values}" if values else line,)
         raise

@@ -13,6 +13,8 @@ from ._records import HIGH, LOW
 # Of a pixel.
 UNIT = 256
 INDEX = ctypes.c_uint32
+# What the library's line says of draws beside what it says of polygons.
+OF_DRAWS = "a vertex or an index is in no draw, or "
 
 
 class BatchValues(NamedTuple):

@@ -28,7 +28,7 @@ from .._errors import DrawListError, LimitError
 from .._vertices import VERTEX
 from ._draw_list import MAX_LIST, check_states, scene_of_list, sheet_of
 from ._errors import ArraysError, MapError
-from ._geojson import GEOJSON, scene_of_geojson
+from ._geojson import GEOJSON, JSON, scene_of_geojson
 from ._places import Path, check_file
 from ._polygons import NONE, Polygons, own_polygons
 from ._scene import NO_TRIANGLES, PosterDraw, Scene, own_vertices, owned
@@ -221,12 +221,12 @@ def write_members(file: IO[bytes], arrays: Mapping[str, NDArray[Any]]) -> None:
 
 def scene_of(path: Path, style: Optional[Path] = None) -> Scene:
     """The scene of a file, by the end of its name in small or capital letters: arrays (.npz), polygons of GeoJSON in a
-    style, which is a file too (.geojson), else a draw list."""
+    style, which is a file too (.geojson; with a style also .json, since no draw list has one), else a draw list."""
     name = os.fsdecode(path)
-    if name.lower().endswith(GEOJSON):
+    if style is not None and not name.lower().endswith((GEOJSON, JSON)):
+        raise MapError(f"a style is for GeoJSON, a file whose name ends in {GEOJSON} or {JSON}, and not for {name}")
+    if style is not None or name.lower().endswith(GEOJSON):
         return scene_of_geojson(name, None if style is None else os.fsdecode(style))
-    if style is not None:
-        raise ArraysError(f"a style is for GeoJSON, a file whose name ends in {GEOJSON}, and not for {name}")
     if name.lower().endswith(NPZ):
         return scene_of_file(name)
     with open(name, "rb") as file:
@@ -237,6 +237,6 @@ def scene_of(path: Path, style: Optional[Path] = None) -> Scene:
     except (DrawListError, LimitError) as error:
         if GEOJSON_TYPE.search(data):
             raise MapError(
-                f"{name}: it looks like GeoJSON, whose name has to end in {GEOJSON}, and is no draw list"
+                f"{name}: it looks like GeoJSON, and is no draw list: its name has to end in {GEOJSON}, or it needs a style"
             ) from error
         raise

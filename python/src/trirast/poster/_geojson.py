@@ -8,23 +8,28 @@ and rounded by itself.
 from __future__ import annotations
 
 import json
+from contextlib import contextmanager
 from typing import Any, Iterator, Mapping, NamedTuple, Optional, Sequence
 
 import numpy as np
 from numpy.typing import NDArray
 
 from .._snap import UNIT, snap
-from ._errors import MapError
+from ._errors import ArraysError, MapError
 from ._map_style import FAR, PLANE, STEEPEST, Places, Style, is_of_data, mercator, of_data, shown, style_of
 from ._polygons import Polygons, own_polygons, with_zero
 from ._scene import HIGH, LOW, NO_TRIANGLES, PosterDraw, Scene, Sheet, owned
 
 # How a name ends that is of GeoJSON, in small or capital letters.
 GEOJSON = ".geojson"
+# And of other texts in JSON: of GeoJSON with a style, or of a draw list without one.
+JSON = ".json"
 # Pixels around a map at which polygons are cut that reach too far.
 MARGIN = 64
 # The greatest longitude and latitude of a position, with room for rounding. Some data has longitudes up to 360.
 FARTHEST = 360 + 1e-6, 90 + 1e-6
+# How a line begins that says what is wrong with a style.
+OF_STYLE = "style: "
 # The fewest different positions of a ring: the fourth one of RFC 7946 (3.1.6) is the first again.
 FEWEST = 3
 
@@ -49,10 +54,12 @@ def scene_of_geojson(path: str, style: Optional[str] = None) -> Scene:
     Feature k of the file, also one without a geometry, is polygon k of the scene's `polygons`. Raises MapError if
     one of the files is none, or if nothing of the map would be seen, or nothing in the colours of a property: such
     files are a slip."""
-    given = {} if style is None else read_json(style)
-    drawn = style_of(given)
+    with of_file(style):
+        given = {} if style is None else read_json(style)
+        drawn = style_of(given)
     features = list(features_of(read_json(path), path))
-    drawn.check_values([feature.properties for feature in features], path)
+    with of_file(style):
+        drawn.check_values([feature.properties for feature in features], path)
     rings = [ring for feature in features for ring in feature.rings]
     if not rings:
         raise MapError(f"{path}: no feature has a polygon")
@@ -78,6 +85,18 @@ def scene_of_geojson(path: str, style: Optional[str] = None) -> Scene:
     window = f"; window {list(drawn.window)}" if is_of_data(given) else ""
     summary = f"; {is_seen.sum()} of {len(features)} features drawn, {plain}{window}"
     return owned(Scene(drawn.sheet, *NO_TRIANGLES, draws, path, copy=False, polygons=polygons, summary=summary))
+
+
+@contextmanager
+def of_file(style: Optional[str]) -> Iterator[None]:
+    """Names the file of a style in what is said of the style, also of the sheet that it asks for."""
+    try:
+        yield
+    except (MapError, ArraysError) as error:
+        line = str(error)
+        if style is None or line.startswith(style):
+            raise
+        raise MapError(f"{style}: {line[len(OF_STYLE):] if line.startswith(OF_STYLE) else line}") from error
 
 
 def read_json(path: str) -> Any:
