@@ -47,6 +47,19 @@ bit_without_clear a b p fits l clear =
     let one = bit_at-lt a p in
     omega (arith, both, rest, clear, low, one)
 
+-- the bits of either mask
+pub bit_united_set : (a b p : ℕ) → bit_at b p ≡ 1 → bit_at (bit_or a b) p ≡ 1
+bit_united_set a b p set =
+    let either = bit_at_or a b p in
+    let low = bit_at-lt a p in
+    omega (arith, either, set, low)
+
+pub bit_united_clear : (a b p : ℕ) → bit_at b p ≢ 1 → bit_at (bit_or a b) p ≡ bit_at a p
+bit_united_clear a b p clear =
+    let either = bit_at_or a b p in
+    let low = bit_at-lt b p in
+    omega (arith, either, clear, low)
+
 -- ---- what holds of the masks before s and of mask s
 pub one_more : (P : ℕ → Type 0) (s : ℕ) → ((t : ℕ) → t < s → P t) → P s → (t : ℕ) → t < s + 1 → P t
 one_more P s before here t l =

@@ -97,6 +97,20 @@ pub(crate) fn are_all(count: SampleCount, stored: &BlockSamples, masks: &[u64; 1
     true
 }
 
+/// The bits of a block's masks, and these.
+pub(crate) fn united(count: SampleCount, stored: &BlockSamples, masks: &[u64; 16]) -> [u64; 16]
+    ensures more { (s p : ℕ) → s < count_of count → p < 64 → bit_at (slice_index masks.now s) p ≡ 1 →
+        bit_at (slice_index result s) p ≡ 1 }
+    ensures rest { (s p : ℕ) → s < count_of count → p < 64 → bit_at (slice_index masks.now s) p ≢ 1 →
+        bit_at (slice_index result s) p ≡ bit_at (the_mask stored.now s) p }
+{
+    let mut union = [0; 16];
+    for s in 0..count.count() {
+        union[s as usize] = mask_of(stored, s) | masks[s as usize];
+    }
+    union
+}
+
 /// The bits of a block's masks that are not in these.
 pub(crate) fn without(count: SampleCount, stored: &BlockSamples, masks: &[u64; 16]) -> [u64; 16]
     ensures less { (s p : ℕ) → s < count_of count → p < 64 → bit_at (slice_index masks.now s) p ≡ 1 →
@@ -109,4 +123,15 @@ pub(crate) fn without(count: SampleCount, stored: &BlockSamples, masks: &[u64; 1
         rest[s as usize] = mask_of(stored, s) & !masks[s as usize];
     }
     rest
+}
+
+/// Whether two planes have the same samples. Colours are compared first, since they mostly differ if anything does.
+pub(crate) fn are_same(first: &BlockSamples, second: &BlockSamples) -> bool
+    ensures { IsTrue result → first.now ≡ second.now }
+{
+    first.r == second.r
+        && first.g == second.g
+        && first.b == second.b
+        && first.alpha == second.alpha
+        && first.z == second.z
 }

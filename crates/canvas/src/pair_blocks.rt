@@ -7,7 +7,7 @@ ghost use Rattle.lanes.specs.Block.{stored_at};
 ghost use Rattle.canvas.specs.declared.way.Way.TheVariants.{Cleared as AsCleared, Single as AsSingle, Pair as AsPair};
 ghost use Rattle.canvas.specs.Layout.{planes_of_tile, block_in_tile, pixel_in_block, place_by as place_of_way, stored_in_tile, way_in_tile, mask_of as the_mask, chosen, in_list, HasMasks, AreReplaced, IsSameTile, KeepsOtherSamples, KeepsOtherWays};
 
-use crate::pair::{are_all, are_full, are_in, has_pairs, set_mask, without};
+use crate::pair::{are_all, are_full, are_in, are_same, has_pairs, set_mask, united, without};
 use crate::place::place_by;
 use crate::tile_planes::{make_single, single_block};
 use crate::way::{Way, set_way, way_of};
@@ -123,6 +123,11 @@ pub fn replace_samples(
         let rest = without(count, stored, masks);
         samples[place_by(count, Way::Pair, k, 0)] = *plane;
         make_pair(count, k, &rest, samples);
+        return true;
+    }
+    if are_same(&samples[second_place(count, k)], plane) {
+        let union = united(count, stored, masks);
+        make_pair(count, k, &union, samples);
         return true;
     }
     false
