@@ -115,7 +115,7 @@ class Blocks(Samples):
             plane = self.values[square(at)][..., 0]
             self.put_single(at, self.merged(plane.ravel(), shape).reshape(plane.shape))
             return True
-        if self.frame.samples >= 8 and self.paint_as_pair(at, words, shape):
+        if self.frame.samples >= 4 and self.paint_as_pair(at, words, shape):
             return True
         if is_full and at in self.pairs:
             self.counted["both planes"] += 1
@@ -165,6 +165,9 @@ class Blocks(Samples):
         elif (words | pair.masks).all():
             self.counted["first plane replaced"] += 1
             self.put_pair(at, Pair(plane, pair.second, self.rest(pair.masks, words)))
+        elif (plane == pair.second).all():
+            self.counted["second plane extended"] += 1
+            self.put_pair(at, Pair(pair.first, plane, self.joined(pair.masks, words)))
         else:
             return False
         return True
@@ -176,6 +179,10 @@ class Blocks(Samples):
     def rest(self, masks: Any, words: Any) -> Any:
         """The samples that stay in the second plane."""
         return masks & ~words
+
+    def joined(self, masks: Any, words: Any) -> Any:
+        """The samples of the second plane once these are drawn in its colour too."""
+        return masks | words
 
     def paint_both(self, at: At, shape: renderer.Triangle) -> None:
         first, second, masks = self.pairs[at]
@@ -317,6 +324,13 @@ class MasksLeft(Blocks):
         return masks
 
 
+class SecondPlaneShrunk(Blocks):
+    """Only what is drawn last is in the second plane, though what it had before is of the same colour."""
+
+    def joined(self, masks: Any, words: Any) -> Any:
+        return words
+
+
 class SampleOfPair(Blocks):
     """A picture of one sample of a pixel becomes that of all samples of a pair's plane."""
 
@@ -377,7 +391,7 @@ class LargeLeftOut(Samples):
 MUTANTS: tuple[type[Samples], ...] = (
     FirstPlaneAlone, SecondPlaneAlone, MasksTurned, MasksSwapped, MasksOfNextRow, SingleOverDepths,
     SingleOverSecondDepths, SingleOverAlphas, PairOverDepths, PairOverBlending, ThirdColourLost, MasksLeft,
-    SampleOfPair, PixelsWhole, MaskOverlooked, RowsReversed, LargeFirst, LargeLeftOut,
+    SecondPlaneShrunk, SampleOfPair, PixelsWhole, MaskOverlooked, RowsReversed, LargeFirst, LargeLeftOut,
 )
 
 

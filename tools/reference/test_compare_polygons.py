@@ -56,6 +56,7 @@ def test_ways_of_blocks_change_no_sample_and_each_is_taken_often() -> None:
         "single to own", "pair to own", "own to single",
     ):
         assert taken[way] >= 100, (way, taken)
+    assert taken["second plane extended"] >= 40, taken
     assert taken["whole cleared tile"] >= 10, taken
 
 

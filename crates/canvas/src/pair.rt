@@ -9,13 +9,12 @@ use crate::mask_lanes::{choose_bytes, choose_depths, lanes_of_mask};
 use grid::SampleCount;
 use lanes::BlockSamples;
 
-/// Whether blocks with this many samples a pixel are kept as pairs: a pair needs three planes, which save nothing
-/// where four are enough.
+/// Whether blocks with this many samples a pixel are kept as pairs: a pair needs three planes, of one of them few bytes.
 #[inline]
 pub fn has_pairs(count: SampleCount) -> bool
     ensures { IsTrue result → 4 ≤ count_of count }
 {
-    count.count() >= 8
+    count.count() >= 4
 }
 
 /// The mask of sample index `s` of those that a plane has in place of depths.

@@ -16,7 +16,7 @@ fn tile(rt: &impl Abort, count: SampleCount) -> Canvas {
     Canvas::new(64, 64, count).expect(rt, "1 to 4096 pixels a side")
 }
 
-/// Makes blocks 30 to 33 pairs, of a cleared and of a single block, if a pixel has eight samples or more. Of the masks for
+/// Makes blocks 30 to 33 pairs, of a cleared and of a single block, if a pixel has four samples or more. Of the masks for
 /// one pair and the next one part has all bits of the other, or both together have all.
 fn in_pairs(
     rt: &impl Abort,
@@ -28,7 +28,7 @@ fn in_pairs(
     let more = [0x0fff_1234_5678_9abf; 16];
     let rest = [0xffff_edcb_a987_6543; 16];
     let apart = [1; 16];
-    let has_pairs = count.count() >= 8;
+    let has_pairs = count.count() >= 4;
     assert!(rt; samples.len() == 1 + 65 * count.count() as usize);
     assert!(rt; single_block(count, 31, samples));
     for k in 30..34 {
