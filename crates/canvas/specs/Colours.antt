@@ -1,5 +1,5 @@
 -- The colours, depths and ids of pixels.
-use Rattle.std.specs.Prelude.{◌≡◌, ℕ, ◌+◌, ◌*◌, ◌/◌, ◌<◌, List, slice_index}
+use Rattle.std.specs.Prelude.{◌≡◌, ℕ, ◌+◌, ◌*◌, ◌/◌, ◌<◌, ◌≤◌, List, slice_index}
 use Rattle.grid.specs.declared.sample_count.SampleCount.{SampleCount}
 use Rattle.lanes.specs.declared.block_samples.BlockSamples.{BlockSamples}
 use Rattle.shade.specs.Resolve.{IsResolved}
@@ -57,11 +57,11 @@ pub record IsPixelWith (count : SampleCount) (samples : ℕ → CanvasSample) (f
   pub is_mean : IsMeanOf count samples mean
   pub order : IsSampleColour format mean bytes
 
--- The bytes of eight pixels in the format, by those of the same pixels as red, green and blue, and by their alphas.
-abbrev pub AreArranged : Format → List ℕ → List ℕ → List ℕ → Type 0
-AreArranged format rgb alphas bytes =
+-- The bytes of eight pixels in the format, by their red, green, blue and alpha.
+abbrev pub AreArranged : Format → List ℕ → List ℕ → List ℕ → List ℕ → List ℕ → Type 0
+AreArranged format red green blue alphas bytes =
     (i : ℕ) → i < 8
-    → AreBytesOfColour format (slice_index rgb (3 * i)) (slice_index rgb (3 * i + 1)) (slice_index rgb (3 * i + 2)) (slice_index alphas i) (λ k. slice_index bytes (i * pixel_bytes format + k))
+    → AreBytesOfColour format (slice_index red i) (slice_index green i) (slice_index blue i) (slice_index alphas i) (λ k. slice_index bytes (i * pixel_bytes format + k))
 
 -- The bytes of each pixel of the picture in these tile rows are its colour in the format, and all other bytes are unchanged.
 abbrev pub AreResolved : Canvas → ℕ → ℕ → List BlockSamples → Format → ℕ → List ℕ → List ℕ → Type 0
@@ -72,6 +72,13 @@ AreResolved c first end samples format stride old new =
 pub record LiesInBlock (first across down i j : ℕ) : Type 0 where
   pub column : i / 8 ≡ across
   pub row : j / 8 ≡ 8 * first + down
+
+-- Pixel (i, j) is among the left `width` pixels of the upper `height` rows of such a block.
+pub record LiesInPart (first across down width height i j : ℕ) : Type 0 where
+  pub left : 8 * across ≤ i
+  pub right : i < 8 * across + width
+  pub top : 64 * first + 8 * down ≤ j
+  pub bottom : j < 64 * first + 8 * down + height
 
 -- The bytes of those pixels in these rows that `IsIn` names are as `IsPixel` says. All other bytes are unchanged.
 abbrev pub AreWrittenTo : PixelRows → (ℕ → ℕ → Type 0) → (ℕ → ℕ → (ℕ → ℕ) → Type 0) → List ℕ → List ℕ → Type 0

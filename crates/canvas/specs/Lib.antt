@@ -77,9 +77,10 @@
 --   HasMeansOf: The plane has the mean of the samples of each pixel of block k of the tile with these planes.
 --   IsPixelOf: The bytes of pixel (i, j) in the format.
 --   IsPixelWith: The bytes of a pixel with these samples in the format.
---   AreArranged: The bytes of eight pixels in the format, by those of the same pixels as red, green and blue, and by their alphas.
+--   AreArranged: The bytes of eight pixels in the format, by their red, green, blue and alpha.
 --   AreResolved: The bytes of each pixel of the picture in these tile rows are its colour in the format, and all other bytes are unchanged.
 --   LiesInBlock: Pixel (i, j) is in a column and a row of blocks, of which the rows are counted from tile row `first` on.
+--   LiesInPart: Pixel (i, j) is among the left `width` pixels of the upper `height` rows of such a block.
 --   AreWrittenTo: The bytes of those pixels in these rows that `IsIn` names are as `IsPixel` says.
 --   id_of: The id that is stored in place of a colour: red is its lowest byte.
 --   AreEntries: In these tile rows the entry of each pixel of the picture is what `entry` says of its sample s.

@@ -5,7 +5,7 @@ ghost use Rattle.lanes.specs.Block.{stored_at};
 ghost use Rattle.canvas.specs.Layout.{columns_of, planes_of_tile, planes_of_row, planes_of_rows, pixel_in_block, stored, stored_in_tile};
 ghost use Rattle.canvas.specs.Pixels.{pixel_bytes, shown_rows, IsLargeEnough};
 ghost use Rattle.canvas.specs.Entries.{FitEntries, IsEntriesMisfit};
-ghost use Rattle.canvas.specs.Colours.{IsPixelOf, IsPixelWith, LiesInBlock, IsSampleColour, AreBytesOfColour, AreWrittenTo, AreResolved, AreColours};
+ghost use Rattle.canvas.specs.Colours.{IsPixelOf, IsPixelWith, LiesInBlock, LiesInPart, IsSampleColour, AreBytesOfColour, AreWrittenTo, AreResolved, AreColours};
 
 use crate::block_means::{means_of_own, means_of_pair};
 use crate::canvas::Canvas;
@@ -17,7 +17,7 @@ use crate::view::View;
 use crate::way::{Way, way_of};
 use grid::SampleCount;
 use lanes::BlockSamples;
-use raster::{eight_from, first_of_many, interleaved};
+use raster::eight_from;
 use std::simd::prelude::*;
 
 /// Copies the first bytes of `run` to all of `bytes`. If this is inlined, the lengths of eight whole pixels are known,
@@ -41,25 +41,40 @@ fn copy_first(run: u8x32, bytes: &mut [u8])
     }
 }
 
-/// Writes the first `count` of eight pixels in the format, by the first 24 bytes of `rgb`, which are their red, green and
-/// blue, and by the first eight of `alphas`.
+/// Writes the first `count` of eight pixels in the format, by their channels.
 #[inline(always)]
-fn write_run(format: Format, rgb: u8x32, alphas: u8x32, count: u32, bytes: &mut [u8])
-    requires rgb { length rgb ≡ 32 }
-    requires alphas { length alphas ≡ 32 }
+fn write_run(
+    format: Format,
+    red: u8x8,
+    green: u8x8,
+    blue: u8x8,
+    alphas: u8x8,
+    count: u32,
+    bytes: &mut [u8],
+)
+    requires red { length red ≡ 8 }
+    requires green { length green ≡ 8 }
+    requires blue { length blue ≡ 8 }
+    requires alphas { length alphas ≡ 8 }
     requires count { count ≤ 8 }
     requires bytes { length bytes.old ≡ count * pixel_bytes format }
     ensures { (i : ℕ) → i < count →
-        AreBytesOfColour format (slice_index rgb (3 * i)) (slice_index rgb (3 * i + 1)) (slice_index rgb (3 * i + 2))
-        (slice_index alphas i) (λ k. slice_index bytes.new (i * pixel_bytes format + k)) }
+        AreBytesOfColour format (slice_index red i) (slice_index green i) (slice_index blue i) (slice_index alphas i)
+        (λ k. slice_index bytes.new (i * pixel_bytes format + k)) }
 {
     // Each format by itself: a run that is chosen from several is put together byte by byte.
     match format {
-        Format::Rgb8 => copy_first(arranged(Format::Rgb8, rgb, alphas), bytes),
-        Format::Rgba8 => copy_first(arranged(Format::Rgba8, rgb, alphas), bytes),
-        Format::Bgra8 => copy_first(arranged(Format::Bgra8, rgb, alphas), bytes),
-        Format::Rgba8Straight => copy_first(arranged(Format::Rgba8Straight, rgb, alphas), bytes),
-        Format::Bgra8Straight => copy_first(arranged(Format::Bgra8Straight, rgb, alphas), bytes),
+        Format::Rgb8 => copy_first(arranged(Format::Rgb8, red, green, blue, alphas), bytes),
+        Format::Rgba8 => copy_first(arranged(Format::Rgba8, red, green, blue, alphas), bytes),
+        Format::Bgra8 => copy_first(arranged(Format::Bgra8, red, green, blue, alphas), bytes),
+        Format::Rgba8Straight => copy_first(
+            arranged(Format::Rgba8Straight, red, green, blue, alphas),
+            bytes,
+        ),
+        Format::Bgra8Straight => copy_first(
+            arranged(Format::Bgra8Straight, red, green, blue, alphas),
+            bytes,
+        ),
     }
 }
 
@@ -78,8 +93,72 @@ fn resolve_plane(plane: &BlockSamples, row: u32, format: Format, count: u32, byt
     let red = eight_from(&plane.r, at);
     let green = eight_from(&plane.g, at);
     let blue = eight_from(&plane.b, at);
-    let alphas = first_of_many(eight_from(&plane.alpha, at));
-    write_run(format, interleaved(red, green, blue), alphas, count, bytes);
+    let alphas = eight_from(&plane.alpha, at);
+    write_run(format, red, green, blue, alphas, count, bytes);
+}
+
+/// Writes the left `width` pixels of each of the upper `height` rows of a block, by its column `across` and its row
+/// `down` among these rows. Their colours are those of the samples of one plane.
+#[inline(always)]
+fn write_part(
+    rows: &PixelRows,
+    plane: &BlockSamples,
+    across: u32,
+    down: u32,
+    format: Format,
+    width: u32,
+    height: u32,
+    bytes: &mut [u8],
+)
+    requires columns { 8 * across + width ≤ rows.now.tile_rows.canvas.width }
+    requires rows { 8 * down + height ≤
+        shown_rows rows.now.tile_rows.canvas rows.now.tile_rows.first rows.now.tile_rows.end }
+    requires width { width ≤ 8 }
+    requires height { height ≤ 8 }
+    requires unit { rows.now.unit ≡ pixel_bytes format }
+    requires size { rows.now.size ≡ length bytes.old }
+    ensures { AreWrittenTo rows.now (LiesInPart rows.now.tile_rows.first across down width height)
+        (λ i j bytes. IsSampleColour format (stored_at plane.now (pixel_in_block i j)) bytes) bytes.old bytes.new }
+{
+    let unit = format.pixel_bytes();
+    for row in 0..height {
+        let pixels = rows.row(8 * down + row);
+        let from = pixels.entries.start + 8 * across as usize * unit;
+        resolve_plane(
+            plane,
+            row,
+            format,
+            width,
+            &mut bytes[from..from + width as usize * unit],
+        );
+    }
+}
+
+/// What `resolve_block_by` does, with the format known if this is inlined.
+#[inline(always)]
+fn write_block(
+    rows: &PixelRows,
+    plane: &BlockSamples,
+    across: u32,
+    down: u32,
+    format: Format,
+    bytes: &mut [u8],
+)
+    requires column { 8 * across < rows.now.tile_rows.canvas.width }
+    requires row { 8 * down < shown_rows rows.now.tile_rows.canvas rows.now.tile_rows.first rows.now.tile_rows.end }
+    requires unit { rows.now.unit ≡ pixel_bytes format }
+    requires size { rows.now.size ≡ length bytes.old }
+    ensures { AreWrittenTo rows.now (LiesInBlock rows.now.tile_rows.first across down)
+        (λ i j bytes. IsSampleColour format (stored_at plane.now (pixel_in_block i j)) bytes) bytes.old bytes.new }
+{
+    let width = (rows.tile_rows.canvas.width - 8 * across).min(8);
+    let height = (rows.count() - 8 * down).min(8);
+    // A whole block by itself: its rows are unrolled, and each is stored in one piece.
+    if width == 8 && height == 8 {
+        write_part(rows, plane, across, down, format, 8, 8, bytes);
+    } else {
+        write_part(rows, plane, across, down, format, width, height, bytes);
+    }
 }
 
 /// Writes the pixels of the picture in a block of these rows, by its column `across` and its row `down`, whose colours are
@@ -99,19 +178,17 @@ fn resolve_block_by(
     ensures { AreWrittenTo rows.now (LiesInBlock rows.now.tile_rows.first across down)
         (λ i j bytes. IsSampleColour format (stored_at plane.now (pixel_in_block i j)) bytes) bytes.old bytes.new }
 {
-    let unit = format.pixel_bytes();
-    let count = (rows.tile_rows.canvas.width - 8 * across).min(8);
-    let end = (8 * down + 8).min(rows.count());
-    for index in 8 * down..end {
-        let row = rows.row(index);
-        let from = row.entries.start + 8 * across as usize * unit;
-        resolve_plane(
-            plane,
-            row.j % 8,
-            format,
-            count,
-            &mut bytes[from..from + count as usize * unit],
-        );
+    // Each format by itself, so that no row asks for it.
+    match format {
+        Format::Rgb8 => write_block(rows, plane, across, down, Format::Rgb8, bytes),
+        Format::Rgba8 => write_block(rows, plane, across, down, Format::Rgba8, bytes),
+        Format::Bgra8 => write_block(rows, plane, across, down, Format::Bgra8, bytes),
+        Format::Rgba8Straight => {
+            write_block(rows, plane, across, down, Format::Rgba8Straight, bytes)
+        }
+        Format::Bgra8Straight => {
+            write_block(rows, plane, across, down, Format::Bgra8Straight, bytes)
+        }
     }
 }
 

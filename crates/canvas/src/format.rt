@@ -2,9 +2,10 @@
 ghost use Rattle.std.specs.Prelude.{◌≡◌, length, slice_index};
 ghost use Rattle.canvas.specs.Colours.{AreArranged};
 ghost use Rattle.canvas.specs.Pixels.{pixel_bytes, colour_in, alpha_in};
-ghost use Rattle.canvas.specs.declared.format.Format.TheVariants.{Rgba8, Bgra8};
+ghost use Rattle.canvas.specs.declared.format.Format.TheVariants.{Rgba8};
 
 use crate::straight::{multiplied_colour, straight_run};
+use raster::interleaved;
 use std::simd::prelude::*;
 
 /// How the colour of a pixel lies in bytes, in the order of their places in memory. A channel is a byte.
@@ -37,56 +38,59 @@ impl Format {
     }
 }
 
-/// Red, green, blue and alpha of eight pixels, by the first 24 bytes of `rgb`, which are their red, green and blue, and
-/// by the first eight of `alphas`.
+/// Four channels of eight pixels, pixel by pixel.
 #[inline(always)]
-fn rgba_run(rgb: u8x32, alphas: u8x32) -> u8x32
-    requires rgb { length rgb ≡ 32 }
-    requires alphas { length alphas ≡ 32 }
+fn four_interleaved(first: u8x8, second: u8x8, third: u8x8, fourth: u8x8) -> u8x32
+    requires first { length first ≡ 8 }
+    requires second { length second ≡ 8 }
+    requires third { length third ≡ 8 }
+    requires fourth { length fourth ≡ 8 }
     ensures whole { length result ≡ 32 }
-    ensures bytes { AreArranged Rgba8 rgb alphas result }
+    ensures bytes { AreArranged Rgba8 first second third fourth result }
 {
-    rgb.shuffle(
-        alphas,
+    let low: u8x16 = first.shuffle(
+        second,
+        [0, 8, 1, 9, 2, 10, 3, 11, 4, 12, 5, 13, 6, 14, 7, 15],
+    );
+    let high: u8x16 = third.shuffle(
+        fourth,
+        [0, 8, 1, 9, 2, 10, 3, 11, 4, 12, 5, 13, 6, 14, 7, 15],
+    );
+    low.shuffle(
+        high,
         [
-            0, 1, 2, 32, 3, 4, 5, 33, 6, 7, 8, 34, 9, 10, 11, 35, 12, 13, 14, 36, 15, 16, 17, 37,
-            18, 19, 20, 38, 21, 22, 23, 39,
+            0, 1, 16, 17, 2, 3, 18, 19, 4, 5, 20, 21, 6, 7, 22, 23, 8, 9, 24, 25, 10, 11, 26, 27,
+            12, 13, 28, 29, 14, 15, 30, 31,
         ],
     )
 }
 
-/// Blue, green, red and alpha of eight pixels, from what `rgba_run` takes.
+/// The bytes of eight pixels in the format, one after another. Those of RGB8 are the first 24.
 #[inline(always)]
-fn bgra_run(rgb: u8x32, alphas: u8x32) -> u8x32
-    requires rgb { length rgb ≡ 32 }
-    requires alphas { length alphas ≡ 32 }
+pub(crate) fn arranged(format: Format, red: u8x8, green: u8x8, blue: u8x8, alphas: u8x8) -> u8x32
+    requires red { length red ≡ 8 }
+    requires green { length green ≡ 8 }
+    requires blue { length blue ≡ 8 }
+    requires alphas { length alphas ≡ 8 }
     ensures whole { length result ≡ 32 }
-    ensures bytes { AreArranged Bgra8 rgb alphas result }
-{
-    rgb.shuffle(
-        alphas,
-        [
-            2, 1, 0, 32, 5, 4, 3, 33, 8, 7, 6, 34, 11, 10, 9, 35, 14, 13, 12, 36, 17, 16, 15, 37,
-            20, 19, 18, 38, 23, 22, 21, 39,
-        ],
-    )
-}
-
-/// The bytes of eight pixels in the format, by the first 24 bytes of `rgb`, which are those of RGB8, and by the first
-/// eight of `alphas`.
-#[inline(always)]
-pub(crate) fn arranged(format: Format, rgb: u8x32, alphas: u8x32) -> u8x32
-    requires rgb { length rgb ≡ 32 }
-    requires alphas { length alphas ≡ 32 }
-    ensures whole { length result ≡ 32 }
-    ensures bytes { AreArranged format rgb alphas result }
+    ensures bytes { AreArranged format red green blue alphas result }
 {
     match format {
-        Format::Rgb8 => rgb,
-        Format::Rgba8 => rgba_run(rgb, alphas),
-        Format::Bgra8 => bgra_run(rgb, alphas),
-        Format::Rgba8Straight => rgba_run(straight_run(rgb, alphas), alphas),
-        Format::Bgra8Straight => bgra_run(straight_run(rgb, alphas), alphas),
+        Format::Rgb8 => interleaved(red, green, blue),
+        Format::Rgba8 => four_interleaved(red, green, blue, alphas),
+        Format::Bgra8 => four_interleaved(blue, green, red, alphas),
+        Format::Rgba8Straight => four_interleaved(
+            straight_run(red, alphas),
+            straight_run(green, alphas),
+            straight_run(blue, alphas),
+            alphas,
+        ),
+        Format::Bgra8Straight => four_interleaved(
+            straight_run(blue, alphas),
+            straight_run(green, alphas),
+            straight_run(red, alphas),
+            alphas,
+        ),
     }
 }
 

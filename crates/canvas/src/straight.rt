@@ -1,6 +1,6 @@
 //! Colours that are multiplied by their alpha, as a canvas that is drawn on from alpha 0 has them, and those of image
 //! files, which are not.
-ghost use Rattle.std.specs.Prelude.{◌≡◌, ◌/◌, ◌<◌, ◌≤◌, ℕ, length, slice_index};
+ghost use Rattle.std.specs.Prelude.{◌≡◌, ◌<◌, ◌≤◌, ℕ, length, slice_index};
 ghost use Rattle.shade.specs.Blend.{IsOver};
 ghost use Rattle.canvas.specs.Straight.{straight_of, multiplied_by};
 
@@ -36,20 +36,20 @@ pub(crate) fn multiplied_colour(r: u8, g: u8, b: u8, alpha: u8) -> (u8, u8, u8)
     )
 }
 
-/// The first 24 bytes of `rgb`, the red, green and blue of eight pixels, divided by the alphas of these.
-pub(crate) fn straight_run(rgb: u8x32, alphas: u8x32) -> u8x32
-    requires rgb { length rgb ≡ 32 }
-    requires alphas { length alphas ≡ 32 }
-    ensures whole { length result ≡ 32 }
-    ensures divided { (k : ℕ) → k < 24 →
-        slice_index result k ≡ straight_of (slice_index rgb k) (slice_index alphas (k / 3)) }
+/// A channel of eight pixels, divided by their alphas.
+pub(crate) fn straight_run(channel: u8x8, alphas: u8x8) -> u8x8
+    requires channel { length channel ≡ 8 }
+    requires alphas { length alphas ≡ 8 }
+    ensures whole { length result ≡ 8 }
+    ensures divided { (i : ℕ) → i < 8 →
+        slice_index result i ≡ straight_of (slice_index channel i) (slice_index alphas i) }
 {
     let alphas = alphas.to_array();
-    let mut made = rgb.to_array();
-    for k in 0..24 {
-        made[k] = straight(made[k], alphas[k / 3]);
+    let mut made = channel.to_array();
+    for i in 0..8 {
+        made[i] = straight(made[i], alphas[i]);
     }
-    u8x32::from_array(made)
+    u8x8::from_array(made)
 }
 
 /// A channel that is multiplied by alpha is that channel over black.

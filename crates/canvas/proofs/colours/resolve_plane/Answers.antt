@@ -5,6 +5,5 @@ use Rattle.canvas.proofs.colours.resolve_plane.Goals as goal
 pub returns : goal.returns
 returns c i l k small =
     let few : i < 8 = omega (arith, l, c.requires.count) in
-    let rgb = c.interleaved.ensures.bytes i few in
     c.write_run.ensures i l k small
-    ∙ (λ t. slice_index (pixel_of c.args.format ((rgb.0 ∙ c.eight_from-red.ensures.each i few) t) ((rgb.1 ∙ c.eight_from-green.ensures.each i few) t) ((rgb.2 ∙ c.eight_from-blue.ensures.each i few) t) ((c.first_of_many-alphas.ensures.first i few ∙ c.eight_from.ensures.each i few) t)) k)
+    ∙ (λ t. slice_index (pixel_of c.args.format (c.eight_from-red.ensures.each i few t) (c.eight_from-green.ensures.each i few t) (c.eight_from-blue.ensures.each i few t) (c.eight_from-alphas.ensures.each i few t)) k)
