@@ -6,10 +6,10 @@ pub mod Cancel
 pub mod Outline
 pub mod Totals
 pub mod Windings
-pub mod Singles
 pub mod Plotted
 pub mod Parts
 pub mod ByteRows
+pub mod ByteSums
 pub mod Filling
 pub mod Masks
 pub mod RunningSums
@@ -18,8 +18,10 @@ pub mod NoFlags
 pub mod Outside
 pub mod Columns
 pub mod ShortEdges
+pub mod SetBits
 pub mod Sixteen
 pub mod LowestBit
+pub mod MaskLanes
 pub mod ShortRows
 pub mod Division
 pub mod Exact

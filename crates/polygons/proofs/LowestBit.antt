@@ -1,8 +1,8 @@
 -- The lowest bit of four.
-use Rattle.std.proofs.Common.{◌≡◌, ◌∙◌, refl, sym, ap, arith, ℕ, zero, suc, ◌+◌, ◌-◌, ◌*◌, ◌/◌, ◌%◌, ◌^◌, ◌<◌, lit<, bit_and, w64}
+use Rattle.std.proofs.Common.{◌≡◌, ◌∙◌, refl, ap, arith, ℕ, zero, suc, ◌+◌, ◌-◌, ◌/◌, ◌^◌, ◌<◌, lit<, bit_and, w64}
 use Rattle.std.specs.Int.{bit_at, trailing_zeros}
-use Rattle.std.proofs.lemmas.Nat.{shr-shr, shr_split, and_mask}
-use Rattle.std.proofs.lemmas.Nat.Bits.{bit_at_cat_low}
+use Rattle.std.proofs.lemmas.Nat.{and_mask}
+use Rattle.polygons.proofs.MaskLanes.{bit_of_part}
 
 -- n without its lowest bit, s
 pub record IsLowest (n s rest : ℕ) : Type 0 where
@@ -41,10 +41,7 @@ lowest (suc (suc (suc (suc (suc (suc (suc (suc (suc (suc (suc (suc (suc (suc (su
 
 -- four bits of a word
 pub bits_of_part : (n j k : ℕ) → k < 4 → bit_at (bit_and (n / 2 ^ j) 15) k ≡ bit_at n (j + k)
-bits_of_part n j k l =
-    let m = n / 2 ^ j in
-    let parts : m / 2 ^ 4 * 2 ^ 4 + m % 2 ^ 4 ≡ m = shr_split m 4 in
-    ap (λ z. bit_at z k) (and_mask m 4) ∙ sym (bit_at_cat_low (m / 2 ^ 4) 4 (m % 2 ^ 4) k l) ∙ ap (λ z. bit_at z k) parts ∙ ap (λ z. z % 2) (shr-shr n j k)
+bits_of_part n j k l = ap (λ z. bit_at z k) (and_mask (n / 2 ^ j) 4) ∙ bit_of_part n j 4 k l
 
 pub part_few : (n j : ℕ) → bit_and (n / 2 ^ j) 15 < 16
 part_few n j = let is = and_mask (n / 2 ^ j) 4 in omega arith

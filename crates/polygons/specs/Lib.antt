@@ -177,11 +177,11 @@
 --   number_in: The number of cell i of a word, or more by a multiple of 2 ^ 32.
 --   run: The sum of a number and of n further ones from `from` on, modulo 2 ^ 32.
 --   nonzero_bit: 1 if the number is other than 0.
---   single_sum: 0 if the bit is 0, else 1, or -1 modulo 2 ^ 32 in the other direction.
 --   change_bit: 1 if one of the numbers is 0 and the other is not.
 --   change_at: Whether cell i of a word changes the sum of its row from 0 to another number, or from another number to 0: 1 or 0.
 --   IsLevelMask: The mask of word i of a column if it has no flags.
 --   IsSummed: The mask and the sums of a word's rows.
+--   AreInBytes: The lanes are the numbers of a word's cells modulo 256.
 
 pub mod Crossing
 pub mod Polygon

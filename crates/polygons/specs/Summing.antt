@@ -1,5 +1,5 @@
 -- From flags and counters to masks.
-use Rattle.std.specs.Prelude.{◌≡◌, ℕ, Bool, true, false, zero, suc, ◌-◌, ◌+◌, ◌*◌, ◌/◌, ◌%◌, ◌^◌, ◌<◌, cond, ◌==◌, List, slice_index}
+use Rattle.std.specs.Prelude.{◌≡◌, ℕ, zero, suc, ◌+◌, ◌*◌, ◌/◌, ◌%◌, ◌^◌, ◌<◌, ◌≤◌, cond, ◌==◌, List, length, slice_index}
 use Rattle.std.specs.Int.{bit_at}
 use Rattle.polygons.specs.declared.marks.Marks.{Marks}
 use Rattle.polygons.specs.Cells.{in_use}
@@ -25,11 +25,6 @@ run numbers from start (suc n) = (run numbers from start n + numbers (from + n))
 abbrev pub nonzero_bit : ℕ → ℕ
 nonzero_bit n = cond (n == 0) 0 1
 
--- 0 if the bit is 0, else 1, or -1 modulo 2 ^ 32 in the other direction.
-abbrev pub single_sum : Bool → ℕ → ℕ
-single_sum true bit = bit
-single_sum false bit = (2 ^ 32 - bit) % 2 ^ 32
-
 -- 1 if one of the numbers is 0 and the other is not.
 abbrev pub change_bit : ℕ → ℕ → ℕ
 change_bit m n = (nonzero_bit m + nonzero_bit n) % 2
@@ -49,3 +44,9 @@ pub record IsSummed (numbers : ℕ → ℕ) (word : ℕ) (sums sums' : List ℕ)
   pub bits : (r j : ℕ) → r < 8 → j < 8 → bit_at mask (8 * r + j) ≡ nonzero_bit (run numbers (8 * r) (slice_index sums (8 * word + r)) (j + 1))
   pub next : (r : ℕ) → r < 8 → slice_index sums' (8 * word + r) ≡ run numbers (8 * r) (slice_index sums (8 * word + r)) 8
   pub other_sums : (q : ℕ) → (q / 8 ≡ word → ⊥) → slice_index sums' q ≡ slice_index sums q
+
+-- The lanes are the numbers of a word's cells modulo 256. Each number is from -most to most, modulo 2 ^ 32.
+pub record AreInBytes (most : ℕ) (numbers : ℕ → ℕ) (lanes : List ℕ) : Type 0 where
+  pub whole : length lanes ≡ 64
+  pub small : (i : ℕ) → i < 64 → (numbers i + most) % 2 ^ 32 ≤ 2 * most
+  pub each : (i : ℕ) → i < 64 → slice_index lanes i ≡ numbers i % 256

@@ -4,6 +4,7 @@
 mod apart;
 mod arrays;
 mod byte_rows;
+mod byte_sums;
 mod cells;
 mod corner;
 mod crossings;
@@ -13,6 +14,7 @@ mod extent;
 mod fill;
 mod laws;
 mod marks;
+mod mask_lanes;
 mod partition;
 mod pixels;
 mod plot;

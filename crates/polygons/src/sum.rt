@@ -2,16 +2,14 @@
 ghost use Rattle.std.specs.Prelude.{◌≡◌, ◌≢◌, ◌↔◌, ℕ, ◌+◌, ◌*◌, ◌/◌, ◌%◌, ◌^◌, ◌<◌, cond, pos, length, slice_index, IsTrue, ◌++◌};
 ghost use Rattle.std.specs.Int.{bit_at};
 ghost use Rattle.polygons.specs.Cells.{flag_of, running_sum, IsAlike, AreMarked, AreZeros, AreZerosFrom};
-ghost use Rattle.polygons.specs.Summing.{run, number_in, marks_of_word, nonzero_bit, single_sum, change_bit, change_at, IsLevelMask, HasFirstMarked, IsSummed};
+ghost use Rattle.polygons.specs.Summing.{run, number_in, marks_of_word, nonzero_bit, change_bit, change_at, IsLevelMask, HasFirstMarked, IsSummed};
 ghost use Rattle.polygons.specs.declared.rule.Rule.TheVariants.{NonZero};
 
 use crate::byte_rows::{fill_rows, last_column};
+use crate::byte_sums::{Sums, sum_bytes};
 use crate::cells::{Counters, Flags};
 use crate::fill::no_carry;
 use crate::marks::Marks;
-
-/// The sums of a column's rows: of each of its words eight.
-type Sums = [u32; 256];
 
 /// 1 if one of the sums is 0 and the other is not, else 0.
 #[inline(always)]
@@ -79,64 +77,7 @@ fn changes(marks: Marks, counters: &Counters, word: usize, sums: &mut Sums) -> u
     changes
 }
 
-/// Whether the sums of a word's rows are 0 or 1, or 0 or -1 if not `down`.
-#[inline(always)]
-fn are_single(sums: &Sums, word: usize, down: bool) -> bool
-    requires word { word < 32 }
-    ensures { IsTrue result → (r : ℕ) → r < 8 →
-        slice_index sums.now (8 * word + r) ≡ single_sum down (nonzero_bit (slice_index sums.now (8 * word + r))) }
-{
-    let mut single = true;
-    for r in 0..8 {
-        single &= is_single(sums[8 * word + r], down);
-    }
-    single
-}
-
-/// Whether the sum is 0 or 1, or 0 or -1 if not `down`.
-#[inline(always)]
-fn is_single(sum: u32, down: bool) -> bool
-    ensures { IsTrue result → sum ≡ single_sum down (nonzero_bit sum) }
-{
-    let size = if down { sum } else { sum.wrapping_neg() };
-    size < 2
-}
-
-/// The sum 1, or -1 if not `down`, if a bit is set, else 0.
-#[inline(always)]
-fn single(bit: u64, down: bool) -> u32
-    requires { bit < 2 }
-    ensures { result ≡ single_sum down bit }
-{
-    if down {
-        return bit as u32;
-    }
-    (bit as u32).wrapping_neg()
-}
-
-/// Sets the sums of a word's rows to those of the last bits of its mask.
-#[inline(always)]
-fn set_sums(sums: &mut Sums, word: usize, mask: u64, down: bool)
-    requires word { word < 32 }
-    ensures next { (r : ℕ) → r < 8 → slice_index sums.new (8 * word + r) ≡ single_sum down (bit_at mask (8 * r + 7)) }
-    ensures other_sums { (q : ℕ) → (q / 8 ≡ word → ⊥) → slice_index sums.new q ≡ slice_index sums.old q }
-{
-    for r in 0..8 {
-        sums[8 * word + r] = single(mask >> (8 * r + 7) & 1, down);
-    }
-}
-
-/// Whether each flag that is set in `flips` is the same in two words.
-#[inline(always)]
-fn agree(a: u64, b: u64, flips: u64) -> bool
-    ensures { IsTrue result → (i : ℕ) → bit_at flips i ≡ 1 → bit_at a i ≡ bit_at b i }
-{
-    (a ^ b) & flips == 0
-}
-
-/// The mask of a word, and the sums at the ends of its rows. `level` is its mask if it has no flags. Most words have no
-/// sum but 0 and 1, or none but 0 and -1: there each edge of one direction makes the other one of 0, each edge of the
-/// opposite direction makes 0 of that, and the sums are parities.
+/// The mask of a word, and the sums at the ends of its rows. `level` is its mask if it has no flags.
 #[inline(always)]
 fn sum_word(marks: Marks, counters: &Counters, word: usize, sums: &mut Sums, level: u64) -> u64
     requires word { word < 32 }
@@ -144,16 +85,11 @@ fn sum_word(marks: Marks, counters: &Counters, word: usize, sums: &mut Sums, lev
     requires level { IsLevelMask level word sums.old }
     ensures { IsSummed (number_in marks counters.now word) word sums.old sums.new result }
 {
-    let carry = last_column(level);
-    let flips = marks.downs ^ marks.ups;
-    let mask = fill_rows(flips, carry).0;
-    let down = agree(mask, marks.downs, flips);
-    if marks.more == 0 && (down || agree(mask, marks.ups, flips)) && are_single(sums, word, down) {
-        set_sums(sums, word, mask, down);
+    if let Some(mask) = sum_bytes(marks, counters, word, sums) {
         return mask;
     }
     let changes = changes(marks, counters, word, sums);
-    fill_rows(changes, carry).0
+    fill_rows(changes, last_column(level)).0
 }
 
 /// In each row of a word all bits, if the last one is set.

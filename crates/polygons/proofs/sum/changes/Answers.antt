@@ -1,30 +1,14 @@
-use Rattle.std.proofs.Common.{◌≡◌, inl, inr, sym, ap, ◌∙◌, arith, ℕ, ◌+◌, ◌-◌, ◌*◌, ◌/◌, ◌%◌, ◌^◌, ◌<◌, ◌≤◌, true, false, ltb, w64, bit_or, List, slice_index}
+use Rattle.std.proofs.Common.{◌≡◌, inl, inr, ap, ◌∙◌, arith, ℕ, ◌+◌, ◌-◌, ◌*◌, ◌/◌, ◌%◌, ◌^◌, ◌<◌, ◌≤◌, true, false, ltb, w64, bit_or, List, slice_index}
 use Rattle.std.proofs.lemmas.Bool.{cases_lt, lt-ltb, le-ltb}
 use Rattle.std.proofs.lemmas.Nat.{shr-shr}
-use Rattle.std.proofs.lemmas.Nat.Bits.{bit_at-zero, bit_at-trailing_zeros, bit_at_or, bit_at_above}
+use Rattle.std.proofs.lemmas.Nat.Bits.{bit_at-zero, bit_at_or, bit_at_above}
 use Rattle.std.specs.Int.{bit_at, trailing_zeros}
 use Rattle.polygons.specs.declared.marks.Marks.{Marks}
 use Rattle.polygons.specs.Summing.{run, number_in, HasFirstMarked}
 use Rattle.polygons.proofs.Parity.{bit_of_shifted}
+use Rattle.polygons.proofs.SetBits.{next_bit, no_bits}
 use Rattle.polygons.proofs.Changes.{AreChanged, columns, no_number, none_changed, skipped, one_changed}
 use Rattle.polygons.proofs.sum.changes.Goals as goal
-
--- ---- the next flag of a word whose first n are done
-record IsNextFlag (marks n t : ℕ) : Type 0 where
-  inside : n + t < 64
-  none : (i : ℕ) → n ≤ i → i < n + t → bit_at marks i ≡ 0
-
-next_flag : (marks left n : ℕ) → left ≡ marks / 2 ^ n → marks < 2 ^ 64 → left < 2 ^ 64 → (left ≡ 0 → ⊥) → IsNextFlag marks n (trailing_zeros w64 left)
-next_flag marks left n is small left_small some =
-    let z = bit_at-trailing_zeros w64 left (omega arith) left_small in
-    let further = λ (j : ℕ). ap (λ x. bit_at x j) is ∙ ap (λ x. x % 2) (shr-shr marks n j) in
-    record {
-      inside = within (n + trailing_zeros w64 left) (sym (further (trailing_zeros w64 left)) ∙ z.1);
-      none = λ i h l. (let place : n + (i - n) ≡ i = omega arith in sym (ap (bit_at marks) place) ∙ sym (further (i - n)) ∙ z.2 (i - n) (omega arith));
-    }
-  where
-    within : (i : ℕ) → bit_at marks i ≡ 1 → i < 64
-    within i one = elim (cases_lt i 64) [ inl l ↦ l | inr l ↦ absurd (let zero = bit_at_above marks 64 i small l in omega arith) ]
 
 -- ---- a word with one flag more
 flag_here : (bits b n : ℕ) → b < 2 → n < 64 → bit_at bits n ≡ 0 → bit_at (bit_or bits (b * 2 ^ n % 2 ^ 64)) n ≡ b
@@ -58,10 +42,10 @@ marks_fit : (marks result : ℕ) → result ≡ marks → result < 2 ^ 64 → ma
 marks_fit marks result e h = omega arith
 
 pub add_number-requires-clause-bit : goal.add_number-requires-clause-bit
-add_number-requires-clause-bit c = (next_flag _ c.loop-left.left c.loop-left.done c.loop-left.invariant.left (marks_fit _ _ c.firsts-left.ensures c.firsts-left.type_inv) c.loop-left.auto.left-fits.fits c.loop-left-test.true).inside
+add_number-requires-clause-bit c = (next_bit _ c.loop-left.left c.loop-left.done c.loop-left.invariant.left (marks_fit _ _ c.firsts-left.ensures c.firsts-left.type_inv) c.loop-left.auto.left-fits.fits c.loop-left-test.true).inside
 
 pub overflow_shl-changes : goal.overflow_shl-changes
-overflow_shl-changes c = (next_flag _ c.loop-left.left c.loop-left.done c.loop-left.invariant.left (marks_fit _ _ c.firsts-left.ensures c.firsts-left.type_inv) c.loop-left.auto.left-fits.fits c.loop-left-test.true).inside
+overflow_shl-changes c = (next_bit _ c.loop-left.left c.loop-left.done c.loop-left.invariant.left (marks_fit _ _ c.firsts-left.ensures c.firsts-left.type_inv) c.loop-left.auto.left-fits.fits c.loop-left-test.true).inside
 
 pub loop-left-init : goal.loop-left-init
 loop-left-init c = record {
@@ -76,7 +60,7 @@ loop-left-preserved c =
     let numbers = number_in c.args.marks c.args.counters.now c.args.word in
     let t = trailing_zeros w64 c.loop-left.left in
     let n = c.loop-left.done + t in
-    let f = next_flag marks c.loop-left.left c.loop-left.done v.left (marks_fit _ _ c.firsts-left.ensures c.firsts-left.type_inv) c.loop-left.auto.left-fits.fits c.loop-left-test.true in
+    let f = next_bit marks c.loop-left.left c.loop-left.done v.left (marks_fit _ _ c.firsts-left.ensures c.firsts-left.type_inv) c.loop-left.auto.left-fits.fits c.loop-left-test.true in
     let a = c.add_number.ensures in
     let bit : c.add_number.result < 2 = let e = a.change in omega arith in
     let at = skipped numbers c.args.word c.args.sums.now c.fits-sums c.loop-left.done n c.loop-left.changes c.loop-left.sums (omega arith) (let i = f.inside in omega arith)
@@ -88,16 +72,11 @@ loop-left-preserved c =
           (λ i h e. flag_apart c.loop-left.changes c.add_number.result n i bit h e) a.sum a.other_sums at;
     }
 
-no_flags : (marks left n : ℕ) → left ≡ marks / 2 ^ n → left ≡ 0 → (i : ℕ) → n ≤ i → bit_at marks i ≡ 0
-no_flags marks left n is none i h =
-    let place : n + (i - n) ≡ i = omega arith in
-    sym (ap (bit_at marks) place) ∙ sym (ap (λ x. x % 2) (shr-shr marks n (i - n))) ∙ sym (ap (λ x. bit_at x (i - n)) is) ∙ ap (λ x. bit_at x (i - n)) none ∙ bit_at-zero (i - n)
-
 -- what holds at the end, for all cells
 all_of : (marks : Marks) (counters : List ℕ) (word : ℕ) (sums : List ℕ) (left n bits : ℕ) (sums' : List ℕ) → ((q : ℕ) → slice_index sums q < 2 ^ 32) → HasFirstMarked marks
     → left ≡ bit_or marks.downs marks.ups / 2 ^ n → left ≡ 0 → AreChanged (number_in marks counters word) word sums n bits sums' → AreChanged (number_in marks counters word) word sums 64 bits sums'
 all_of marks counters word sums left n bits sums' small marked is none v =
-    skipped (number_in marks counters word) word sums small n 64 bits sums' v.few (omega arith) (λ i h l. no_number marks counters word i marked l (no_flags (bit_or marks.downs marks.ups) left n is none i h)) v
+    skipped (number_in marks counters word) word sums small n 64 bits sums' v.few (omega arith) (λ i h l. no_number marks counters word i marked l (no_bits (bit_or marks.downs marks.ups) left n is none i h)) v
 
 pub returns-clause-changes : goal.returns-clause-changes
 returns-clause-changes c i h =
