@@ -237,6 +237,7 @@ def scene_of(path: Path, style: Optional[Path] = None) -> Scene:
     except (DrawListError, LimitError) as error:
         if GEOJSON_TYPE.search(data):
             raise MapError(
-                f"{name}: it looks like GeoJSON, and is no draw list: its name has to end in {GEOJSON}, or it needs a style"
+                f"{name}: it looks like GeoJSON, and is no draw list: "
+                f"its name has to end in {GEOJSON}, or it needs a style"
             ) from error
         raise
