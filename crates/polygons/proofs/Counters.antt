@@ -1,5 +1,5 @@
 -- What the counters of a row say of the edges.
-use Rattle.std.proofs.Common.{◌≡◌, inl, inr, refl, sym, ap, ◌∙◌, arith, ℕ, zero, suc, ◌+◌, ◌<◌, ◌≤◌, Bool, true, false, cond, eqb, ℤ, pos, negsuc, neg_ℤ, nat_abs, w64, to_z, of_z, FitsSigned, ◌+ℤ◌, ◌<ℤ◌, ◌≤ℤ◌}
+use Rattle.std.proofs.Common.{◌≡◌, inl, inr, refl, sym, ap, ◌∙◌, arith, ℕ, zero, suc, ◌+◌, ◌<◌, ◌≤◌, Bool, true, false, cond, eqb, ℤ, pos, neg_ℤ, ◌+ℤ◌, ◌<ℤ◌, ◌≤ℤ◌}
 use Rattle.std.proofs.lemmas.Int.{ints, clamps}
 use Rattle.std.proofs.lemmas.Bool.{cases_lt, cases_eq, eq-eqb, ne_eqb}
 use Rattle.std.specs.Int.{int_max}
@@ -14,7 +14,6 @@ use Rattle.polygons.specs.Rows.{direction, sum_to, from_column}
 use Rattle.polygons.proofs.Tests.{le_yes, le_no, down_yes, down_above, down_below, down_left, up_above, up_below}
 use Rattle.polygons.proofs.Triangle.{at_most_or_over, above_or_not}
 use Rattle.polygons.proofs.Cancel.{opposite}
-use Rattle.polygons.proofs.Exact.{exact64}
 
 -- ---- sums of counters
 pub sum-add : (f g h : ℕ → ℤ) (n : ℕ) → ((k : ℕ) → k < n → g k ≡ f k +ℤ h k) → sum_to g n ≡ sum_to f n +ℤ sum_to h n
@@ -85,16 +84,6 @@ same-test column c k e = elim (above_or_not (pos k) column) [
       let b = le_yes column (pos k) l in
       a ∙ sym b
 ]
-
-not_negative : (z : ℤ) → pos 0 ≤ℤ z → pos (nat_abs z) ≡ z
-not_negative (pos n) h = refl
-not_negative (negsuc n) h = absurd (omega (arith, ints))
-
--- the column of the code as a place, which is the first for a column left of the row
-pub place_is : (column m : ℤ) → FitsSigned w64 m → m ≡ int_max column (pos 0) → pos (nat_abs (to_z w64 (of_z w64 m))) ≡ int_max column (pos 0)
-place_is column m fits e =
-    let same = exact64 m fits in
-    not_negative (to_z w64 (of_z w64 m)) (rw same (omega (arith, ints, clamps))) ∙ same ∙ e
 
 -- ---- one edge
 pub direction-from : (e : Edge) (p : Position) (c : ℤ) (k : ℕ) → HasHeight e p.y → IsFirstColumn e p c → direction e (along p (pos k)) ≡ from_column c (pos 1) k

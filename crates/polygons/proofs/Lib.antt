@@ -8,6 +8,7 @@ pub mod Totals
 pub mod Windings
 pub mod Plotted
 pub mod Parts
+pub mod PartRows
 pub mod ByteRows
 pub mod ByteSums
 pub mod Filling

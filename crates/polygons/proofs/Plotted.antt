@@ -1,11 +1,11 @@
 -- What is added to the rows of a strip, one edge after another.
-use Rattle.std.proofs.Common.{◌≡◌, inl, inr, refl, sym, subst, ap, ◌∙◌, arith, ℕ, zero, suc, ◌+◌, ◌*◌, ◌<◌, ◌≤◌, Bool, true, false, List, [], ◌∷◌, ◌++◌, length, drop, get_or, drop-cons, add-one, ℤ, pos, w32, w64, to_z, of_z, FitsSigned, ◌+ℤ◌, ◌-ℤ◌, ◌*ℤ◌, ◌<ℤ◌, ◌≤ℤ◌}
+use Rattle.std.proofs.Common.{◌≡◌, inl, inr, refl, sym, subst, ap, ◌∙◌, arith, ℕ, zero, suc, ◌+◌, ◌*◌, ◌<◌, ◌≤◌, Bool, true, false, List, [], ◌∷◌, ◌++◌, length, drop, get_or, drop-cons, add-one, ℤ, pos, w64, to_z, of_z, FitsSigned, ◌+ℤ◌, ◌-ℤ◌, ◌*ℤ◌, ◌<ℤ◌, ◌≤ℤ◌}
 use Rattle.std.proofs.lemmas.Int.{ints}
 use Rattle.std.proofs.lemmas.Bool.{cases_eq, cases_lt}
 use Rattle.std.proofs.lemmas.List.{length-take}
 use Rattle.std.proofs.lemmas.Nat.Bits.{bit_at-zero}
 use Rattle.std.specs.Int.{bit_at}
-use Rattle.grid.specs.Position.{Position, IsInBand}
+use Rattle.grid.specs.Position.{Position}
 use Rattle.grid.proofs.Ring.{var, plus, times, ring}
 use Rattle.grid.specs.Samples.{part_size}
 use Rattle.grid.specs.declared.sample_count.SampleCount.{SampleCount}
@@ -35,11 +35,6 @@ has_counters NonZero f c f' c' e g h = e ∙ h ∙ ap (λ n. 3 * n) (sym g)
 pub same_columns : (rule : Rule) (f c f' c' : List (List ℕ)) → length f' ≡ length f → length c' ≡ length c → columns_in rule f' c' ≡ columns_in rule f c
 same_columns EvenOdd f c f' c' e g = e
 same_columns NonZero f c f' c' e g = g
-
--- the height of a row
-pub row_height : (y s : ℤ) (n : ℕ) → y ≡ s → n < 65 → IsInBand s → IsInBand (s +ℤ pos (256 * n))
-    → to_z w32 (of_z w32 (to_z w32 (of_z w32 y) +ℤ to_z w32 (of_z w32 (pos 256 *ℤ to_z w32 n)))) ≡ s +ℤ pos (256 * n)
-row_height y s n e h k l = omega (arith, ints)
 
 pub row_after : (p : Position) (n : ℕ) → below (down p n) ≡ down p (n + 1)
 row_after p n = let y : (p.y +ℤ pos (256 * n)) +ℤ pos 256 ≡ p.y +ℤ pos (256 * (n + 1)) = omega (arith, ints) in λ i. record { x = p.x; y = y i }
@@ -89,15 +84,6 @@ pub before_of : (r i : ℕ) → r < i + 1 → (r ≡ i → ⊥) → r < i
 before_of r i h e = elim (cases_lt r i) [ inl m ↦ m | inr m ↦ absurd (e (omega arith)) ]
 
 -- ---- what is added to the rows of one sample
-pub added_none : (rule : Rule) (s first : ℕ) (number : ℕ → ℕ → ℤ) (f c : List (List ℕ)) → IsAdded rule s first first number f c f c
-added_none rule s first number f c = record {
-  flags_len = refl;
-  counters_len = refl;
-  here = λ row k h l m. absurd (omega arith);
-  others = λ r row k h l m n. refl;
-  marked = λ h. h;
-}
-
 pub added_as : (rule : Rule) (s first end : ℕ) (number other : ℕ → ℕ → ℤ) (f c f' c' : List (List ℕ)) → ((row k : ℕ) → first ≤ row → row < end → number row k ≡ other row k)
     → IsAdded rule s first end number f c f' c' → IsAdded rule s first end other f c f' c'
 added_as rule s first end number other f c f' c' e h = record {
@@ -107,22 +93,6 @@ added_as rule s first end number other f c f' c' e h = record {
   others = h.others;
   marked = h.marked;
 }
-
-pub added_both : (rule : Rule) (s first mid end : ℕ) (number : ℕ → ℕ → ℤ) (a b c d e i : List (List ℕ)) → s < 4 → first ≤ mid → mid ≤ end → end ≤ 64
-    → IsAdded rule s first mid number a b c d → IsAdded rule s mid end number c d e i → IsAdded rule s first end number a b e i
-added_both rule s first mid end number a b c d e i s_small rise more most h k = record {
-  flags_len = k.flags_len ∙ h.flags_len;
-  counters_len = k.counters_len ∙ h.counters_len;
-  here = λ row j l m n. elim (cases_lt row mid) [
-    | inl p ↦ alike_moved (modulus rule) _ _ _ (sym (k.others s row j s_small (omega arith) (inside j n) (λ _ x _. omega arith))) (h.here row j l p n)
-    | inr p ↦ alike_from (modulus rule) _ _ _ _ _ _ refl (h.others s row j s_small (omega arith) n (λ _ _ x. omega arith)) refl (k.here row j p m (inside j n))
-  ];
-  others = λ r row j l m b n. k.others r row j l m (inside j b) (λ x y z. n x (omega arith) z) ∙ h.others r row j l m b (λ x y z. n x y (omega arith));
-  marked = λ x. k.marked (h.marked x);
-}
-  where
-    inside : (j : ℕ) → j < 8 * columns_in rule a b → j < 8 * columns_in rule c d
-    inside j l = let q = same_columns rule a b c d h.flags_len h.counters_len in omega arith
 
 -- rows in which nothing is added
 pub added_all : (rule : Rule) (s first end : ℕ) (number : ℕ → ℕ → ℤ) (f c f' c' : List (List ℕ)) → s < 4 → ((row k : ℕ) → row < first → number row k ≡ pos 0)
@@ -141,67 +111,37 @@ added_all rule s first end number f c f' c' s_small above under h = record {
   marked = h.marked;
 }
 
--- ---- the samples of a part of a strip, row by row, and in a row one index after another
--- what holds once the first n of these cells are done
-pub record AreCellsAdded (rule : Rule) (strip : Strip) (part : ℕ) (change : Position → ℤ) (n : ℕ) (f c f' c' : List (List ℕ)) : Type 0 where
+-- ---- the samples of a part of a strip, row by row
+-- what holds once the rows before row n are done
+pub record AreRowsAdded (rule : Rule) (strip : Strip) (part : ℕ) (change : Position → ℤ) (n : ℕ) (f c f' c' : List (List ℕ)) : Type 0 where
   pub flags_len : length f' ≡ length f
   pub counters_len : length c' ≡ length c
-  pub done : (s row k : ℕ) → s < part_size strip.count → 4 * row + s < n → row < 64 → k < 8 * columns_in rule f c → IsAlike (modulus rule) (running_sum rule f' c' s row k) (running_sum rule f c s row k +ℤ change (strip_sample strip (4 * part + s) row k))
-  pub rest : (s row k : ℕ) → s < 4 → n ≤ 4 * row + s → row < 64 → k < 8 * columns_in rule f c → running_sum rule f' c' s row k ≡ running_sum rule f c s row k
+  pub done : (s row k : ℕ) → s < part_size strip.count → row < n → row < 64 → k < 8 * columns_in rule f c → IsAlike (modulus rule) (running_sum rule f' c' s row k) (running_sum rule f c s row k +ℤ change (strip_sample strip (4 * part + s) row k))
+  pub rest : (s row k : ℕ) → s < 4 → n ≤ row → row < 64 → k < 8 * columns_in rule f c → running_sum rule f' c' s row k ≡ running_sum rule f c s row k
   pub marked : AreMarked rule f c → AreMarked rule f' c'
 
--- cells to which nothing is added
-pub cells_passed : (rule : Rule) (strip : Strip) (part : ℕ) (change : Position → ℤ) (n m : ℕ) (f c f' c' : List (List ℕ)) → n ≤ m
-    → ((s row k : ℕ) → s < part_size strip.count → n ≤ 4 * row + s → 4 * row + s < m → row < 64 → change (strip_sample strip (4 * part + s) row k) ≡ pos 0)
-    → AreCellsAdded rule strip part change n f c f' c' → AreCellsAdded rule strip part change m f c f' c'
-cells_passed rule strip part change n m f c f' c' more none v = record {
-  flags_len = v.flags_len;
-  counters_len = v.counters_len;
-  done = λ s row k x y h i. elim (cases_lt (4 * row + s) n) [
-    | inl q ↦ v.done s row k x q h i
-    | inr q ↦ alike_none (modulus rule) _ _ _ (v.rest s row k (let few = part_small strip.count in omega (arith, x, few)) q h i) (none s row k x q y h)
-  ];
-  rest = λ s row k x y h i. v.rest s row k x (omega arith) h i;
-  marked = v.marked;
-}
-
-pub no_cells : (rule : Rule) (strip : Strip) (part : ℕ) (change : Position → ℤ) (f c : List (List ℕ)) → AreCellsAdded rule strip part change 0 f c f c
-no_cells rule strip part change f c = record {
+-- rows above, to which nothing is added
+pub rows_above : (rule : Rule) (strip : Strip) (part : ℕ) (change : Position → ℤ) (n : ℕ) (f c : List (List ℕ))
+    → ((s row k : ℕ) → s < part_size strip.count → row < n → row < 64 → change (strip_sample strip (4 * part + s) row k) ≡ pos 0) → AreRowsAdded rule strip part change n f c f c
+rows_above rule strip part change n f c none = record {
   flags_len = refl;
   counters_len = refl;
-  done = λ s row k x h. absurd (omega arith);
-  rest = λ s row k h l m b. refl;
+  done = λ s row k x y h i. alike_none (modulus rule) _ _ _ refl (none s row k x y h);
+  rest = λ s row k x y h i. refl;
   marked = λ h. h;
 }
 
-pub one_cell_more : (rule : Rule) (strip : Strip) (part : ℕ) (change : Position → ℤ) (row s : ℕ) (number : ℕ → ℕ → ℤ) (f c f' c' f'' c'' : List (List ℕ)) → s < 4 → row < 64
-    → ((k : ℕ) → number row k ≡ change (strip_sample strip (4 * part + s) row k)) → AreCellsAdded rule strip part change (4 * row + s) f c f' c' → IsAdded rule s row (row + 1) number f' c' f'' c''
-    → AreCellsAdded rule strip part change (4 * row + (s + 1)) f c f'' c''
-one_cell_more rule strip part change row s number f c f' c' f'' c'' small low is v p = record {
-  flags_len = p.flags_len ∙ v.flags_len;
-  counters_len = p.counters_len ∙ v.counters_len;
-  done = λ s' row' k x y h i. let few = part_small strip.count in let small' : s' < 4 = omega (arith, x, few) in elim (cases_lt (4 * row' + s') (4 * row + s)) [
-    | inl q ↦ alike_moved (modulus rule) _ _ _ (sym (p.others s' row' k small' h (inside k i) (λ a b d. omega arith))) (v.done s' row' k x q h i)
-    | inr q ↦
-        let same_s : s' ≡ s = omega arith in
-        let same_row : row' ≡ row = omega arith in
-        let a = p.here row k (omega arith) (omega arith) (inside k i) in
-        let at = alike_from (modulus rule) _ _ _ _ _ _ refl (v.rest s row k small (omega arith) low i) (is k) a in
-        rw (same_s, same_row) at
-  ];
-  rest = λ s' row' k x y h i. p.others s' row' k x h (inside k i) (λ a b d. omega arith) ∙ v.rest s' row' k x (omega arith) h i;
-  marked = λ h. p.marked (v.marked h);
-}
-  where
-    inside : (k : ℕ) → k < 8 * columns_in rule f c → k < 8 * columns_in rule f' c'
-    inside k l = let q = same_columns rule f c f' c' v.flags_len v.counters_len in omega arith
-
-pub all_cells : (rule : Rule) (strip : Strip) (part : ℕ) (change : Position → ℤ) (n : ℕ) (f c f' c' : List (List ℕ)) → 256 ≤ n → AreCellsAdded rule strip part change n f c f' c'
+-- rows below, to which nothing is added
+pub rows_below : (rule : Rule) (strip : Strip) (part : ℕ) (change : Position → ℤ) (n : ℕ) (f c f' c' : List (List ℕ))
+    → ((s row k : ℕ) → s < part_size strip.count → n ≤ row → row < 64 → change (strip_sample strip (4 * part + s) row k) ≡ pos 0) → AreRowsAdded rule strip part change n f c f' c'
     → IsPlotted rule strip part change f c f' c'
-all_cells rule strip part change n f c f' c' all v = record {
+rows_below rule strip part change n f c f' c' none v = record {
   flags_len = v.flags_len;
   counters_len = v.counters_len;
-  totals = λ s row k x y z. v.done s row k x (let few = part_small strip.count in omega (arith, x, few, y, all)) y z;
+  totals = λ s row k x y z. elim (cases_lt row n) [
+    | inl q ↦ v.done s row k x q y z
+    | inr q ↦ alike_none (modulus rule) _ _ _ (v.rest s row k (let few = part_small strip.count in omega (arith, x, few)) q y z) (none s row k x q y)
+  ];
   marked = v.marked;
 }
 

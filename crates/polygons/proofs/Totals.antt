@@ -1,14 +1,16 @@
 -- Flags and counters of a strip: one cell that changes, and what it does to the sums of its row.
-use Rattle.std.proofs.Common.{◌≡◌, ◌≢◌, ◌⊎◌, inl, inr, refl, sym, subst, ap, ◌∙◌, arith, ℕ, zero, suc, ◌+◌, ◌*◌, ◌/◌, ◌%◌, ◌^◌, ◌<◌, ◌≤◌, Bool, true, false, cond, List, length, set, slice_index, get_or-set_same, get_or-set_other, bit_or, bit_and, not, eqb, pow_pos, ℤ, pos, neg_ℤ, w64, ◌+ℤ◌, ◌-ℤ◌, ◌*ℤ◌}
+use Rattle.std.proofs.Common.{◌≡◌, ◌≢◌, ◌⊎◌, inl, inr, refl, sym, subst, ap, ◌∙◌, arith, ℕ, zero, suc, ◌+◌, ◌-◌, ◌*◌, ◌/◌, ◌%◌, ◌^◌, ◌<◌, ◌≤◌, Bool, true, false, cond, List, length, take, drop, set, slice_index, get_or-set_same, get_or-set_other, bit_and, pow_pos, ℤ, pos, neg_ℤ, ◌+ℤ◌, ◌-ℤ◌, ◌*ℤ◌}
 use Rattle.std.proofs.lemmas.Int.{ints, clamps}
-use Rattle.std.proofs.lemmas.Bool.{cases_eq, eq-eqb, ne_eqb}
-use Rattle.std.proofs.lemmas.Nat.{one_shl}
-use Rattle.std.proofs.lemmas.Nat.Bits.{bit_at_set_same, bit_at_set_other, bit_at-pow_same, bit_at-pow_other, bit_at-lt, bit_at_xor, and_pow}
+use Rattle.std.proofs.lemmas.Bool.{cases_eq}
+use Rattle.std.proofs.lemmas.List.{get_or-take, get_or-drop, length-take, length-drop}
+use Rattle.std.proofs.lemmas.Nat.Bits.{bit_at-pow_same, bit_at-lt, bit_at_xor, and_pow}
 use Rattle.std.specs.Int.{bit_at, int_max}
 use Rattle.std.specs.Int.RustNames.{int_le, bit_xor}
+use borrow.Rule.Slice.PartMut.{put_mid, set_mid_at}
 use Rattle.polygons.specs.Rows.{sum_to, from_column}
 use Rattle.polygons.specs.ManyRows.{row_of}
 use Rattle.polygons.specs.declared.rule.Rule.{Rule}
+use Rattle.polygons.specs.declared.rule.Rule.TheVariants.{EvenOdd}
 use Rattle.polygons.specs.Cells.{word_of, bit_in_block, flag_of, cell, running_sum, modulus, columns_in, signed, IsAlike, AreMarked, IsAdded}
 use Rattle.polygons.proofs.RowLists.{row-here, row-other}
 use Rattle.polygons.proofs.Tests.{le_no}
@@ -32,100 +34,63 @@ word-other flags j i v l m h other = elim (cases_eq l j) [
 ]
 
 -- ---- one flag
-pub set_here : (flags : List (List ℕ)) (s row k w v : ℕ) → w ≡ word_of s row → k / 8 < length flags → w < length (row_of flags (k / 8))
-    → flag_of (set flags (k / 8) (set (row_of flags (k / 8)) w v)) s row k ≡ bit_at v (bit_in_block row k)
-set_here flags s row k w v is h l =
-    let a = word-here flags (k / 8) w v h l in
-    let changed = set flags (k / 8) (set (row_of flags (k / 8)) w v) in
-    ap (λ n. bit_at (slice_index (row_of changed (k / 8)) n) (bit_in_block row k)) (sym is) ∙ ap (λ x. bit_at x (bit_in_block row k)) a
+pub set_here : (flags : List (List ℕ)) (s row block k v : ℕ) → k / 8 ≡ block → block < length flags → word_of s row < length (row_of flags block)
+    → flag_of (set flags block (set (row_of flags block) (word_of s row) v)) s row k ≡ bit_at v (bit_in_block row k)
+set_here flags s row block k v at h l =
+    let changed : List (List ℕ) = set flags block (set (row_of flags block) (word_of s row) v) in
+    ap (λ n. bit_at (slice_index (row_of changed n) (word_of s row)) (bit_in_block row k)) at ∙ ap (λ x. bit_at x (bit_in_block row k)) (word-here flags block (word_of s row) v h l)
 
-same_word : (r j s row : ℕ) → r < 4 → s < 4 → word_of r j ≡ word_of s row → r ≡ s
-same_word r j s row h k e = omega arith
-
-same_eight : (r j s row : ℕ) → r < 4 → s < 4 → word_of r j ≡ word_of s row → j / 8 ≡ row / 8
-same_eight r j s row h k e = omega arith
-
-same_row : (j m row k : ℕ) → j / 8 ≡ row / 8 → bit_in_block j m ≡ bit_in_block row k → j ≡ row
-same_row j m row k e f = omega arith
-
-same_column : (j m row k : ℕ) → m / 8 ≡ k / 8 → bit_in_block j m ≡ bit_in_block row k → m ≡ k
-same_column j m row k e f = omega arith
-
-place_small : (row k : ℕ) → bit_in_block row k < 64
-place_small row k = omega arith
-
-pub set_other : (flags : List (List ℕ)) (s row k w b v : ℕ) → w ≡ word_of s row → b ≡ bit_in_block row k → k / 8 < length flags → w < length (row_of flags (k / 8)) → s < 4
-    → ((i : ℕ) → i < 64 → i ≢ b → bit_at v i ≡ bit_at (slice_index (row_of flags (k / 8)) w) i)
-    → (r j m : ℕ) → r < 4 → j < 64 → (r ≡ s → j ≡ row → m ≡ k → ⊥)
-    → flag_of (set flags (k / 8) (set (row_of flags (k / 8)) w v)) r j m ≡ flag_of flags r j m
-set_other flags s row k w b v is at h l small same r j m r_small j_small other =
-    let changed : List (List ℕ) = set flags (k / 8) (set (row_of flags (k / 8)) w v) in
-    elim (cases_eq (m / 8) (k / 8)) [
-      | inr e ↦ ap (λ x. bit_at x (bit_in_block j m)) (word-other flags (k / 8) w v (m / 8) (word_of r j) h (λ f g. e f))
+-- another flag stays, if its bit does where it lies in the word that changes
+pub set_other : (flags : List (List ℕ)) (s row block v : ℕ) → block < length flags → word_of s row < length (row_of flags block) → s < 4 → (r j m : ℕ) → r < 4
+    → (r ≡ s → j / 8 ≡ row / 8 → m / 8 ≡ block → bit_at v (bit_in_block j m) ≡ bit_at (slice_index (row_of flags block) (word_of s row)) (bit_in_block j m))
+    → flag_of (set flags block (set (row_of flags block) (word_of s row) v)) r j m ≡ flag_of flags r j m
+set_other flags s row block v h l small r j m r_small same =
+    let w : ℕ = word_of s row in
+    let changed : List (List ℕ) = set flags block (set (row_of flags block) w v) in
+    elim (cases_eq (m / 8) block) [
+      | inr e ↦ ap (λ x. bit_at x (bit_in_block j m)) (word-other flags block w v (m / 8) (word_of r j) h (λ f g. e f))
       | inl e ↦ elim (cases_eq (word_of r j) w) [
-        | inr f ↦ ap (λ x. bit_at x (bit_in_block j m)) (word-other flags (k / 8) w v (m / 8) (word_of r j) h (λ q g. f g))
+        | inr f ↦ ap (λ x. bit_at x (bit_in_block j m)) (word-other flags block w v (m / 8) (word_of r j) h (λ q g. f g))
         | inl f ↦
-            let a = word-here flags (k / 8) w v h l in
-            let new : slice_index (row_of changed (m / 8)) (word_of r j) ≡ v = ap (λ n. slice_index (row_of changed n) (word_of r j)) e ∙ ap (λ n. slice_index (row_of changed (k / 8)) n) f ∙ a in
-            let old : slice_index (row_of flags (m / 8)) (word_of r j) ≡ slice_index (row_of flags (k / 8)) w = ap (λ n. slice_index (row_of flags n) (word_of r j)) e ∙ ap (λ n. slice_index (row_of flags (k / 8)) n) f in
-            let eight = same_eight r j s row r_small small (f ∙ is) in
-            let apart : bit_in_block j m ≢ b = λ q. other (same_word r j s row r_small small (f ∙ is)) (same_row j m row k eight (q ∙ at)) (same_column j m row k e (q ∙ at)) in
-            ap (λ x. bit_at x (bit_in_block j m)) new ∙ same (bit_in_block j m) (place_small j m) apart ∙ sym (ap (λ x. bit_at x (bit_in_block j m)) old)
+            let new : slice_index (row_of changed (m / 8)) (word_of r j) ≡ v = ap (λ n. slice_index (row_of changed n) (word_of r j)) e ∙ ap (λ n. slice_index (row_of changed block) n) f ∙ word-here flags block w v h l in
+            let old : slice_index (row_of flags (m / 8)) (word_of r j) ≡ slice_index (row_of flags block) w = ap (λ n. slice_index (row_of flags n) (word_of r j)) e ∙ ap (λ n. slice_index (row_of flags block) n) f in
+            ap (λ x. bit_at x (bit_in_block j m)) new ∙ same (omega arith) (omega arith) e ∙ sym (ap (λ x. bit_at x (bit_in_block j m)) old)
       ]
     ]
 
--- the word with one bit flipped
-pub flipped_here : (x b : ℕ) → b < 64 → bit_at (bit_xor x (1 * 2 ^ b % 2 ^ 64)) b ≡ (bit_at x b + 1) % 2
-flipped_here x b h =
-    let p : 1 * 2 ^ b % 2 ^ 64 ≡ 2 ^ b = one_shl b 64 h in
-    let a = bit_at_xor x (2 ^ b) b in
-    let c = bit_at-pow_same b in
-    rw p (a ∙ ap (λ n. (bit_at x b + n) % 2) c)
+-- a sample's word among those from its row of blocks on
+pub word_in_part : (words : List ℕ) (s row : ℕ) → s < length words - 4 * (row / 8) → slice_index (take (length words - 4 * (row / 8)) (drop (4 * (row / 8)) words)) s ≡ slice_index words (word_of s row)
+word_in_part words s row h = get_or-take (length words - 4 * (row / 8)) (drop (4 * (row / 8)) words) s 0 h ∙ get_or-drop (4 * (row / 8)) words s 0
 
-pub flipped_other : (x b i : ℕ) → b < 64 → i ≢ b → bit_at (bit_xor x (1 * 2 ^ b % 2 ^ 64)) i ≡ bit_at x i
-flipped_other x b i h n =
-    let p : 1 * 2 ^ b % 2 ^ 64 ≡ 2 ^ b = one_shl b 64 h in
-    let a = bit_at_xor x (2 ^ b) i in
-    let c = bit_at-pow_other b i n in
-    let s = bit_at-lt x i in
-    rw p (a ∙ ap (λ m. (bit_at x i + m) % 2) c ∙ (omega arith))
+-- the words with that one changed
+pub part_set : (words : List ℕ) (s row v : ℕ) → s < length words - 4 * (row / 8)
+    → put_mid (4 * (row / 8)) (length words - 4 * (row / 8)) words (set (take (length words - 4 * (row / 8)) (drop (4 * (row / 8)) words)) s v) ≡ set words (word_of s row) v
+part_set words s row v h =
+    set_mid_at (4 * (row / 8)) (length words - 4 * (row / 8)) s words v (omega (arith, h, length-take (length words - 4 * (row / 8)) (drop (4 * (row / 8)) words), length-drop (4 * (row / 8)) words))
 
--- the word with one bit set
-pub marked_here : (x b : ℕ) → b < 64 → bit_at (bit_or x (1 * 2 ^ b % 2 ^ 64)) b ≡ 1
-marked_here x b h = bit_at_set_same w64 x b h
+-- bits of a word that is flipped by another
+pub flipped_here : (x b i : ℕ) → b ≡ 2 ^ i → bit_at (bit_xor x b) i ≡ (bit_at x i + 1) % 2
+flipped_here x b i e = bit_at_xor x b i ∙ ap (λ n. (bit_at x i + bit_at n i) % 2) e ∙ ap (λ n. (bit_at x i + n) % 2) (bit_at-pow_same i)
 
-pub marked_other : (x b i : ℕ) → b < 64 → i ≢ b → bit_at (bit_or x (1 * 2 ^ b % 2 ^ 64)) i ≡ bit_at x i
-marked_other x b i h n = bit_at_set_other w64 x b h i n
+pub flipped_other : (x b i : ℕ) → bit_at b i ≡ 0 → bit_at (bit_xor x b) i ≡ bit_at x i
+flipped_other x b i e = bit_at_xor x b i ∙ (let s = bit_at-lt x i in omega arith)
 
 -- whether a bit is set, as code asks it
-pub was_set : (x b : ℕ) → b < 64 → bit_at x b ≡ cond {A = ℕ} (not (eqb (bit_and x (1 * 2 ^ b % 2 ^ 64)) 0)) 1 0
-was_set x b h =
-    let p : 1 * 2 ^ b % 2 ^ 64 ≡ 2 ^ b = one_shl b 64 h in
-    rw (p, and_pow x b) (by_bit (bit_at x b) (bit_at-lt x b))
+pub clear_bit : (x b i : ℕ) → b ≡ 2 ^ i → bit_and x b ≡ 0 → bit_at x i ≡ 0
+clear_bit x b i e h = by_bit (bit_at x i) (bit_at-lt x i) (sym (and_pow x i) ∙ ap (bit_and x) (sym e) ∙ h)
   where
-    by_bit : (v : ℕ) → v < 2 → v ≡ cond {A = ℕ} (not (eqb (v * 2 ^ b) 0)) 1 0
-    by_bit zero h = let e : eqb (0 * 2 ^ b) 0 ≡ true = eq-eqb (0 * 2 ^ b) 0 (omega arith) in rw e refl
-    by_bit (suc zero) h = let e : eqb (1 * 2 ^ b) 0 ≡ false = ne_eqb (1 * 2 ^ b) 0 (λ q. omega (arith, pow_pos b)) in rw e refl
-    by_bit (suc (suc v)) h = absurd (omega arith)
+    by_bit : (v : ℕ) → v < 2 → v * 2 ^ i ≡ 0 → v ≡ 0
+    by_bit zero l q = refl
+    by_bit (suc zero) l q = absurd (omega (arith, pow_pos i))
+    by_bit (suc (suc v)) l q = absurd (omega arith)
 
-pub was_marked : (flags : List (List ℕ)) (s row k w b : ℕ) → w ≡ word_of s row → b ≡ bit_in_block row k → b < 64
-    → flag_of flags s row k ≡ cond {A = ℕ} (not (eqb (bit_and (slice_index (row_of flags (k / 8)) w) (1 * 2 ^ b % 2 ^ 64)) 0)) 1 0
-was_marked flags s row k w b is at small = (λ i. bit_at (slice_index (row_of flags (k / 8)) (sym is i)) (sym at i)) ∙ was_set (slice_index (row_of flags (k / 8)) w) b small
-
-pub flip_here : (flags : List (List ℕ)) (s row k w b : ℕ) → w ≡ word_of s row → b ≡ bit_in_block row k → b < 64 → k / 8 < length flags → w < length (row_of flags (k / 8))
-    → flag_of (set flags (k / 8) (set (row_of flags (k / 8)) w (bit_xor (slice_index (row_of flags (k / 8)) w) (1 * 2 ^ b % 2 ^ 64)))) s row k ≡ (flag_of flags s row k + 1) % 2
-flip_here flags s row k w b is at small h l =
-    let x : ℕ = slice_index (row_of flags (k / 8)) w in
-    let v : ℕ = bit_xor x (1 * 2 ^ b % 2 ^ 64) in
-    let old : bit_at x b ≡ flag_of flags s row k = λ i. bit_at (slice_index (row_of flags (k / 8)) (is i)) (at i) in
-    set_here flags s row k w v is h l ∙ ap (bit_at v) (sym at) ∙ flipped_here x b small ∙ ap (λ n. (n + 1) % 2) old
-
-pub mark_here : (flags : List (List ℕ)) (s row k w b : ℕ) → w ≡ word_of s row → b ≡ bit_in_block row k → b < 64 → k / 8 < length flags → w < length (row_of flags (k / 8))
-    → flag_of (set flags (k / 8) (set (row_of flags (k / 8)) w (bit_or (slice_index (row_of flags (k / 8)) w) (1 * 2 ^ b % 2 ^ 64)))) s row k ≡ 1
-mark_here flags s row k w b is at small h l =
-    let x : ℕ = slice_index (row_of flags (k / 8)) w in
-    let v : ℕ = bit_or x (1 * 2 ^ b % 2 ^ 64) in
-    set_here flags s row k w v is h l ∙ ap (bit_at v) (sym at) ∙ marked_here x b small
+pub set_bit : (x b i : ℕ) → b ≡ 2 ^ i → (bit_and x b ≡ 0 → ⊥) → bit_at x i ≡ 1
+set_bit x b i e h = by_bit (bit_at x i) (bit_at-lt x i) refl
+  where
+    by_bit : (v : ℕ) → v < 2 → bit_at x i ≡ v → v ≡ 1
+    by_bit zero l q = absurd (h (ap (bit_and x) e ∙ and_pow x i ∙ ap (λ n. n * 2 ^ i) q ∙ (omega arith)))
+    by_bit (suc zero) l q = refl
+    by_bit (suc (suc v)) l q = absurd (omega arith)
 
 -- ---- sums
 pub alike_added : (m : ℕ) (t v d : ℤ) → IsAlike m v d → IsAlike m (t +ℤ v) (t +ℤ d)
@@ -167,7 +132,7 @@ flip_alike : (old : ℕ) (down : Bool) → IsAlike 2 (flip_of old) (signed down 
 flip_alike old true = record { times = neg_ℤ (pos old); is = omega (arith, ints) }
 flip_alike old false = record { times = pos 1 -ℤ pos old; is = omega (arith, ints) }
 
-pub flipped_alike : (old new : ℕ) (down : Bool) → old < 2 → new ≡ (old + 1) % 2 → IsAlike 2 (pos new) (pos old +ℤ signed down (pos 1))
+flipped_alike : (old new : ℕ) (down : Bool) → old < 2 → new ≡ (old + 1) % 2 → IsAlike 2 (pos new) (pos old +ℤ signed down (pos 1))
 flipped_alike old new down h e = let f = flip_alike old down in let is = f.is in let n = flag_changes old new h e in record { times = f.times; is = omega (arith, ints) }
 
 -- by how much a counter changes
@@ -243,6 +208,18 @@ added_cell rule s row n column down f c f' c' s_small row_small is flags_len cou
         let change = one_changed old new n (8 * columns_in rule f c) v (moved (new n) (old n)) (λ j l e. others s row j s_small row_small l (λ _ _ q. e q)) in
         let a = crossed_once old new n (modulus rule) column v (signed down (pos 1)) k is (λ j l. change j (omega arith)) (alike_difference (modulus rule) _ _ _ alike) in
         subst (λ (z : ℤ). IsAlike (modulus rule) (running_sum rule f' c' s row k) (running_sum rule f c s row k +ℤ z)) (signed_column down column k) a
+
+-- of all flags only the one at this place may have changed
+abbrev pub AreOthersKept : List (List ℕ) → ℕ → ℕ → ℕ → List (List ℕ) → Type 0
+AreOthersKept f s row place f' = (r j k : ℕ) → r < 4 → j < 64 → (r ≡ s → j ≡ row → k ≡ place → ⊥) → flag_of f' r j k ≡ flag_of f r j k
+
+-- by the even-odd rule an edge is counted by a flag that flips
+pub flipped_added : (s row n place : ℕ) (column : ℤ) (down : Bool) (f c f' : List (List ℕ)) → s < 4 → row < 64 → pos n ≡ int_max column (pos 0) → place ≡ n → length f' ≡ length f
+    → flag_of f' s row place ≡ (flag_of f s row place + 1) % 2 → AreOthersKept f s row place f' → IsAdded EvenOdd s row (row + 1) (λ _ k. signed down (from_column column (pos 1) k)) f c f' c
+flipped_added s row n place column down f c f' s_small row_small is at long flipped kept =
+    added_cell EvenOdd s row n column down f c f' c s_small row_small is long refl
+    (flipped_alike (flag_of f s row n) (flag_of f' s row n) down (bit_at-lt _ _) (subst (λ k. flag_of f' s row k ≡ (flag_of f s row k + 1) % 2) at flipped))
+    (λ r j k h l _ other. ap pos (kept r j k h l (λ x y z. other x y (z ∙ at)))) (λ h. h)
 
 -- an edge right of the strip
 pub added_right : (rule : Rule) (s row : ℕ) (column : ℤ) (n : ℕ) (down : Bool) (f c : List (List ℕ)) → pos n ≡ int_max column (pos 0) → columns_in rule f c ≤ n / 8

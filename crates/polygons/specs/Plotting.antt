@@ -1,14 +1,34 @@
 -- What edges add to the cells of a strip.
-use Rattle.std.specs.Prelude.{◌≡◌, ℕ, ◌*◌, ◌<◌, ◌≤◌, ℤ, length}
+use Rattle.std.specs.Prelude.{◌≡◌, ℕ, ◌*◌, ◌^◌, ◌<◌, ◌≤◌, ℤ, pos, ◌+ℤ◌, ◌≤ℤ◌, ◌<ℤ◌, Bool, List, length, slice_index_or}
+use Rattle.grid.specs.Bounds.{IsWithin}
 use Rattle.grid.specs.Position.{Position}
 use Rattle.grid.specs.Samples.{parts_of}
 use Rattle.polygons.specs.declared.cells.Cells.{Cells}
 use Rattle.polygons.specs.declared.rings.Rings.{Rings}
 use Rattle.polygons.specs.declared.strip.Strip.{Strip}
-use Rattle.polygons.specs.Cells.{part_columns, IsPlotted}
+use Rattle.polygons.specs.declared.rule.Rule.{Rule}
+use Rattle.polygons.specs.Cells.{part_columns, columns_in, modulus, running_sum, signed, AreMarked, IsAlike, IsPlotted}
 use Rattle.polygons.specs.Crossing.{winding}
 use Rattle.polygons.specs.Polygon.{polygon_edges}
 use Rattle.polygons.specs.Rings.{rings_from}
+use Rattle.polygons.specs.Rows.{from_column}
+
+-- The columns of four samples.
+abbrev pub AreNearColumns : List ℤ → Type 0
+AreNearColumns columns = (s : ℕ) → s < 4 → IsWithin (2 ^ 52) (slice_index_or columns s (pos 0))
+
+-- The rows of sample s, from one to before another, hold this row.
+abbrev pub HasRow : List ℤ → List ℤ → ℕ → ℕ → Type 0
+HasRow from to row s = (slice_index_or from s (pos 0) ≤ℤ pos row) × (pos row <ℤ slice_index_or to s (pos 0))
+
+-- An edge was counted in a row by those of the first n samples of a part whose rows hold it, each from its column on.
+pub record IsRowCounted (rule : Rule) (n row : ℕ) (columns from to : List ℤ) (down : Bool) (flags counters flags' counters' : List (List ℕ)) : Type 0 where
+  pub flags_len : length flags' ≡ length flags
+  pub counters_len : length counters' ≡ length counters
+  pub here : (s k : ℕ) → s < n → HasRow from to row s → k < 8 * columns_in rule flags counters
+      → IsAlike (modulus rule) (running_sum rule flags' counters' s row k) (running_sum rule flags counters s row k +ℤ signed down (from_column (slice_index_or columns s (pos 0)) (pos 1) k))
+  pub others : (s j k : ℕ) → s < 4 → j < 64 → k < 8 * columns_in rule flags counters → (s < n → HasRow from to row s → j ≡ row → ⊥) → running_sum rule flags' counters' s j k ≡ running_sum rule flags counters s j k
+  pub marked : AreMarked rule flags counters → AreMarked rule flags' counters'
 
 -- Each part of a strip's samples has its columns of flags, and by the nonzero rule of counters.
 pub record HasParts (strip : Strip) (cells : Cells) : Type 0 where

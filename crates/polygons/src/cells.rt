@@ -3,10 +3,11 @@
 //! are three times as many columns of flags: of a first edge that runs downwards, of a first one that runs upwards, and
 //! of counters in use. Most samples need no counter, so few of these are ever read. There are 64 for each word, one for
 //! each bit, and what is in those that are not in use does not matter.
-ghost use Rattle.std.specs.Prelude.{◌≡◌, ℕ, ◌+◌, ◌*◌, ◌%◌, ◌^◌, ◌<◌, pos, negsuc, ◌+ℤ◌, cond, length};
+ghost use Rattle.std.specs.Prelude.{◌≡◌, ℕ, ◌+◌, ◌*◌, ◌%◌, ◌^◌, ◌<◌, pos, negsuc, ◌+ℤ◌, cond, length, IsTrue, IsFalse};
+ghost use Rattle.std.specs.Int.{int_max};
 ghost use Rattle.polygons.specs.Rows.{from_column};
-ghost use Rattle.polygons.specs.declared.rule.Rule.TheVariants.{NonZero};
-ghost use Rattle.polygons.specs.Cells.{flags_by, flag_of, counter_at, more_flag, in_use, signed, HasCounters, IsEdgeCounted, IsAdded};
+ghost use Rattle.polygons.specs.declared.rule.Rule.TheVariants.{EvenOdd, NonZero};
+ghost use Rattle.polygons.specs.Cells.{flags_by, columns_in, flag_of, counter_at, more_flag, in_use, signed, HasCounters, IsEdgeCounted, IsAdded};
 
 use crate::rule::Rule;
 
@@ -53,38 +54,57 @@ fn bit(row: usize, column: usize) -> usize
     8 * (row % 8) + column % 8
 }
 
-/// Flips the flag of a sample.
+/// The word of a sample's row of pixels with the bit of a pixel alone, if the pixel's sample is crossed, else 0.
 #[inline(always)]
-fn flip(flags: &mut [Flags], s: usize, row: usize, column: usize)
-    requires sample { s < 4 }
-    requires row { row < 64 }
-    requires column { column < 8 * length flags.old }
-    ensures len { length flags.new ≡ length flags.old }
-    ensures here { flag_of flags.new s row column ≡ (flag_of flags.old s row column + 1) % 2 }
-    ensures others { (r j k : ℕ) → r < 4 → j < 64 → (r ≡ s → j ≡ row → k ≡ column → ⊥) →
-        flag_of flags.new r j k ≡ flag_of flags.old r j k }
+fn pixel_bit(row: usize, column: usize, is_crossed: bool) -> u64
+    ensures crossed { IsTrue is_crossed → result ≡ 2 ^ Rattle.polygons.specs.Cells.bit_in_block row column }
+    ensures apart { IsFalse is_crossed → result ≡ 0 }
 {
-    flags[column / 8][word(s, row)] ^= 1 << bit(row, column);
+    u64::from(is_crossed) << bit(row, column)
 }
 
-/// Sets the flag of a sample. Returns whether it was set before.
+/// Flips the flag of a sample, if the sample is crossed.
 #[inline(always)]
-fn mark(flags: &mut [Flags], s: usize, row: usize, column: usize) -> bool
+pub(crate) fn flip(
+    flags: &mut [Flags],
+    s: usize,
+    row: usize,
+    block: usize,
+    column: usize,
+    is_crossed: bool,
+)
     requires sample { s < 4 }
     requires row { row < 64 }
-    requires column { column < 8 * length flags.old }
+    requires block { block < length flags.old }
     ensures len { length flags.new ≡ length flags.old }
-    ensures before { flag_of flags.old s row column ≡ cond result 1 0 }
-    ensures here { flag_of flags.new s row column ≡ 1 }
-    ensures others { (r j k : ℕ) → r < 4 → j < 64 → (r ≡ s → j ≡ row → k ≡ column → ⊥) →
+    ensures here { IsTrue is_crossed → flag_of flags.new s row (8 * block + column % 8) ≡
+        (flag_of flags.old s row (8 * block + column % 8) + 1) % 2 }
+    ensures others { (r j k : ℕ) → r < 4 → j < 64 →
+        (IsTrue is_crossed → r ≡ s → j ≡ row → k ≡ 8 * block + column % 8 → ⊥) →
         flag_of flags.new r j k ≡ flag_of flags.old r j k }
 {
-    let words = &mut flags[column / 8];
-    let word = word(s, row);
-    let flag = 1 << bit(row, column);
-    let old = words[word];
-    words[word] = old | flag;
-    old & flag != 0
+    let words = &mut flags[block][4 * (row / 8)..];
+    words[s] ^= pixel_bit(row, column, is_crossed);
+}
+
+/// Whether the flag of a sample is not set, or the sample is not crossed.
+#[inline(always)]
+pub(crate) fn is_clear(
+    flags: &[Flags],
+    s: usize,
+    row: usize,
+    block: usize,
+    column: usize,
+    is_crossed: bool,
+) -> bool
+    requires sample { s < 4 }
+    requires row { row < 64 }
+    requires block { block < length flags.now }
+    ensures clear { IsTrue result → IsTrue is_crossed → flag_of flags.now s row (8 * block + column % 8) ≡ 0 }
+    ensures set { IsFalse result → flag_of flags.now s row (8 * block + column % 8) ≡ 1 }
+{
+    let words = &flags[block][4 * (row / 8)..];
+    words[s] & pixel_bit(row, column, is_crossed) == 0
 }
 
 /// Sets the counter of a sample to 1 or -1 modulo 2^32, or adds that to a counter in use.
@@ -130,8 +150,36 @@ fn count_again(
     ensures others { (r j k : ℕ) → r < 4 → j < 64 → (r ≡ s → j ≡ row → k ≡ column → ⊥) →
         counter_at counters.new r j k ≡ counter_at counters.old r j k }
 {
-    let used = mark(flags, s, row, column + 16 * counters.len());
-    add(counters, s, row, column, down, used);
+    let block = column / 8 + 2 * counters.len();
+    let is_new = is_clear(flags, s, row, block, column, true);
+    flip(flags, s, row, block, column, is_new);
+    add(counters, s, row, column, down, !is_new);
+}
+
+/// How many columns of blocks there are by the rule.
+#[inline(always)]
+pub(crate) fn columns_of(rule: Rule, flags: &[Flags], counters: &[Counters]) -> usize
+    ensures { result ≡ columns_in rule flags.now counters.now }
+{
+    match rule {
+        Rule::EvenOdd => flags.len(),
+        Rule::NonZero => counters.len(),
+    }
+}
+
+/// The column of flags in which a first edge of a direction has its flag, by its column of blocks.
+#[inline(always)]
+pub(crate) fn flag_column(rule: Rule, column: usize, columns: usize, down: bool) -> usize
+    requires column { column < 2 ^ 62 }
+    requires columns { columns < 2 ^ 62 }
+    ensures even_odd { rule ≡ EvenOdd → result ≡ column }
+    ensures nonzero { rule ≡ NonZero → result ≡ column + cond down 0 columns }
+{
+    match rule {
+        Rule::EvenOdd => column,
+        Rule::NonZero if down => column,
+        Rule::NonZero => column + columns,
+    }
 }
 
 /// Counts an edge at a sample, downwards or upwards. The first of each direction has a flag.
@@ -152,10 +200,20 @@ fn count(
     ensures counters_len { length counters.new ≡ length counters.old }
     ensures counted { IsEdgeCounted flags.old counters.old flags.new counters.new s row column down }
 {
-    let ups = if down { 0 } else { 8 * counters.len() };
-    if mark(flags, s, row, column + ups) {
+    let block = flag_column(Rule::NonZero, column / 8, counters.len(), down);
+    if is_clear(flags, s, row, block, column, true) {
+        flip(flags, s, row, block, column, true);
+    } else {
         count_again(flags, counters, s, row, column, down);
     }
+}
+
+/// A column of the strip: one left of it counts as the first.
+#[inline(always)]
+pub(crate) fn in_strip(column: i64) -> usize
+    ensures { pos result ≡ int_max column (pos 0) }
+{
+    column.max(0) as usize
 }
 
 /// Counts an edge that is crossed at a sample's row from a column on, downwards or upwards. A column left of the strip
@@ -176,11 +234,11 @@ pub(crate) fn cross(
     ensures { IsAdded rule s row (row + 1) (λ _ k. signed down (from_column column (pos 1) k)) flags.old counters.old
         flags.new counters.new }
 {
-    let column = column.max(0) as usize;
+    let column = in_strip(column);
     match rule {
         Rule::EvenOdd => {
             if column / 8 < flags.len() {
-                flip(flags, s, row, column);
+                flip(flags, s, row, column / 8, column, true);
             }
         }
         Rule::NonZero => {

@@ -15,6 +15,7 @@ mod fill;
 mod laws;
 mod marks;
 mod mask_lanes;
+mod part_rows;
 mod partition;
 mod pixels;
 mod plot;

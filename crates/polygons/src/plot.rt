@@ -19,6 +19,7 @@ use crate::apart::is_apart;
 use crate::cells::{Cells, Counters, Flags, cross};
 use crate::corner::Corner;
 use crate::edge::Edge;
+use crate::part_rows::cross_row;
 use crate::rings::Rings;
 use crate::rule::Rule;
 use crate::runs::Runs;
@@ -135,11 +136,16 @@ fn plot_rows<const SIZE: usize>(
     let to = starts.rows(part, descent.edge.b.y());
     let mut walk = PartWalk::new(descent, starts, part);
     for row in descent.first..descent.end {
-        for s in 0..SIZE {
-            if from[s] <= row as i32 && (row as i32) < to[s] {
-                cross(flags, counters, rule, s, row, walk.columns[s], forward);
-            }
-        }
+        cross_row::<SIZE>(
+            flags,
+            counters,
+            rule,
+            row,
+            &walk.columns,
+            &from,
+            &to,
+            forward,
+        );
         walk = walk.next(descent);
     }
 }
