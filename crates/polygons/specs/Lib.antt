@@ -159,6 +159,9 @@
 --   AreSumMasks: Each bit of these masks says whether the sum of its row up to it is other than 0.
 --
 -- Plotting.antt
+--   AreNearColumns: The columns of four samples.
+--   HasRow: The rows of sample s, from one to before another, hold this row.
+--   IsRowCounted: An edge was counted in a row by those of the first n samples of a part whose rows hold it, each from its column on.
 --   HasParts: Each part of a strip's samples has its columns of flags, and by the nonzero rule of counters.
 --   AreSame: The cells are the same memory with the same parts, and count by the same rule.
 --   IsPlottedIn: To the sums at each sample of a part of the cells a number was added, which depends on where the sample lies.
