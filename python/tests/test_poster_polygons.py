@@ -407,8 +407,8 @@ class Maps(Files):
         self.write("broken.geojson", b"{")
         with self.assertRaises(poster.MapError):
             poster.scene_of(self.path("broken.geojson"))
-        with self.assertRaises(poster.ArraysError):
-            poster.scene_of(self.path("list.json"), self.path("style.json"))
+        with self.assertRaisesRegex(poster.MapError, "a style is for GeoJSON"):
+            poster.scene_of(self.path("list.npz"), self.path("style.json"))
 
     def test_a_map_by_a_name_of_another_end(self) -> None:
         self.write("map.json", json.dumps(feature({"type": "Polygon", "coordinates": [box(0, 0, 3, 3)]})).encode())
