@@ -1,5 +1,5 @@
 -- Polygons that are drawn one after another.
-use Rattle.std.proofs.Common.{◌≡◌, refl, sym, subst, ap, ◌∙◌, arith, ℕ, zero, suc, ◌+◌, List, [], ◌∷◌, ◌++◌, map, ℤ}
+use Rattle.std.proofs.Common.{◌≡◌, refl, sym, subst, ap, ◌∙◌, arith, ℕ, zero, suc, ◌+◌, ◌<◌, ◌≤◌, List, [], ◌∷◌, ◌++◌, map, ℤ, pos, ◌+ℤ◌}
 use Rattle.std.specs.List.{range_with_len}
 use Rattle.std.proofs.lemmas.List.FromFn.{map-range_with_len_more}
 use Rattle.grid.specs.declared.sample_count.SampleCount.{SampleCount}
@@ -7,7 +7,9 @@ use Rattle.shade.specs.declared.sample.CanvasSample.{CanvasSample}
 use Rattle.lanes.specs.declared.block_samples.BlockSamples.{BlockSamples}
 use Rattle.canvas.specs.declared.canvas.Canvas.{Canvas}
 use Rattle.canvas.specs.declared.window.Origin.{Origin}
-use Rattle.painting.specs.Painting.{Shape, PaintAll, ArePainted}
+use Rattle.canvas.specs.Layout.{rows_of, stored}
+use Rattle.painting.specs.Painting.{Shape, MeetsSample, PaintAll, ArePainted}
+use Rattle.painting.specs.Parts.{LiesInRows}
 
 paint_more : (ps : List Shape) (p : Shape) (count : SampleCount) (i j : ℤ) (s : ℕ) (start mid end : CanvasSample) → PaintAll ps count i j s start mid → PaintAll (p ∷ []) count i j s mid end → PaintAll (ps ++ p ∷ []) count i j s start end
 paint_more [] p count i j s start mid end same one = subst (λ (x : CanvasSample). PaintAll (p ∷ []) count i j s x end) same one
@@ -45,3 +47,16 @@ painted_both f m n origin c first end old mid new before rest =
     let whole : map f (range_with_len 0 (m + n)) ≡ map f (range_with_len 0 m) ++ map f (range_with_len m n) = shapes_joined f 0 m n ∙ ap (λ k. map f (range_with_len 0 m) ++ map f (range_with_len k n)) z in
     subst (λ (ps : List Shape). ArePainted ps origin c first end old new) (sym whole)
     (λ i j s h. paint_both (map f (range_with_len 0 m)) (map f (range_with_len m n)) c.count _ _ s _ _ _ (before i j s h) (rest i j s h))
+
+-- polygons that meet no sample of the canvas
+pub none_met : (f : ℕ → Shape) (k n : ℕ) (origin : Origin) (c : Canvas) (first end : ℕ) (old : List BlockSamples) → end ≤ rows_of c → ((i : ℕ) → k ≤ i → i < k + n → LiesInRows (f i) origin c 0 0) → ArePainted (map f (range_with_len k n)) origin c first end old old
+none_met f k zero origin c first end old few lies i j s h = refl
+none_met f k (suc n) origin c first end old few lies i j s h =
+    let below = h.below in
+    let none : MeetsSample (f k) c.count (pos i +ℤ origin.x) (pos j +ℤ origin.y) s → ⊥ = λ m.
+    let inside = lies k (omega arith) (omega arith) i j s (record { column = h.column; from = omega arith; below = omega (arith, few, below); is_sample = h.is_sample }) m in
+    omega (arith, inside.1) in (
+      stored c first old i j s,
+      record { met = λ m. absurd (none m); missed = λ m. refl },
+      none_met f (k + 1) n origin c first end old few (λ l from to. lies l (omega (arith, from)) (omega (arith, to))) i j s h,
+    )

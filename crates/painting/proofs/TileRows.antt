@@ -116,9 +116,8 @@ module _ (polygon : Polygon) (origin : Origin) (c : Canvas) (extent : Extent) (w
     (holds : HoldsInside extent (polygon_edges (rings_from polygon.rings.corners.now polygon.rings.start polygon.rings.ends.now))) (window : HoldsSamples w extent origin c) where
   pub in_window : (first end i j s : ℕ) → end ≤ rows_of c → IsStoredIn c first end i j s → MeetsHere polygon origin c.count i j s → (w.left ≤ i / 8) × (i / 8 < w.right) × (w.top ≤ j / 64) × (j / 64 < w.bottom)
   in_window first end i j s few h m =
-      let high = c.height_fits in
       let below = h.below in
-      window i j s h.column (omega (arith, few, high, below)) (holds polygon.rule _ m.covered)
+      window i j s h.column (omega (arith, few, below)) (holds polygon.rule _ m.covered)
 
 -- ---- the samples as the polygon makes them
 pub polygon_painted : (polygon : Polygon) (origin : Origin) (c : Canvas) (first end : ℕ) (old new : List BlockSamples) → end ≤ rows_of c

@@ -1,5 +1,5 @@
 -- Polygons that are drawn together, tile row by tile row.
-use Rattle.std.specs.Prelude.{◌≡◌, ℕ, ◌-◌, ◌<◌, ◌≤◌, List, length, slice_index}
+use Rattle.std.specs.Prelude.{◌≡◌, ℕ, ◌-◌, ◌<◌, ◌≤◌, List, length, slice_index_or}
 use Rattle.canvas.specs.declared.canvas.Canvas.{Canvas}
 use Rattle.canvas.specs.declared.window.Origin.{Origin}
 use Rattle.polygons.specs.declared.arrays.Polygons.{Polygons}
@@ -7,14 +7,19 @@ use Rattle.polygons.specs.declared.rule.Rule.TheVariants.{NonZero}
 use Rattle.polygons.specs.Cells.{AreZeros}
 use Rattle.painting.specs.declared.batch.Style.{Style}
 use Rattle.painting.specs.declared.group.Group.{Group}
+use Rattle.painting.specs.declared.group.Span.{Span}
 use Rattle.painting.specs.Batches.{HasColours, shape_in}
 use Rattle.painting.specs.Painting.{IsOriginInBand}
 use Rattle.painting.specs.Parts.{flag_columns_of, counter_columns_of, LiesInRows}
 
+-- The tile rows that the group says of polygon k.
+abbrev pub span_of : Group → ℕ → Span
+span_of group k = slice_index_or group.spans (k - group.first) (record { top = 0; bottom = 0 })
+
 -- Of each polygon of the group it says in which tile rows all samples lie that it meets.
 abbrev pub SaysRowsOf : Group → Polygons → Style → Origin → Canvas → Type 0
 SaysRowsOf group polygons style origin c =
-    (k : ℕ) → group.first ≤ k → k < group.end → LiesInRows (shape_in polygons style k) origin c (slice_index group.tops (k - group.first)) (slice_index group.bottoms (k - group.first))
+    (k : ℕ) → group.first ≤ k → k < group.end → LiesInRows (shape_in polygons style k) origin c (span_of group k).top (span_of group k).bottom
 
 -- The polygons of the group can be drawn on a canvas of this size. Each has a colour, and the scratch memory is large enough and ready.
 pub record CanBeDrawn (group : Group) (polygons : Polygons) (style : Style) (origin : Origin) (c : Canvas) (flags counters : List (List ℕ)) : Type 0 where

@@ -52,6 +52,7 @@
 --   HasColours: There is a colour for each of n polygons, or an id of 24 bits.
 --
 -- Groups.antt
+--   span_of: The tile rows that the group says of polygon k.
 --   SaysRowsOf: Of each polygon of the group it says in which tile rows all samples lie that it meets.
 --   CanBeDrawn: The polygons of the group can be drawn on a canvas of this size.
 

@@ -192,7 +192,7 @@ AreMasksOfRow polygon origin c row first many each flags =
 -- Each sample of the canvas that lies in the box is in a column of blocks and a tile row of the window.
 abbrev pub HoldsSamples : Window → Extent → Origin → Canvas → Type 0
 HoldsSamples w e origin c =
-    (i j s : ℕ) → i / 64 < columns_of c → j < 4096 → IsInExtent e (screen_sample (pos i +ℤ origin.x) (pos j +ℤ origin.y) s c.count)
+    (i j s : ℕ) → i / 64 < columns_of c → j / 64 < rows_of c → IsInExtent e (screen_sample (pos i +ℤ origin.x) (pos j +ℤ origin.y) s c.count)
     → (w.left ≤ i / 8) × (i / 8 < w.right) × (w.top ≤ j / 64) × (j / 64 < w.bottom)
 
 -- Each sample of the canvas that the polygon meets lies in the tile rows from `top` to before `bottom`.

@@ -6,7 +6,7 @@ ghost use Rattle.painting.specs.Batches.{HasColours, shape_in, shapes_of};
 ghost use Rattle.painting.specs.Painting.{ArePainted, IsOriginInBand, shape_of};
 ghost use Rattle.painting.specs.Parts.{flag_columns_of, counter_columns_of};
 
-use crate::group::Group;
+use crate::group::{Group, run_of};
 use crate::polygon::Polygon;
 use canvas::{Origin, Piece, colour_of_id, replacing};
 use polygons::{Counters, Flags, Polygons, Rule, Runs};
@@ -39,6 +39,7 @@ fn depth_of(depths: &[u16], number: usize) -> u16
 
 impl Style<'_> {
     /// The polygon of this number as it is drawn.
+    #[inline(always)]
     pub(crate) fn polygon<'a>(&self, polygons: &Polygons<'a>, number: usize) -> Polygon<'a>
         requires number { number < length polygons.now.polygon_ends.now }
         requires colours { HasColours self.now.ids self.now.colours.now (length polygons.now.polygon_ends.now) }
@@ -88,6 +89,11 @@ pub fn draw_polygons(
     let mut group = Group::none();
     let mut first = 0;
     while first < polygons.count() {
+        let (end, is_beside) = run_of(polygons, first, origin, &piece.rows.canvas);
+        if is_beside {
+            first = end;
+            continue;
+        }
         group.take(polygons, style, origin, &piece.rows.canvas, first);
         group.paint(
             &piece.rows,

@@ -1,8 +1,8 @@
 //! Polygons that are drawn together, tile row by tile row, so that a row's samples stay in the cache of a processor.
-ghost use Rattle.std.specs.Prelude.{◌≡◌, ◌↔◌, ◌+◌, ◌-◌, ◌/◌, ◌<◌, ◌≤◌, length, slice_index, IsTrue};
+ghost use Rattle.std.specs.Prelude.{ℕ, ◌≡◌, ◌↔◌, ◌+◌, ◌/◌, ◌<◌, ◌≤◌, length, IsTrue};
 ghost use Rattle.canvas.specs.Layout.{planes_of_row, planes_of_rows};
 ghost use Rattle.polygons.specs.Cells.{AreZeros};
-ghost use Rattle.painting.specs.Batches.{HasColours, shapes_between};
+ghost use Rattle.painting.specs.Batches.{HasColours, shape_in, shapes_between};
 ghost use Rattle.painting.specs.Painting.{ArePainted, shape_of};
 ghost use Rattle.painting.specs.Parts.{LiesInRows};
 
@@ -29,12 +29,63 @@ fn has_many_corners(rings: &Rings<'_>) -> bool {
     }
 }
 
-/// The tile rows, from the first to before the second, in which all samples lie that the polygon meets.
-fn rows_of(polygon: &Polygon<'_>, origin: &Origin, canvas: &Canvas) -> (u8, u8)
-    ensures { LiesInRows (shape_of polygon.now) origin.now canvas.now result.0 result.1 }
+/// The number behind the run of polygons to which the one of this number belongs, and whether the run lies beside the
+/// canvas. No corner is looked at.
+pub(crate) fn run_of(
+    polygons: &Polygons<'_>,
+    number: usize,
+    origin: &Origin,
+    canvas: &Canvas,
+) -> (usize, bool)
+    requires { number < length polygons.now.polygon_ends.now }
+    ensures after { number < result.0 }
+    ensures within { result.0 ≤ length polygons.now.polygon_ends.now }
+    ensures beside { IsTrue result.1 → (style : Style) (k : ℕ) → number ≤ k → k < result.0 →
+        LiesInRows (shape_in polygons.now style k) origin.now canvas.now 0 0 }
 {
+    let (extent, end) = polygons.run_of(number);
+    (end, Window::of(&extent, origin, canvas).is_empty())
+}
+
+/// Tile rows from `top` to before `bottom`.
+#[derive(Clone, Copy, Debug)]
+struct Span {
+    top: u8,
+    bottom: u8,
+}
+
+/// No tile rows.
+const NONE: Span = Span { top: 0, bottom: 0 };
+
+/// All tile rows.
+const ALL: Span = Span { top: 0, bottom: 64 };
+
+impl Span {
+    /// Whether a tile row is one of them.
+    #[inline]
+    fn has(&self, row: u32) -> bool
+        ensures { IsTrue result ↔ ((self.now.top ≤ row) × (row < self.now.bottom)) }
+    {
+        u32::from(self.top) <= row && row < u32::from(self.bottom)
+    }
+}
+
+/// Tile rows in which all samples lie that the polygon meets. Of one of many corners these are all: it is drawn by
+/// itself, and its corners are looked at when it is drawn.
+fn rows_of(polygon: &Polygon<'_>, origin: &Origin, canvas: &Canvas) -> Span
+    ensures { LiesInRows (shape_of polygon.now) origin.now canvas.now result.top result.bottom }
+{
+    if has_many_corners(&polygon.rings) {
+        return ALL;
+    }
     let window = Window::of(&polygon.rings.extent(), origin, canvas);
-    (window.top as u8, window.bottom as u8)
+    if window.is_empty() {
+        return NONE;
+    }
+    Span {
+        top: window.top as u8,
+        bottom: window.bottom as u8,
+    }
 }
 
 /// Polygons that are drawn together. Each has a number, and they follow one another.
@@ -44,10 +95,8 @@ pub(crate) struct Group {
     first: usize,
     /// The one behind the last.
     pub end: usize,
-    /// Of each polygon the first tile row that it can meet.
-    tops: [u8; 4096],
-    /// And the one behind the last.
-    bottoms: [u8; 4096],
+    /// Of each polygon the tile rows that it can meet.
+    spans: [Span; 4096],
     ghost few: { end ≤ first + 4096 },
 }
 
@@ -59,13 +108,12 @@ impl Group {
         Group {
             first: 0,
             end: 0,
-            tops: [0; MOST],
-            bottoms: [0; MOST],
+            spans: [NONE; MOST],
         }
     }
 
     /// Takes the polygons from `first` on that are drawn together, on a canvas of this size. A polygon of many corners is
-    /// taken by itself.
+    /// taken by itself. No polygon is taken behind `first` from a run on that lies beside the canvas.
     pub(crate) fn take(
         &mut self,
         polygons: &Polygons<'_>,
@@ -81,34 +129,28 @@ impl Group {
         ensures within { self.new.end ≤ length polygons.now.polygon_ends.now }
         ensures rows { SaysRowsOf self.new polygons.now style.now origin.now canvas.now }
     {
+        let mut behind = first;
         self.first = first;
         self.end = first;
         for number in first..polygons.count().min(first + MOST) {
+            if number == behind {
+                let (end, is_beside) = run_of(polygons, number, origin, canvas);
+                if is_beside && first < number {
+                    return;
+                }
+                behind = end;
+            }
             let polygon = style.polygon(polygons, number);
             let is_large = has_many_corners(&polygon.rings);
             if is_large && first < number {
                 return;
             }
-            let (top, bottom) = rows_of(&polygon, origin, canvas);
-            self.tops[number - first] = top;
-            self.bottoms[number - first] = bottom;
+            self.spans[number - first] = rows_of(&polygon, origin, canvas);
             self.end = number + 1;
             if is_large {
                 return;
             }
         }
-    }
-
-    /// Whether a polygon can meet samples of a tile row.
-    #[inline]
-    fn can_meet(&self, number: usize, row: u32) -> bool
-        requires first { self.now.first ≤ number }
-        requires end { number < self.now.end }
-        ensures { IsTrue result ↔ ((slice_index self.now.tops (number - self.now.first) ≤ row) ×
-            (row < slice_index self.now.bottoms (number - self.now.first))) }
-    {
-        let at = number - self.first;
-        u32::from(self.tops[at]) <= row && row < u32::from(self.bottoms[at])
     }
 
     /// Draws the polygons at each sample of one tile row.
@@ -136,9 +178,10 @@ impl Group {
             first: row,
             end: row + 1,
         };
-        for number in self.first..self.end {
-            if self.can_meet(number, row) {
-                let polygon = style.polygon(polygons, number);
+        let spans = &self.spans[..self.end - self.first];
+        for (at, span) in spans.iter().enumerate() {
+            if span.has(row) {
+                let polygon = style.polygon(polygons, self.first + at);
                 paint_rows(&rows, &polygon, origin, runs, flags, counters, samples);
             }
         }

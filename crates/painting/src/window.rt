@@ -1,5 +1,5 @@
 //! The part of a canvas in which a box lies.
-ghost use Rattle.std.specs.Prelude.{ℕ, ◌*◌, ◌/◌, ◌<◌, ◌≤◌, pos, ◌+ℤ◌, ◌*ℤ◌, ◌≤ℤ◌, ◌<ℤ◌};
+ghost use Rattle.std.specs.Prelude.{ℕ, IsTrue, ◌↔◌, ◌⊎◌, ◌*◌, ◌/◌, ◌<◌, ◌≤◌, pos, ◌+ℤ◌, ◌*ℤ◌, ◌≤ℤ◌, ◌<ℤ◌};
 
 use canvas::{Canvas, Origin};
 use polygons::Extent;
@@ -43,7 +43,14 @@ impl Window {
             left,
             right: right.min(8 * canvas.column_count()),
             top: top / 8,
-            bottom: bottom.div_ceil(8),
+            bottom: bottom.div_ceil(8).min(canvas.row_count()),
         }
+    }
+
+    /// Whether no block is in it.
+    pub(crate) fn is_empty(&self) -> bool
+        ensures { IsTrue result ↔ ((self.now.right ≤ self.now.left) ⊎ (self.now.bottom ≤ self.now.top)) }
+    {
+        self.right <= self.left || self.bottom <= self.top
     }
 }

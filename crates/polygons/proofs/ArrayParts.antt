@@ -1,8 +1,8 @@
 -- Parts of arrays by where they end.
-use Rattle.std.proofs.Common.{◌≡◌, inl, inr, refl, ap, ◌∙◌, arith, ℕ, zero, suc, ◌+◌, ◌-◌, ◌<◌, ◌≤◌, List, ◌∷◌, take, drop, length, slice_index}
+use Rattle.std.proofs.Common.{◌≡◌, inl, inr, refl, ap, ◌∙◌, arith, ℕ, zero, suc, ◌+◌, ◌-◌, ◌<◌, ◌≤◌, List, ◌∷◌, take, drop, length, length-drop, slice_index}
 use Rattle.std.proofs.lemmas.Bool.{cases_lt}
 use Rattle.std.proofs.lemmas.List.{get_or-take, get_or-drop, length-take}
-use Rattle.polygons.specs.Rings.{AreAscendingEnds}
+use Rattle.polygons.specs.Rings.{AreAscendingEnds, end_of}
 use Rattle.polygons.specs.Arrays.{begin_of}
 
 pub next_begin : (ends : List ℕ) (k : ℕ) → begin_of ends (k + 1) ≡ slice_index ends k
@@ -43,6 +43,20 @@ module _ (ends : List ℕ) (n first end : ℕ) (h : AreAscendingEnds 0 ends n) (
     rising = rising;
     within = λ k l. let small : k < end - first = omega (arith, l, long) in let here = in_part k small in omega (arith, here, h.within (first + k) (omega (arith, small, fits)));
   }
+
+-- the last of some parts ends where the next one begins
+pub end_of_part : (ends : List ℕ) (first end : ℕ) → first ≤ end → end ≤ length ends → end_of (begin_of ends first) (take (end - first) (drop first ends)) ≡ begin_of ends end
+end_of_part ends first end rises fits =
+    let part = take (end - first) (drop first ends) in
+    let rest = length-drop first ends in
+    let long : length part ≡ end - first = omega (arith, length-take (end - first) (drop first ends), rest, fits) in
+    ap (λ n. slice_index (begin_of ends first ∷ part) n) long ∙ last (end - first) refl
+  where
+    last : (m : ℕ) → m ≡ end - first → slice_index (begin_of ends first ∷ take (end - first) (drop first ends)) m ≡ begin_of ends end
+    last zero is = let e : first ≡ end = omega (arith, is, rises) in ap (begin_of ends) e
+    last (suc m) is =
+        let e : suc (first + m) ≡ end = omega (arith, is, rises) in
+        get_or-take (end - first) (drop first ends) m 0 (omega (arith, is)) ∙ get_or-drop first ends m 0 ∙ ap (begin_of ends) e
 
 -- ---- one end more
 

@@ -36,4 +36,5 @@ pub mod Boxes
 pub mod RingParts
 pub mod ArrayParts
 pub mod RunBoxes
+pub mod BoxesOfPolygons
 pub mod Walks

@@ -29,7 +29,7 @@ pub next_start : (start : ℕ) (ends : List ℕ) (i : ℕ) → slice_index (star
 next_start start ends i = rw add-one refl
 
 -- rings that come later end no earlier
-rising_to : (start : ℕ) (ends : List ℕ) (limit i d : ℕ) → AreAscendingEnds start ends limit → i + d < length ends + 1 → slice_index (start ∷ ends) i ≤ slice_index (start ∷ ends) (i + d)
+pub rising_to : (start : ℕ) (ends : List ℕ) (limit i d : ℕ) → AreAscendingEnds start ends limit → i + d < length ends + 1 → slice_index (start ∷ ends) i ≤ slice_index (start ∷ ends) (i + d)
 rising_to start ends limit i zero h l = let e : i + 0 ≡ i = omega arith in let same = ap (slice_index (start ∷ ends)) e in omega (arith, same)
 rising_to start ends limit i (suc d) h l =
     let e : i + suc d ≡ suc (i + d) = omega arith in
@@ -76,13 +76,13 @@ few_corners corners start (end ∷ ends) h =
 -- ---- the box of all corners
 -- what holds of the corners from one place to another holds of those before a place between them, and of those from there on
 module _ (P : Position → Type 0) (corners : List Corner) (start mid end : ℕ) (rises : start ≤ mid) (rests : mid ≤ end) (all : All P (map position_of (take (end - start) (drop start corners)))) where
-  all_before : All P (map position_of (take (mid - start) (drop start corners)))
+  pub all_before : All P (map position_of (take (mid - start) (drop start corners)))
   all_before =
       let less : mid - start ≤ end - start = omega arith in
       let cut = All-take P (mid - start) (map position_of (take (end - start) (drop start corners))) all in
       rw (take-map position_of (mid - start) (take (end - start) (drop start corners)), take-take (mid - start) (end - start) (drop start corners) less) at cut
 
-  all_behind : All P (map position_of (take (end - mid) (drop mid corners)))
+  pub all_behind : All P (map position_of (take (end - mid) (drop mid corners)))
   all_behind =
       let sum : (mid - start) + (end - mid) ≡ end - start = omega arith in
       let place : start + (mid - start) ≡ mid = omega arith in

@@ -11,6 +11,10 @@ use Rattle.polygons.specs.Rings.{position_of, rings_from, AreCornersInBand, AreA
 abbrev pub begin_of : List ℕ → ℕ → ℕ
 begin_of ends k = slice_index (0 ∷ ends) k
 
+-- The index of the first corner of polygon k.
+abbrev pub first_corner : List ℕ → List ℕ → ℕ → ℕ
+first_corner ring_ends polygon_ends k = begin_of ring_ends (begin_of polygon_ends k)
+
 -- The ends of the rings of polygon k.
 abbrev pub ends_of : List ℕ → List ℕ → ℕ → List ℕ
 ends_of ring_ends polygon_ends k = take (slice_index polygon_ends k - begin_of polygon_ends k) (drop (begin_of polygon_ends k) ring_ends)

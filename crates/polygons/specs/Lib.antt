@@ -34,6 +34,7 @@
 --
 -- Arrays.antt
 --   begin_of: Where part k begins: where the one before it ends.
+--   first_corner: The index of the first corner of polygon k.
 --   ends_of: The ends of the rings of polygon k.
 --   rings_of: The rings of polygon k.
 --   AreParts: The parts end one after another, and the last one with the whole, which has n elements.
@@ -42,6 +43,10 @@
 --   IsShort: The last part ends before the whole does, which has n elements.
 --   IsFirstOutside: Corner k is the first outside of the guard band.
 --   IsWrong: What is first wrong with the arrays.
+--
+-- PolygonRuns.antt
+--   run_box: The box of the run of polygon k.
+--   HoldsPolygons: By either rule no polygon has anything inside but in the box of its run.
 --
 -- Laws.antt
 --   reversed: The edge in the other direction.
@@ -190,6 +195,7 @@ pub mod Crossing
 pub mod Polygon
 pub mod Rings
 pub mod Arrays
+pub mod PolygonRuns
 pub mod Laws
 pub mod Partition
 pub mod Columns

@@ -1,10 +1,15 @@
 //! Polygons in a caller's arrays.
-ghost use Rattle.std.specs.Prelude.{◌≡◌, ◌^◌, ◌<◌, length, ◌+◌, IfOk, IfErr, IfSome, None as Nothing};
-ghost use Rattle.polygons.specs.Rings.{AreCornersInBand, AreAscendingEnds};
-ghost use Rattle.polygons.specs.Arrays.{ArePolygons, IsFirstFall, IsFirstOutside, IsWrong, begin_of as begin};
+ghost use Rattle.std.specs.Prelude.{ℕ, ◌≡◌, ◌+◌, ◌*◌, ◌^◌, ◌<◌, ◌≤◌, length, map, IfOk, IfErr, IfSome};
+ghost use Rattle.std.specs.Prelude.{None as Nothing};
+ghost use Rattle.std.specs.List.{All};
+ghost use Rattle.polygons.specs.Rings.{AreCornersInBand, AreAscendingEnds, IsInClosedExtent, position_of};
+ghost use Rattle.polygons.specs.Arrays.{ArePolygons, AreParts, IsFirstFall, IsFirstOutside, IsWrong};
+ghost use Rattle.polygons.specs.Arrays.{begin_of as begin, first_corner as corner_at};
+ghost use Rattle.polygons.specs.PolygonRuns.{HoldsPolygons};
 
 use crate::corner::Corner;
 use crate::extent::Extent;
+use crate::polygon_runs::PolygonRuns;
 use crate::rings::Rings;
 
 /// Polygons: corners one ring's after another's, and where each ring and each polygon ends.
@@ -16,7 +21,11 @@ pub struct Polygons<'a> {
     pub ring_ends: &'a [u32],
     /// Of each polygon the index behind its last ring.
     pub polygon_ends: &'a [u32],
+    /// Runs of the polygons, and the box of each.
+    runs: PolygonRuns,
     pub ghost checked: { ArePolygons corners.now ring_ends.now polygon_ends.now },
+    pub ghost enough: { length polygon_ends.now ≤ 64 * runs.length },
+    pub ghost held: { HoldsPolygons runs corners.now ring_ends.now polygon_ends.now },
 }
 
 /// What is wrong with polygons in arrays.
@@ -59,13 +68,23 @@ fn begin_of(ends: &[u32], k: usize) -> u32
     if k == 0 { 0 } else { ends[k - 1] }
 }
 
-/// The index of the first corner that is outside of the guard band. The box of all corners is found faster than each is
-/// looked at.
-fn first_outside(corners: &[Corner]) -> Option<usize>
+/// The first corner of the polygon of this number, or the index behind the last corner of the last one.
+pub(crate) fn first_corner(ring_ends: &[u32], polygon_ends: &[u32], number: usize) -> usize
+    requires polygons { AreParts polygon_ends.now (length ring_ends.now) }
+    requires number { number < length polygon_ends.now + 1 }
+    ensures { result ≡ corner_at ring_ends.now polygon_ends.now number }
+{
+    begin_of(ring_ends, begin_of(polygon_ends, number) as usize) as usize
+}
+
+/// The index of the first corner that is outside of the guard band. If the box, which holds all corners, is inside, none
+/// is looked at.
+fn first_outside(corners: &[Corner], extent: &Extent) -> Option<usize>
+    requires { All (IsInClosedExtent extent.now) (map position_of corners.now) }
     ensures some { IfSome result (λ k. IsFirstOutside corners.now k) }
     ensures none { result ≡ Nothing → AreCornersInBand corners.now }
 {
-    if Extent::of(corners).is_in_band() {
+    if extent.is_in_band() {
         return None;
     }
     for (k, corner) in corners.iter().enumerate() {
@@ -78,7 +97,8 @@ fn first_outside(corners: &[Corner]) -> Option<usize>
 
 impl<'a> Polygons<'a> {
     ghost use Rattle.polygons.specs.Arrays.{rings_of};
-    ghost use Rattle.polygons.specs.Rings.{rings_from};
+    ghost use Rattle.polygons.specs.Polygon.{polygon_edges};
+    ghost use Rattle.polygons.specs.Rings.{rings_from, HoldsInside};
 
     /// The polygons in these arrays, or what is wrong first.
     pub fn new(
@@ -105,13 +125,15 @@ impl<'a> Polygons<'a> {
         if (begin_of(polygon_ends, polygon_ends.len()) as usize) < ring_ends.len() {
             return Err(ArraysError::RingsLeft);
         }
-        if let Some(k) = first_outside(corners) {
+        let (runs, extent) = PolygonRuns::of(corners, ring_ends, polygon_ends);
+        if let Some(k) = first_outside(corners, &extent) {
             return Err(ArraysError::OutOfBand(k));
         }
         Ok(Polygons {
             corners,
             ring_ends,
             polygon_ends,
+            runs,
         })
     }
 
@@ -123,6 +145,7 @@ impl<'a> Polygons<'a> {
     }
 
     /// The rings of the polygon of this number.
+    #[inline]
     pub fn rings(&self, number: usize) -> Rings<'a>
         requires { number < length self.now.polygon_ends.now }
         ensures { rings_from result.corners.now result.start result.ends.now ≡
@@ -135,5 +158,18 @@ impl<'a> Polygons<'a> {
             start: begin_of(self.ring_ends, first),
             ends: &self.ring_ends[first..end],
         }
+    }
+
+    /// The box of a run of polygons, to which the one of this number belongs, and the number behind the run's last one.
+    /// By either rule none of them has anything inside but in the box. No corner is looked at.
+    pub fn run_of(&self, number: usize) -> (Extent, usize)
+        requires { number < length self.now.polygon_ends.now }
+        ensures after { number < result.1 }
+        ensures within { result.1 ≤ length self.now.polygon_ends.now }
+        ensures holds { (k : ℕ) → number ≤ k → k < result.1 → HoldsInside result.0
+            (polygon_edges (rings_of self.now.corners.now self.now.ring_ends.now self.now.polygon_ends.now k)) }
+    {
+        let (extent, behind) = self.runs.run_of(number);
+        (extent, behind.min(self.polygon_ends.len()))
     }
 }

@@ -43,6 +43,19 @@ impl Extent {
         Point::new(self.left, self.top).is_some() && Point::new(self.right, self.bottom).is_some()
     }
 
+    /// The box that holds both.
+    pub(crate) fn joined(self, other: &Extent) -> Extent
+        ensures first { (p : Position) → IsInClosedExtent self p → IsInClosedExtent result p }
+        ensures second { (p : Position) → IsInClosedExtent other.now p → IsInClosedExtent result p }
+    {
+        Extent {
+            left: self.left.min(other.left),
+            top: self.top.min(other.top),
+            right: self.right.max(other.right),
+            bottom: self.bottom.max(other.bottom),
+        }
+    }
+
     /// The box with one corner more.
     #[inline(always)]
     pub(crate) fn with(self, corner: &Corner) -> Extent

@@ -20,6 +20,7 @@ mod partition;
 mod pixels;
 mod plot;
 mod polygon;
+mod polygon_runs;
 mod rings;
 mod rule;
 mod runs;

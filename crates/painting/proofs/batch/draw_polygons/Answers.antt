@@ -1,10 +1,33 @@
-use Rattle.std.proofs.Common.{◌≡◌, subst, arith, ℕ, ◌+◌, ◌-◌, map, length}
+use Rattle.std.proofs.Common.{◌≡◌, subst, arith, ℕ, ◌+◌, ◌-◌, ◌<◌, ◌≤◌, map, length}
 use Rattle.std.specs.List.{range_with_len}
 use Rattle.canvas.specs.declared.tile_rows.TileRows.{TileRows}
 use Rattle.painting.specs.Batches.{shape_in}
 use Rattle.painting.specs.Painting.{ArePainted}
-use Rattle.painting.proofs.Batches.{painted_both}
+use Rattle.painting.specs.Parts.{LiesInRows}
+use Rattle.painting.proofs.Batches.{painted_both, none_met}
 use Rattle.painting.proofs.batch.draw_polygons.Goals as goal
+
+pub loop-first-preserved-then-is_beside : goal.loop-first-preserved-then-is_beside
+loop-first-preserved-then-is_beside c =
+    let f = shape_in c.args.polygons.now c.args.style.now in
+    let v = c.loop-first.invariant in
+    let rows = c.args.piece.now.rows in
+    let origin = c.args.origin.now in
+    let first = c.loop-first.first in
+    let end = c.run_of-end.result.0 in
+    let old = c.args.piece.now.planes.now in
+    let mid = c.loop-first.piece.planes.now in
+    let whole : first + (end - first) ≡ end = omega (arith, c.run_of-end.ensures.after) in
+    let lies : (k : ℕ) → first ≤ k → k < first + (end - first) → LiesInRows (f k) origin rows.canvas 0 0 = λ k from to.
+    subst (λ (r : TileRows). LiesInRows (f k) origin r.canvas 0 0) v.rows (c.run_of-end.ensures.beside c.if-is_beside.true c.args.style.now k from (omega (arith, to, whole))) in
+    record {
+      rows = v.rows;
+      same = v.same;
+      within = c.run_of-end.ensures.within;
+      painted = subst (λ (n : ℕ). ArePainted (map f (range_with_len 0 n)) origin rows.canvas rows.first rows.end old mid) whole
+          (painted_both f first (end - first) origin rows.canvas rows.first rows.end old mid mid v.painted (none_met f first (end - first) origin rows.canvas rows.first rows.end mid rows.within lies));
+      flags = v.flags;
+    }
 
 pub loop-first-preserved : goal.loop-first-preserved
 loop-first-preserved c =

@@ -23,5 +23,5 @@ pub returns-then-is_in_band-clause-none : goal.returns-then-is_in_band-clause-no
 returns-then-is_in_band-clause-none c same k d h =
     let cs = c.args.corners.now in
     let long = length-map cs position_of in
-    let inside = c.if-is_in_band.ensures refl _ (c.of.ensures k (position_of d) (omega (arith, h, long))) in
+    let inside = c.if-is_in_band.ensures refl _ (c.requires k (position_of d) (omega (arith, h, long))) in
     rw (get_or-map position_of cs k d (position_of d) h) at inside

@@ -1,34 +1,44 @@
-use Rattle.std.proofs.Common.{subst, arith, ◌+◌, ◌≤◌, [], ◌∷◌}
+use Rattle.std.proofs.Common.{◌≡◌, sym, ap, subst, ◌∙◌, arith, ◌+◌, ◌-◌, ◌<◌, get_or, take, [], ◌∷◌}
+use Rattle.std.proofs.lemmas.List.{get_or-take, length-take}
+use Rattle.painting.specs.declared.group.Span.{Span}
 use Rattle.painting.specs.Batches.{shape_in}
 use Rattle.painting.specs.Painting.{Shape, ArePainted}
-use Rattle.painting.proofs.Groups.{next_painted}
+use Rattle.painting.specs.Parts.{LiesInRows}
+use Rattle.painting.proofs.Batches.{painted_more}
+use Rattle.painting.proofs.Groups.{none}
 use Rattle.painting.proofs.TileRows.{row_not_met}
 use Rattle.painting.proofs.group.Group.paint_row.Goals as goal
-use Rattle.painting.proofs.group.Group.paint_row.Goals.{then-can_meet, else-can_meet}
+use Rattle.painting.proofs.group.Group.paint_row.Goals.{then-has, else-has}
 
-pub loop-number-preserved : goal.loop-number-preserved
-loop-number-preserved c =
+pub loop-at-preserved : goal.loop-at-preserved
+loop-at-preserved c =
     let f = shape_in c.args.polygons.now c.args.style.now in
     let self = c.args.self.now in
-    let number = c.loop-number.number in
+    let at = c.loop-at.at in
+    let number = self.first + at in
+    let many = self.end - self.first in
     let origin = c.args.origin.now in
     let canvas = c.args.canvas.now in
     let row = c.args.row in
     let old = c.args.samples.now in
-    let mid = c.loop-number.samples in
-    let v = c.loop-number.invariant in
-    let from : self.first ≤ number = omega (arith, c.loop-number.auto.number) in
-    elim c.if-can_meet.branch [
-      | then-can_meet w ↦
+    let mid = c.loop-at.samples in
+    let v = c.loop-at.invariant in
+    let small : at < many = omega (arith, c.loop-at-test.true, length-take many self.spans) in
+    elim c.if-has.branch [
+      | then-has w ↦
           let one : ArePainted (f number ∷ []) origin canvas row (row + 1) mid w.paint_rows.new.samples = subst (λ (p : Shape). ArePainted (p ∷ []) origin canvas row (row + 1) mid w.paint_rows.new.samples) w.polygon-polygon.ensures w.paint_rows.ensures.painted in
           record {
-            painted = rw w.samples-is (next_painted f self.first origin canvas row (row + 1) number old mid w.paint_rows.new.samples from v.painted one);
+            painted = rw w.samples-is (painted_more f self.first at origin canvas row (row + 1) old mid w.paint_rows.new.samples v.painted one);
             flags = rw w.flags-is w.paint_rows.ensures.flags;
           }
-      | else-can_meet w ↦
-          let none : ArePainted (f number ∷ []) origin canvas row (row + 1) mid mid = row_not_met (f number) origin canvas row _ _ mid (omega (arith, c.requires.row)) (c.requires.ready.rows number from c.loop-number-test.true) (λ p. let e = w.if-can_meet.ensures.1 p in cc) in
+      | else-has w ↦
+          let place : number - self.first ≡ at = omega arith in
+          let span : get_or self.spans (number - self.first) none ≡ get_or (take many self.spans) at none = ap (λ i. get_or self.spans i none) place ∙ sym (get_or-take many self.spans at none small) in
+          let lies : LiesInRows (f number) origin canvas (get_or (take many self.spans) at none).top (get_or (take many self.spans) at none).bottom =
+          subst (λ (s : Span). LiesInRows (f number) origin canvas s.top s.bottom) span (c.requires.ready.rows number (omega arith) (omega (arith, small))) in
+          let unmet : ArePainted (f number ∷ []) origin canvas row (row + 1) mid mid = row_not_met (f number) origin canvas row _ _ mid (omega (arith, c.requires.row)) lies (λ p. let e = w.if-has.ensures.1 p in cc) in
           record {
-            painted = rw w.samples-is (next_painted f self.first origin canvas row (row + 1) number old mid mid from v.painted none);
+            painted = rw w.samples-is (painted_more f self.first at origin canvas row (row + 1) old mid mid v.painted unmet);
             flags = rw w.flags-is v.flags;
           }
     ]

@@ -15,12 +15,11 @@ loop-number-preserved c =
     let from : self.first ≤ number = omega (arith, is, c.loop-number.auto.number) in
     let small : number - self.first < 4096 = omega (arith, is, c.loop-number-test.true, c.loop-number.auto.number, c.min-number-end.ensures) in
     let at : number - c.args.first ≡ number - self.first = ap (λ n. number - n) (sym is) in
-    let top = c.rows_of-top.result.0 in
-    let bottom = c.rows_of-top.result.1 in
-    let here : LiesInRows (shape_in c.args.polygons.now c.args.style.now number) origin canvas top bottom = subst (λ (p : Shape). LiesInRows p origin canvas top bottom) c.polygon-polygon.ensures c.rows_of-top.ensures in
+    let span = c.rows_of.result in
+    let here : LiesInRows (shape_in c.args.polygons.now c.args.style.now number) origin canvas span.top span.bottom = subst (λ (p : Shape). LiesInRows p origin canvas span.top span.bottom) c.polygon-polygon.ensures c.rows_of.ensures in
     record {
       first = is;
       end = refl;
-      rows = rw at (rows_of_next (shape_in c.args.polygons.now c.args.style.now) origin canvas self.first number top bottom self.tops self.bottoms from (search rules) (search rules)
+      rows = rw at (rows_of_next (shape_in c.args.polygons.now c.args.style.now) origin canvas self.first number span self.spans from (search rules)
           (λ k l m. c.loop-number.invariant.rows k l (omega (arith, m, c.loop-number.invariant.end))) here);
     }
