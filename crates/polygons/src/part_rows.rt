@@ -1,4 +1,4 @@
-//! An edge in one row of pixels, as the samples of a part count it.
+//! An edge in one row of pixels, as the samples of a part count it: four at once if their flags lie in neighbouring words.
 ghost use Rattle.std.specs.Prelude.{◌≡◌, ◌↔◌, ℕ, ◌+◌, ◌*◌, ◌/◌, ◌%◌, ◌^◌, ◌<◌, ◌≤◌, pos, ◌≤ℤ◌, ◌<ℤ◌, IsTrue, IsFalse, length, slice_index, slice_index_or, false};
 ghost use Rattle.std.specs.Int.{int_max};
 ghost use Rattle.polygons.specs.declared.rule.Rule.TheVariants.{NonZero};
@@ -18,7 +18,7 @@ fn is_between(row: usize, from: i32, to: i32) -> bool
     from <= row as i32 && (row as i32) < to
 }
 
-/// Whether each of four samples is crossed in a row.
+/// Whether the rows of each of four samples hold this one.
 #[inline(always)]
 fn are_between(row: usize, from: &[i32; 4], to: &[i32; 4]) -> [bool; 4]
     requires row { row < 64 }
@@ -60,8 +60,8 @@ fn are_in(columns: &[usize; 4], block: usize) -> bool
         && columns[3] / 8 == block
 }
 
-/// Whether four samples count an edge by flipping their flags: by the even-odd rule all do, by the nonzero rule if no flag
-/// of those that are crossed is set.
+/// Whether four samples count an edge by flipping their flags: always by the even-odd rule, and by the nonzero rule if none
+/// of those that are crossed has its flag set. All four are looked at, so that the compiler does it at once.
 #[inline(always)]
 fn can_flip(
     flags: &[Flags],
