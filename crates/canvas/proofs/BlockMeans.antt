@@ -1,5 +1,5 @@
 -- The means of the samples of pixels.
-use Rattle.std.proofs.Common.{◌≡◌, ◌≢◌, ◌∙◌, inl, inr, refl, ap, sym, subst, ℕ, zero, suc, ◌+◌, ◌-◌, ◌*◌, ◌/◌, ◌<◌, ◌≤◌, ◌^◌, List, length, take, drop, get_or, replicate, slice_index, arith}
+use Rattle.std.proofs.Common.{true, false, ◌≡◌, ◌∙◌, inl, inr, refl, ap, sym, subst, ℕ, zero, suc, ◌+◌, ◌-◌, ◌*◌, ◌/◌, ◌<◌, ◌≤◌, ◌^◌, List, length, take, drop, get_or, replicate, slice_index, arith}
 use Rattle.std.specs.Prelude.{if◌then◌else◌}
 use Rattle.std.specs.Int.{bit_at}
 use Rattle.std.proofs.lemmas.Bool.Decides.{eqb_tells}
@@ -19,12 +19,12 @@ use Rattle.lanes.specs.Block.{stored_at}
 use Rattle.canvas.specs.declared.block_means.Channel.{Channel}
 use Rattle.canvas.specs.declared.block_means.Channel.TheVariants.{Red, Green, Blue, Alpha}
 use Rattle.canvas.specs.declared.way.Way.{Way}
-use Rattle.canvas.specs.declared.way.Way.TheVariants.{Pair, Own}
-use Rattle.canvas.specs.Layout.{planes_of_tile, place_by, mask_of, masks_in, sample_place, chosen, pixel_in_block, in_list, stored_in_tile, way_in_tile}
+use Rattle.canvas.specs.declared.way.Way.TheVariants.{Own, Flat}
+use Rattle.canvas.specs.Layout.{planes_of_tile, place_by, slot_by, is_plain, mask_of, masks_in, sample_place, chosen, pixel_in_block, in_list, stored_in_tile, way_in_tile}
 use Rattle.canvas.specs.Lanes.{channel_of}
 use Rattle.canvas.specs.Colours.{IsMeanOf, HasMeansOf}
 use Rattle.canvas.proofs.MaskLanes.{AreLanes, zipped, splat, itself, total_next}
-use Rattle.canvas.proofs.Pairs.{chosen_place}
+use Rattle.canvas.proofs.Pairs.{sample_of, chosen_by}
 use Rattle.canvas.proofs.Cut.{part_of}
 use Rattle.canvas.proofs.Places.{none, within_way, last_sample}
 use Rattle.canvas.proofs.TilePlanes.{by_any_way, by_way}
@@ -192,9 +192,9 @@ means_of_planes count known xs k a n mean is many small long at was means i j he
 abbrev pub mean_of_both : SampleCount → ℕ → ℕ → ℕ → ℕ
 mean_of_both count bits x y = (x * (count_of count - bits) + y * bits + count_of count / 2) / count_of count
 
-abbrev pub AreMeansBy : SampleCount → List ℕ → BlockSamples → BlockSamples → BlockSamples → Channel → Type 0
+abbrev pub AreMeansBy : SampleCount → List ℕ → (ℕ → CanvasSample) → (ℕ → CanvasSample) → BlockSamples → Channel → Type 0
 AreMeansBy count bits first second mean channel =
-    (p : ℕ) → p < 64 → channel_of channel (stored_at mean p) ≡ mean_of_both count (slice_index bits p) (channel_of channel (stored_at first p)) (channel_of channel (stored_at second p))
+    (p : ℕ) → p < 64 → channel_of channel (stored_at mean p) ≡ mean_of_both count (slice_index bits p) (channel_of channel (first p)) (channel_of channel (second p))
 
 pub each_channel : (P : Channel → Type 0) → P Red → P Green → P Blue → P Alpha → (channel : Channel) → P channel
 each_channel P red green blue alpha Red = red
@@ -202,31 +202,43 @@ each_channel P red green blue alpha Green = green
 each_channel P red green blue alpha Blue = blue
 each_channel P red green blue alpha Alpha = alpha
 
-pub means_of_both : (count : SampleCount) (xs : List BlockSamples) (k a b m : ℕ) (bits : List ℕ) (mean : BlockSamples) → way_in_tile xs k ≡ Pair
-    → a ≡ place_by count Pair k 0 → b ≡ place_by count Pair k (count_of count / 2) → m ≡ place_by count Pair k (count_of count - 1)
+pub means_of_both : (count : SampleCount) (way : Way) (xs : List BlockSamples) (k m : ℕ) (first second : ℕ → CanvasSample) (bits : List ℕ) (mean : BlockSamples) → way_in_tile xs k ≡ way → is_plain way ≡ false
+    → ((p : ℕ) → p < 64 → first p ≡ sample_of count way (in_list xs) k p 0) → ((p : ℕ) → p < 64 → second p ≡ sample_of count way (in_list xs) k p (count_of count / 2))
+    → m ≡ place_by count Own k (count_of count - 1)
     → ((p : ℕ) → p < 64 → slice_index bits p ≡ total (count_of count) (λ s. bit_at (mask_of (in_list xs m) s) p))
-    → ((channel : Channel) → AreMeansBy count bits (in_list xs a) (in_list xs b) mean channel) → HasMeansOf count xs k mean
-means_of_both count xs k a b m bits mean was is_a is_b is_m is_bits is i j here =
+    → ((channel : Channel) → AreMeansBy count bits first second mean channel) → HasMeansOf count xs k mean
+means_of_both count way xs k m first second bits mean was pair is_first is_second is_m is_bits is i j here =
     let p : ℕ = pixel_in_block i j in
     let l : p < 64 = omega arith in
-    let x : CanvasSample = stored_at (in_list xs (place_by count Pair k 0)) p in
-    let y : CanvasSample = stored_at (in_list xs (place_by count Pair k (count_of count / 2))) p in
+    let x : CanvasSample = sample_of count way (in_list xs) k p 0 in
+    let y : CanvasSample = sample_of count way (in_list xs) k p (count_of count / 2) in
     let mask : ℕ → ℕ = λ s. mask_of (masks_in count (in_list xs) k) s in
     let many : slice_index bits p ≡ total (count_of count) (λ s. bit_at (mask s) p) = is_bits p l ∙ ap (λ q. total (count_of count) (λ s. bit_at (mask_of (in_list xs q) s) p)) is_m in
     mean_same count (λ s. chosen (mask s) p y x) (λ s. stored_in_tile count xs i j s) (stored_at mean p)
     (λ s h.
-    chosen_place count (in_list xs) k p s
-    ∙ ap (λ q. stored_at (in_list xs (sample_place count Pair (in_list xs) q p s)) p) (sym here)
-    ∙ sym (by_any_way count xs Pair i j s (ap (way_in_tile xs) here ∙ was)))
+    chosen_by count way (in_list xs) k p s pair
+    ∙ ap (λ q. stored_at (in_list xs (sample_place count way (in_list xs) q p s)) (slot_by way q p)) (sym here)
+    ∙ sym (by_any_way count xs way i j s (ap (way_in_tile xs) here ∙ was)))
     (mean_by count (λ s. chosen (mask s) p y x) (stored_at mean p)
     (λ channel.
     let g : CanvasSample → ℕ = channel_of channel in
     let value : g (stored_at mean p) ≡ mean_of_both count (total (count_of count) (λ s. bit_at (mask s) p)) (g x) (g y) =
-    is channel p l ∙ (λ t. mean_of_both count (many t) (g (stored_at (in_list xs (is_a t)) p)) (g (stored_at (in_list xs (is_b t)) p))) in
+    is channel p l ∙ (λ t. mean_of_both count (many t) (g (is_first p l t)) (g (is_second p l t))) in
     subst (IsResolved count (λ s. g (chosen (mask s) p y x))) (sym value) (mean_of_chosen g mask p x y count)))
 
+-- one sample for all
+pub means_of_flat : (count : SampleCount) (xs : List BlockSamples) (k : ℕ) (mean : BlockSamples) → way_in_tile xs k ≡ Flat → ((p : ℕ) → p < 64 → stored_at mean p ≡ stored_at (in_list xs (place_by count Flat k 0)) k)
+    → HasMeansOf count xs k mean
+means_of_flat count xs k mean was is i j here =
+    let p : ℕ = pixel_in_block i j in
+    mean_alike count (λ s. stored_in_tile count xs i j s) (stored_at mean p)
+    (λ s l.
+    is p (omega arith)
+    ∙ ap (λ q. stored_at (in_list xs (place_by count Flat q 0)) q) (sym here)
+    ∙ sym (by_any_way count xs Flat i j s (ap (way_in_tile xs) here ∙ was)))
+
 -- one plane for all
-pub means_of_one : (count : SampleCount) (xs : List BlockSamples) (way : Way) (k : ℕ) → way_in_tile xs k ≡ way → way ≢ Pair → ((s : ℕ) → s < count_of count → place_by count way k s ≡ place_by count way k 0)
+pub means_of_one : (count : SampleCount) (xs : List BlockSamples) (way : Way) (k : ℕ) → way_in_tile xs k ≡ way → is_plain way ≡ true → ((s : ℕ) → s < count_of count → place_by count way k s ≡ place_by count way k 0)
     → HasMeansOf count xs k (in_list xs (place_by count way k 0))
 means_of_one count xs way k was other same i j here =
     let p : ℕ = pixel_in_block i j in

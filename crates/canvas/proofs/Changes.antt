@@ -1,5 +1,5 @@
 -- Samples that are changed one after another.
-use Rattle.std.proofs.Common.{◌≡◌, Bool, ◌≢◌, ◌⊎◌, ◌∙◌, inl, inr, refl, sym, ap, subst, ℕ, ◌+◌, ◌-◌, ◌*◌, ◌/◌, ◌%◌, ◌<◌, ◌≤◌, List, length, take, drop, slice_set, arith}
+use Rattle.std.proofs.Common.{◌≡◌, Bool, true, ◌≢◌, ◌⊎◌, ◌∙◌, inl, inr, refl, sym, ap, subst, ℕ, ◌+◌, ◌-◌, ◌*◌, ◌/◌, ◌%◌, ◌<◌, ◌≤◌, List, length, take, drop, slice_set, arith}
 use Rattle.std.specs.Prelude.{slice_index_or}
 use Rattle.std.proofs.lemmas.Bool.{cases_lt}
 use Rattle.std.proofs.lemmas.List.{get_or-set_same, get_or-set_other}
@@ -13,14 +13,13 @@ use Rattle.canvas.specs.declared.canvas.Canvas.{Canvas}
 use Rattle.canvas.specs.declared.format.Format.{Format}
 use Rattle.canvas.specs.declared.format.Format.TheVariants.{Rgb8, Rgba8, Bgra8, Rgba8Straight, Bgra8Straight}
 use Rattle.canvas.specs.declared.way.Way.{Way}
-use Rattle.canvas.specs.declared.way.Way.TheVariants.{Cleared, Single, Own, Pair}
-use Rattle.canvas.specs.Layout.{IsStoredIn, planes_of_tile, planes_of_row, block_in_tile, way_of, place_by, stored, stored_in_tile, way_in_tile, IsSameTile, pixel_in_block}
+use Rattle.canvas.specs.declared.way.Way.TheVariants.{Single, Own}
+use Rattle.canvas.specs.Layout.{IsStoredIn, planes_of_tile, planes_of_row, block_in_tile, way_of, place_by, slot_by, is_plain, mask_of, stored, stored_in_tile, way_in_tile, IsSameTile, pixel_in_block}
 use Rattle.canvas.specs.Pixels.{pixel_bytes}
 use Rattle.canvas.specs.Loaded.{coloured, IsIndexIn, AreChanged}
 use Rattle.canvas.proofs.Cut.{put}
-use Rattle.canvas.proofs.Places.{none, behind_first, tile_of, tile_put, tile_kept, row_of, row_put, row_kept}
-use Rattle.canvas.proofs.Ways.{own_not_cleared, single_not_cleared, own_not_pair, single_not_pair}
-use Rattle.canvas.proofs.TilePlanes.{cases_eq, by_way, same_by_way, apart}
+use Rattle.canvas.proofs.Places.{none, behind_first, last_sample, tile_of, tile_put, tile_kept, row_of, row_put, row_kept}
+use Rattle.canvas.proofs.TilePlanes.{cases_eq, by_way, same_by_way, has_own, apart}
 
 -- the same bytes are the same colour
 pub coloured_same : (format : Format) (too : Bool) (f g : ℕ → ℕ) (sample : CanvasSample) → ((k : ℕ) → k < pixel_bytes format → f k ≡ g k) → coloured format too f sample ≡ coloured format too g sample
@@ -32,7 +31,7 @@ coloured_same Bgra8Straight too f g sample same = let a : f 0 ≡ g 0 = same 0 (
 
 -- ---- the samples of one pixel, in the planes of its tile
 -- one pixel of a plane of its block is changed, in which the block keeps samples of its own
-module _ (count : SampleCount) (i j s : ℕ) (h : s < count_of count) (way : Way) (f : CanvasSample → CanvasSample) (xs : List BlockSamples) (plane : BlockSamples) (at : ℕ) (not_cleared : way ≢ Cleared) (not_pair : way ≢ Pair)
+module _ (count : SampleCount) (i j s : ℕ) (h : s < count_of count) (way : Way) (f : CanvasSample → CanvasSample) (xs : List BlockSamples) (plane : BlockSamples) (at : ℕ) (own : has_own way ≡ true) (plain : is_plain way ≡ true)
     (was : way_in_tile xs (block_in_tile i j) ≡ way) (is_at : at ≡ place_by count way (block_in_tile i j) s) (room : at < length xs)
     (kept : (n : ℕ) → n < 64 → n ≢ pixel_in_block i j → stored_at plane n ≡ stored_at (slice_index_or xs at none) n)
     (is : stored_at plane (pixel_in_block i j) ≡ f (stored_at (slice_index_or xs at none) (pixel_in_block i j))) where
@@ -44,12 +43,12 @@ module _ (count : SampleCount) (i j s : ℕ) (h : s < count_of count) (way : Way
 
   pub at_sample : stored_in_tile count after i j s ≡ f (stored_in_tile count xs i j s)
   at_sample =
-      by_way count after way i j s not_pair (same_ways (block_in_tile i j) ∙ was)
+      by_way count after way i j s plain (same_ways (block_in_tile i j) ∙ was)
       ∙ ap (λ p. stored_at (slice_index_or after p none) (pixel_in_block i j)) (sym is_at)
       ∙ ap (λ p. stored_at p (pixel_in_block i j)) (get_or-set_same xs at plane none room)
       ∙ is
       ∙ ap (λ p. f (stored_at (slice_index_or xs p none) (pixel_in_block i j))) is_at
-      ∙ ap f (sym (by_way count xs way i j s not_pair was))
+      ∙ ap f (sym (by_way count xs way i j s plain was))
 
   -- a sample of its block, in another plane or of another pixel
   in_block : (column row t : ℕ) → block_in_tile i j ≡ block_in_tile column row → ((column % 64 ≡ i % 64) → (row % 64 ≡ j % 64) → place_by count way (block_in_tile i j) t ≡ place_by count way (block_in_tile i j) s → ⊥)
@@ -58,7 +57,7 @@ module _ (count : SampleCount) (i j s : ℕ) (h : s < count_of count) (way : Way
       let of_way : way_in_tile xs (block_in_tile column row) ≡ way = ap (way_in_tile xs) (sym here) ∙ was in
       let p : ℕ = place_by count way (block_in_tile column row) t in
       let plane_is : p ≡ place_by count way (block_in_tile i j) t = ap (λ m. place_by count way m t) (sym here) in
-      by_way count after way column row t not_pair (same_ways (block_in_tile column row) ∙ of_way)
+      by_way count after way column row t plain (same_ways (block_in_tile column row) ∙ of_way)
       ∙ elim (cases_eq p at) [
         | inr apart ↦ ap (λ q. stored_at q (pixel_in_block column row)) (get_or-set_other xs at p plane none apart)
         | inl same ↦
@@ -68,7 +67,7 @@ module _ (count : SampleCount) (i j s : ℕ) (h : s < count_of count) (way : Way
             ∙ kept (pixel_in_block column row) (omega arith) pixel
             ∙ sym (ap (λ n. stored_at (slice_index_or xs n none) (pixel_in_block column row)) same)
       ]
-      ∙ sym (by_way count xs way column row t not_pair of_way)
+      ∙ sym (by_way count xs way column row t plain of_way)
 
   pub at_other : (column row t : ℕ) → t < count_of count → ((column % 64 ≡ i % 64) → (row % 64 ≡ j % 64) → place_by count way (block_in_tile i j) t ≡ place_by count way (block_in_tile i j) s → ⊥)
       → stored_in_tile count after column row t ≡ stored_in_tile count xs column row t
@@ -77,9 +76,10 @@ module _ (count : SampleCount) (i j s : ℕ) (h : s < count_of count) (way : Way
         | inl here ↦ in_block column row t here other
         | inr elsewhere ↦
             let m : ℕ = block_in_tile column row in
-            same_by_way count xs after column row t l (same_ways m)
-            (λ n small. get_or-set_other xs at (place_by count (way_in_tile xs m) m n) plane none
-            (λ e. apart count (way_in_tile xs m) way m (block_in_tile i j) n s (λ d. elsewhere (sym d)) small h not_cleared (e ∙ is_at)))
+            let unchanged : (w : Way) (n : ℕ) → n < count_of count → slice_index_or after (place_by count w m n) none ≡ slice_index_or xs (place_by count w m n) none =
+            λ w n small. get_or-set_other xs at (place_by count w m n) plane none (λ e. apart count w way m (block_in_tile i j) n s (λ d. elsewhere (sym d)) small h own (e ∙ is_at)) in
+            same_by_way count xs after column row t l (same_ways m) (λ _. ap (λ q. mask_of q t) (unchanged Own (count_of count - 1) (last_sample count)))
+            (λ n small. ap (λ q. stored_at q (slot_by (way_in_tile xs m) m (pixel_in_block column row))) (unchanged (way_in_tile xs m) n small))
       ]
 
 -- the samples of pixel (i, j) from index `from` to before m end as f makes them, and all others are unchanged
@@ -99,16 +99,16 @@ pub one_sample_more : (count : SampleCount) (i j from s : ℕ) → from ≤ s �
     → IsPixelChanged count i j from s f old middle → IsPixelChanged count i j from (s + 1) f old (slice_set middle at plane)
 one_sample_more count i j from s since h f old middle plane at is_at room kept is before =
     let other : (column row t : ℕ) → t < count_of count → ((column % 64 ≡ i % 64) → (row % 64 ≡ j % 64) → t ≡ s → ⊥) → stored_in_tile count (slice_set middle at plane) column row t ≡ stored_in_tile count middle column row t =
-    λ column row t l apart. at_other count i j s h Own f middle plane at own_not_cleared own_not_pair before.own is_at room kept is column row t l (λ a b e. apart a b (omega (arith, e))) in
+    λ column row t l apart. at_other count i j s h Own f middle plane at refl refl before.own is_at room kept is column row t l (λ a b e. apart a b (omega (arith, e))) in
     record {
-      own = same_ways count i j s h Own f middle plane at own_not_cleared own_not_pair before.own is_at room kept is (block_in_tile i j) ∙ before.own;
+      own = same_ways count i j s h Own f middle plane at refl refl before.own is_at room kept is (block_in_tile i j) ∙ before.own;
       pixel = λ t l index.
           elim (cases_lt t s) [
             | inl earlier ↦ other i j t l (λ _ _ e. omega (arith, e, earlier)) ∙ before.pixel t l (record { from = index.from; below = earlier })
             | inr more ↦
                 let here : s ≡ t = (let below = index.below in omega (arith, below, more)) in
                 subst (λ u. stored_in_tile count (slice_set middle at plane) i j u ≡ f (stored_in_tile count old i j u)) here
-                (at_sample count i j s h Own f middle plane at own_not_cleared own_not_pair before.own is_at room kept is ∙ ap f (before.others i j s h (λ _ _ index. let below = index.below in omega (arith, below))))
+                (at_sample count i j s h Own f middle plane at refl refl before.own is_at room kept is ∙ ap f (before.others i j s h (λ _ _ index. let below = index.below in omega (arith, below))))
           ];
       others = λ column row t l apart.
           other column row t l (λ a b e. apart a b (record { from = omega (arith, e, since); below = omega (arith, e) }))
@@ -121,10 +121,10 @@ module _ (count : SampleCount) (i j : ℕ) (f : CanvasSample → CanvasSample) (
     (kept : (n : ℕ) → n < 64 → n ≢ pixel_in_block i j → stored_at plane n ≡ stored_at (slice_index_or middle at none) n)
     (is : stored_at plane (pixel_in_block i j) ≡ f (stored_at (slice_index_or middle at none) (pixel_in_block i j))) where
   pub all_samples : (s : ℕ) → s < count_of count → stored_in_tile count (slice_set middle at plane) i j s ≡ f (stored_in_tile count old i j s)
-  all_samples s h = at_sample count i j s h Single f middle plane at single_not_cleared single_not_pair single is_at room kept is ∙ ap f (same i j s h)
+  all_samples s h = at_sample count i j s h Single f middle plane at refl refl single is_at room kept is ∙ ap f (same i j s h)
 
   pub other_pixels : (column row s : ℕ) → s < count_of count → ((column % 64 ≡ i % 64) → (row % 64 ≡ j % 64) → ⊥) → stored_in_tile count (slice_set middle at plane) column row s ≡ stored_in_tile count old column row s
-  other_pixels column row s h other = at_other count i j 0 (some_samples count) Single f middle plane at single_not_cleared single_not_pair single is_at room kept is column row s h (λ a b _. other a b) ∙ same column row s h
+  other_pixels column row s h other = at_other count i j 0 (some_samples count) Single f middle plane at refl refl single is_at room kept is column row s h (λ a b _. other a b) ∙ same column row s h
 
 -- ---- a part that is put back changed
 module _ (c : Canvas) (xs part : List BlockSamples) (n a : ℕ) (room : a + n ≤ length xs) (long : length part ≡ n) where

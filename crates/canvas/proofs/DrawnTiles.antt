@@ -1,5 +1,4 @@
 -- What triangles make of a tile whose blocks have their samples.
-use Rattle.canvas.proofs.Ways.{own_not_pair}
 use Rattle.std.proofs.Common.{◌≡◌, ◌∙◌, refl, ap, sym, ℕ, ◌+◌, ◌*◌, ◌/◌, ◌%◌, ◌<◌, ◌≤◌, List, ◌++◌, length, take, drop, arith}
 use Rattle.std.specs.Prelude.{slice_index_or}
 use Rattle.std.proofs.Math.Seq.{drop-append_seam, take-append_seam}
@@ -74,7 +73,7 @@ module _ (ts : List Placed) (tile : Tile) (side : tile.side ≡ T64) (old filled
         ap (λ k. stored_at (slice_index_or (take n (drop a xs)) k none) pixel) place_is
         ∙ ap (λ p. stored_at p pixel) (part_of xs a n none own inside)
         ∙ ap (λ k. stored_at (slice_index_or xs k none) pixel) in_all
-        ∙ sym (by_way tile.count xs Own column row s own_not_pair is)
+        ∙ sym (by_way tile.count xs Own column row s refl is)
 
     old_is : in_tile tile (take n (drop a filled)) row column s ≡ stored_in_tile tile.count old column row s
     old_is = in_own filled (are_own block) ∙ kept column row s h.is_sample

@@ -11,6 +11,7 @@ pub mod Written
 pub mod PixelRows
 pub mod Arranged
 pub mod Pairs
+pub mod FlatBlocks
 pub mod MaskLanes
 pub mod MaskBits
 pub mod BlockMeans

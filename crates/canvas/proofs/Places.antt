@@ -1,5 +1,5 @@
 -- Each tile has planes of its own.
-use Rattle.std.proofs.Common.{◌≡◌, ◌≢◌, ◌∙◌, ap, sym, ℕ, Bool, true, false, ◌+◌, ◌-◌, ◌*◌, ◌/◌, ◌<◌, ◌≤◌, List, [], ◌++◌, length, take, drop, get_or-append-add, arith}
+use Rattle.std.proofs.Common.{◌≡◌, ◌≢◌, ◌⊎◌, ◌∙◌, inl, inr, ap, sym, ℕ, Bool, true, false, ◌+◌, ◌-◌, ◌*◌, ◌/◌, ◌<◌, ◌≤◌, List, [], ◌++◌, length, take, drop, get_or-append-add, arith}
 use Rattle.std.specs.Prelude.{◌==◌, if◌then◌else◌, slice_index_or}
 use Rattle.std.specs.Int.{bit_at}
 use Rattle.std.proofs.Math.Nat.{mul_comm, add-mul}
@@ -14,8 +14,8 @@ use Rattle.lanes.specs.Block.{stored_at}
 use Rattle.canvas.proofs.Cut.{put, put_here, put_elsewhere, part_of}
 use Rattle.canvas.specs.declared.canvas.Canvas.{Canvas}
 use Rattle.canvas.specs.declared.way.Way.{Way}
-use Rattle.canvas.specs.declared.way.Way.TheVariants.{Cleared, Single, Pair, Own}
-use Rattle.canvas.specs.Layout.{columns_of, planes_of_tile, planes_of_row, block_in_tile, pixel_in_block, way_of, mask_of, own_plane, place_by, masks_in, sample_place, place_in_tile, sample_in, plane_of, in_list, stored, stored_in_tile}
+use Rattle.canvas.specs.declared.way.Way.TheVariants.{Cleared, Single, Pair, Own, Flat, FlatPair}
+use Rattle.canvas.specs.Layout.{columns_of, planes_of_tile, planes_of_row, block_in_tile, pixel_in_block, way_of, mask_of, own_plane, place_by, flat_place, slot_by, masks_in, sample_place, place_in_tile, sample_in, plane_of, in_list, stored, stored_in_tile}
 
 abbrev pub none : BlockSamples
 none = record { z = []; r = []; g = []; b = []; alpha = [] }
@@ -28,12 +28,36 @@ within_planes Four q s h k = omega arith
 within_planes Eight q s h k = omega arith
 within_planes Sixteen q s h k = omega arith
 
+within_flat : (count : SampleCount) (k n : ℕ) → k < 64 → n < count_of count → flat_place count k n < planes_of_tile count
+within_flat One k n l h = omega (arith, l, h)
+within_flat Two k n l h = omega (arith, l, h)
+within_flat Four k n l h = omega (arith, h)
+within_flat Eight k n l h = omega (arith, h)
+within_flat Sixteen k n l h = omega (arith, h)
+
+behind_flat : (count : SampleCount) (k n : ℕ) → flat_place count k n ≢ 0
+behind_flat One k n e = omega (arith, e)
+behind_flat Two k n e = omega (arith, e)
+behind_flat Four k n e = omega (arith, e)
+behind_flat Eight k n e = omega (arith, e)
+behind_flat Sixteen k n e = omega (arith, e)
+
+-- a plane with samples of flat blocks lies before the own blocks, or is an own plane of the block
+pub flat_where : (count : SampleCount) (k n : ℕ) → n < count_of count → (flat_place count k n < 1 + count_of count) ⊎ (flat_place count k n ≡ 1 + (k + 1) * count_of count + n)
+flat_where One k n l = inr (omega arith)
+flat_where Two k n l = inr (omega arith)
+flat_where Four k n l = inl (omega (arith, l))
+flat_where Eight k n l = inl (omega (arith, l))
+flat_where Sixteen k n l = inl (omega (arith, l))
+
 -- a plane of a block is one of its tile, and not the first
 pub within_way : (count : SampleCount) (way : Way) (k s : ℕ) → k < 64 → s < count_of count → place_by count way k s < planes_of_tile count
 within_way count Cleared k s l h = omega (arith, h)
 within_way count Single k s l h = let below = within_planes count (k + 1) 0 (omega (arith, l)) (omega (arith, h)) in omega (arith, below)
 within_way count Pair k s l h = within_planes count (k + 1) s (omega (arith, l)) h
 within_way count Own k s l h = within_planes count (k + 1) s (omega (arith, l)) h
+within_way count Flat k s l h = within_flat count k 0 l (some_samples count)
+within_way count FlatPair k s l h = within_flat count k s l h
 
 -- the masks of a pair too
 pub last_sample : (count : SampleCount) → count_of count - 1 < count_of count
@@ -55,12 +79,25 @@ within_block count Cleared masks p s h = h
 within_block count Single masks p s h = h
 within_block count Pair masks p s h = either_plane count (bit_at (mask_of masks s) p == 1)
 within_block count Own masks p s h = h
+within_block count Flat masks p s h = either_plane count (bit_at (mask_of masks s) p == 1)
+within_block count FlatPair masks p s h = either_plane count (bit_at (mask_of masks s) p == 1)
 
 pub behind_first : (count : SampleCount) (way : Way) (k s : ℕ) → place_by count way k s ≢ 0
 behind_first count Cleared k s e = omega (arith, e)
 behind_first count Single k s e = omega (arith, e)
 behind_first count Pair k s e = omega (arith, e)
 behind_first count Own k s e = omega (arith, e)
+behind_first count Flat k s e = behind_flat count k 0 e
+behind_first count FlatPair k s e = behind_flat count k s e
+
+-- the number of a sample in its plane
+pub slot_below : (way : Way) (k p : ℕ) → k < 64 → p < 64 → slot_by way k p < 64
+slot_below Cleared k p l h = h
+slot_below Single k p l h = h
+slot_below Pair k p l h = h
+slot_below Own k p l h = h
+slot_below Flat k p l h = l
+slot_below FlatPair k p l h = l
 
 pub within_tile : (count : SampleCount) (f : ℕ → BlockSamples) (i j s : ℕ) → s < count_of count → place_in_tile count f i j s < planes_of_tile count
 within_tile count f i j s h =
@@ -91,9 +128,9 @@ pub same_in : (count : SampleCount) (f g : ℕ → BlockSamples) (i j s : ℕ) �
 same_in count f g i j s h same =
     let k : ℕ = block_in_tile i j in
     let p : ℕ = pixel_in_block i j in
-    ap (λ state. stored_at (f (sample_place count (way_of state k) f k p s)) p) (same 0 (some_planes count))
-    ∙ ap (λ masks. stored_at (f (place_by count (way_of (g 0) k) k (own_plane count (way_of (g 0) k) masks p s))) p) (same (1 + (k + 1) * count_of count + (count_of count - 1)) (within_masks count k (omega arith)))
-    ∙ ap (λ plane. stored_at plane p) (same (place_in_tile count g i j s) (within_tile count g i j s h))
+    ap (λ state. stored_at (f (sample_place count (way_of state k) f k p s)) (slot_by (way_of state k) k p)) (same 0 (some_planes count))
+    ∙ ap (λ masks. stored_at (f (place_by count (way_of (g 0) k) k (own_plane count (way_of (g 0) k) masks p s))) (slot_by (way_of (g 0) k) k p)) (same (1 + (k + 1) * count_of count + (count_of count - 1)) (within_masks count k (omega arith)))
+    ∙ ap (λ plane. stored_at plane (slot_by (way_of (g 0) k) k p)) (same (place_in_tile count g i j s) (within_tile count g i j s h))
 
 -- ---- a tile row among tile rows
 module _ (c : Canvas) (i j s : ℕ) where

@@ -1,5 +1,4 @@
 -- The entries of the samples of one tile: 64 for each of its planes.
-use Rattle.canvas.proofs.Ways.{cleared_not_pair}
 use Rattle.std.proofs.Common.{◌≡◌, ◌≢◌, ◌∙◌, inl, inr, refl, sym, ap, ℕ, ◌+◌, ◌-◌, ◌*◌, ◌/◌, ◌%◌, ◌<◌, ◌≤◌, List, length, take, drop, slice_index, slice_set, arith}
 use Rattle.std.specs.Prelude.{if◌then◌else◌, slice_index_or}
 use Rattle.std.proofs.lemmas.Bool.{cases_lt}
@@ -14,11 +13,11 @@ use Rattle.lanes.specs.declared.block_samples.BlockSamples.{BlockSamples}
 use Rattle.lanes.specs.Block.{stored_at}
 use Rattle.canvas.specs.declared.canvas.Canvas.{Canvas}
 use Rattle.canvas.specs.declared.way.Way.TheVariants.{Cleared}
-use Rattle.canvas.specs.Layout.{IsStoredIn, columns_of, planes_of_tile, planes_of_row, block_in_tile, way_of, place_by, place_in_tile, stored, stored_in_tile, way_in_tile, pixel_in_block, in_list}
+use Rattle.canvas.specs.Layout.{IsStoredIn, columns_of, planes_of_tile, planes_of_row, block_in_tile, way_of, place_by, slot_by, place_in_tile, stored, stored_in_tile, way_in_tile, pixel_in_block, in_list}
 use Rattle.canvas.specs.Colours.{id_of}
 use Rattle.canvas.specs.Tiles.{IsInTile, tile_entries, entry_in_tile, said_of, IsUniformTile, planes_in, with_colour}
 use Rattle.canvas.proofs.Cut.{part_of}
-use Rattle.canvas.proofs.Places.{none, row_of, tile_of, same_in, within_row}
+use Rattle.canvas.proofs.Places.{none, slot_below, row_of, tile_of, same_in, within_row}
 use Rattle.canvas.proofs.TilePlanes.{by_way, by_any_way, same_own_plane, same_mask}
 
 -- ---- numbers of planes and entries
@@ -76,13 +75,13 @@ module _ (count : SampleCount) (xs : List BlockSamples) where
   pub uniform_plane : IsUniformTile count xs → (k : ℕ) → k < 64 → id_of (stored_at (slice_index_or xs 1 none) k) ≡ id_of (stored_at (slice_index_or xs 1 none) 0)
   uniform_plane u k l =
       let pixel : pixel_in_block (k % 8) (k / 8) ≡ k = omega (arith, l) in
-      sym (ap id_of (by_way count xs Cleared (k % 8) (k / 8) 0 cleared_not_pair (u.cleared (block_in_tile (k % 8) (k / 8)) (omega arith)) ∙ ap (stored_at (slice_index_or xs 1 none)) pixel))
+      sym (ap id_of (by_way count xs Cleared (k % 8) (k / 8) 0 refl (u.cleared (block_in_tile (k % 8) (k / 8)) (omega arith)) ∙ ap (stored_at (slice_index_or xs 1 none)) pixel))
       ∙ u.one (k % 8) (k / 8) 0 (some_samples count)
-      ∙ ap id_of (by_way count xs Cleared 0 0 0 cleared_not_pair (u.cleared 0 (omega arith)))
+      ∙ ap id_of (by_way count xs Cleared 0 0 0 refl (u.cleared 0 (omega arith)))
 
   pub all_uniform : (id : ℕ) → ((k : ℕ) → k < 64 → way_in_tile xs k ≡ Cleared) → ((k : ℕ) → k < 64 → id_of (stored_at (slice_index_or xs 1 none) k) ≡ id)
       → (i j s : ℕ) → s < count_of count → id_of (stored_in_tile count xs i j s) ≡ id
-  all_uniform id cleared same i j s h = ap id_of (by_way count xs Cleared i j s cleared_not_pair (cleared (block_in_tile i j) (omega arith))) ∙ same (pixel_in_block i j) (omega arith)
+  all_uniform id cleared same i j s h = ap id_of (by_way count xs Cleared i j s refl (cleared (block_in_tile i j) (omega arith))) ∙ same (pixel_in_block i j) (omega arith)
 
   pub is_uniform : (id : ℕ) → ((k : ℕ) → k < 64 → way_in_tile xs k ≡ Cleared) → ((k : ℕ) → k < 64 → id_of (stored_at (slice_index_or xs 1 none) k) ≡ id) → IsUniformTile count xs
   is_uniform id cleared same = record {
@@ -168,7 +167,7 @@ same_depths from place f old new p k small all =
 -- a sample whose plane is one of them
 pub sample_recoloured : (count : SampleCount) (from place colour : ℕ) (f : ℕ → ℕ → ℕ) (old new : List BlockSamples) (i j s : ℕ) → s < count_of count → 1 ≤ from
     → from ≤ place_in_tile count (in_list old) i j s → place_in_tile count (in_list old) i j s < place
-    → f (place_in_tile count (in_list old) i j s) (pixel_in_block i j) ≡ colour
+    → f (place_in_tile count (in_list old) i j s) (slot_by (way_in_tile old (block_in_tile i j)) (block_in_tile i j) (pixel_in_block i j)) ≡ colour
     → AreRecoloured from place f old new → stored_in_tile count new i j s ≡ with_colour colour (stored_in_tile count old i j s)
 sample_recoloured count from place colour f old new i j s index behind h l is all =
     let first : slice_index_or new 0 none ≡ slice_index_or old 0 none = all.kept 0 (λ h _. omega (arith, h, behind)) in
@@ -176,12 +175,13 @@ sample_recoloured count from place colour f old new i j s index behind h l is al
     let k : ℕ = block_in_tile i j in
     let way = way_in_tile old k in
     let p : ℕ = pixel_in_block i j in
+    let slot : ℕ = slot_by way k p in
     let masks : ℕ = 1 + (k + 1) * count_of count + (count_of count - 1) in
     by_any_way count new way i j s (ap (λ (state : BlockSamples). way_of state k) first)
-    ∙ ap (λ n. stored_at (in_list new (place_by count way k n)) p)
+    ∙ ap (λ n. stored_at (in_list new (place_by count way k n)) slot)
     (same_own_plane count way (in_list new masks) (in_list old masks) p s (same_mask (in_list new masks) (in_list old masks) s (omega (arith, index, few_samples count)) (λ n small. same_depths from place f old new masks n small all)))
-    ∙ all.changed at p h l (omega arith)
-    ∙ ap (λ n. with_colour n (stored_at (in_list old at) p)) is
+    ∙ all.changed at slot h l (slot_below way k p (omega arith) (omega arith))
+    ∙ ap (λ n. with_colour n (stored_at (in_list old at) slot)) is
 
 -- the colour of a number, channel by channel
 pub in_channels : (r g b n : ℕ) (x y : CanvasSample) → r ≡ n % 256 → g ≡ n / 256 % 256 → b ≡ n / 65536 % 256 → x ≡ y → with_channels r g b x ≡ with_colour n y

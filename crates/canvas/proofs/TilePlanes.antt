@@ -1,8 +1,8 @@
 -- The planes of one tile.
 use Rattle.std.specs.Int.{bit_at}
-use Rattle.std.proofs.Common.{◌≡◌, ◌≢◌, ◌⊎◌, ◌∙◌, inl, inr, refl, ap, sym, ℕ, ◌+◌, ◌-◌, ◌*◌, ◌<◌, List, length, slice_set, arith, ◌/◌, slice_index}
+use Rattle.std.proofs.Common.{Bool, true, false, ◌≡◌, ◌≢◌, ◌⊎◌, ◌∙◌, inl, inr, refl, ap, sym, ℕ, ◌+◌, ◌-◌, ◌*◌, ◌<◌, List, length, slice_set, arith, ◌/◌, slice_index}
 use Rattle.std.specs.Prelude.{slice_index_or, ◌==◌, if◌then◌else◌}
-use Rattle.std.proofs.lemmas.Bool.{cases_lt}
+use Rattle.std.proofs.lemmas.Bool.{cases_lt, false≢true}
 use Rattle.std.proofs.lemmas.List.{get_or-set_same, get_or-set_other}
 use Rattle.std.proofs.Math.Nat.{add-mul}
 use Rattle.std.proofs.lemmas.Nat.{same_from_place}
@@ -14,10 +14,9 @@ use Rattle.shade.specs.declared.sample.CanvasSample.{CanvasSample}
 use Rattle.lanes.specs.declared.block_samples.BlockSamples.{BlockSamples}
 use Rattle.lanes.specs.Block.{stored_at}
 use Rattle.canvas.specs.declared.way.Way.{Way}
-use Rattle.canvas.specs.declared.way.Way.TheVariants.{Cleared, Single, Pair, Own}
-use Rattle.canvas.specs.Layout.{planes_of_tile, block_in_tile, pixel_in_block, way_of, place_by, mask_of, own_plane, masks_in, sample_place, in_list, stored_in_tile, way_in_tile, IsSameTile, KeepsOtherWays, AreOwnBy, KeepsOtherPlanes, place_in_tile, masks_place}
+use Rattle.canvas.specs.declared.way.Way.TheVariants.{Cleared, Single, Pair, Own, Flat, FlatPair}
+use Rattle.canvas.specs.Layout.{planes_of_tile, block_in_tile, pixel_in_block, way_of, place_by, flat_place, slot_by, is_plain, mask_of, own_plane, masks_in, sample_place, in_list, stored_in_tile, way_in_tile, IsSameTile, KeepsOtherWays, AreOwnBy, KeepsOtherPlanes, place_in_tile}
 use Rattle.canvas.proofs.Places.{none, behind_first, within_block, last_sample}
-use Rattle.canvas.proofs.Ways.{own_not_cleared, own_not_pair}
 
 pub cases_eq : (a b : ℕ) → (a ≡ b) ⊎ (a ≢ b)
 cases_eq a b =
@@ -26,23 +25,49 @@ cases_eq a b =
       | inr from ↦ elim (cases_lt b a) [ inl more ↦ inr (λ e. omega (arith, e, more)) | inr to ↦ inl (omega (arith, from, to)) ]
     ]
 
+-- a block with no plane that is put together of two
+pub by_none : (b : Bool) → (b ≡ false → false ≡ true) → b ≡ true
+by_none true none = refl
+by_none false none = none refl
+
 -- ---- one of its samples, by the way in which its block keeps them
 pub by_any_way : (count : SampleCount) (xs : List BlockSamples) (way : Way) (i j s : ℕ) → way_in_tile xs (block_in_tile i j) ≡ way
-    → stored_in_tile count xs i j s ≡ stored_at (in_list xs (sample_place count way (in_list xs) (block_in_tile i j) (pixel_in_block i j) s)) (pixel_in_block i j)
-by_any_way count xs way i j s e = ap (λ w. stored_at (in_list xs (sample_place count w (in_list xs) (block_in_tile i j) (pixel_in_block i j) s)) (pixel_in_block i j)) e
+    → stored_in_tile count xs i j s
+    ≡ stored_at (in_list xs (sample_place count way (in_list xs) (block_in_tile i j) (pixel_in_block i j) s)) (slot_by way (block_in_tile i j) (pixel_in_block i j))
+by_any_way count xs way i j s e = ap (λ w. stored_at (in_list xs (sample_place count w (in_list xs) (block_in_tile i j) (pixel_in_block i j) s)) (slot_by w (block_in_tile i j) (pixel_in_block i j))) e
 
--- the own plane of a sample, in a block that is no pair
-pub plane_is : (count : SampleCount) (way : Way) (masks : BlockSamples) (p s : ℕ) → way ≢ Pair → own_plane count way masks p s ≡ s
-plane_is count Cleared masks p s other = refl
-plane_is count Single masks p s other = refl
-plane_is count Pair masks p s other = absurd (other refl)
-plane_is count Own masks p s other = refl
+pub plain_else : (way : Way) → way ≢ Pair → way ≢ Flat → way ≢ FlatPair → is_plain way ≡ true
+plain_else Cleared pair flat flat_pair = refl
+plain_else Single pair flat flat_pair = refl
+plain_else Pair pair flat flat_pair = absurd (pair refl)
+plain_else Own pair flat flat_pair = refl
+plain_else Flat pair flat flat_pair = absurd (flat refl)
+plain_else FlatPair pair flat flat_pair = absurd (flat_pair refl)
 
-pub by_way : (count : SampleCount) (xs : List BlockSamples) (way : Way) (i j s : ℕ) → way ≢ Pair → way_in_tile xs (block_in_tile i j) ≡ way
+-- the own plane of a sample, in a block that is neither a pair nor flat
+pub plane_is : (count : SampleCount) (way : Way) (masks : BlockSamples) (p s : ℕ) → is_plain way ≡ true → own_plane count way masks p s ≡ s
+plane_is count Cleared masks p s plain = refl
+plane_is count Single masks p s plain = refl
+plane_is count Pair masks p s plain = absurd (false≢true plain)
+plane_is count Own masks p s plain = refl
+plane_is count Flat masks p s plain = absurd (false≢true plain)
+plane_is count FlatPair masks p s plain = absurd (false≢true plain)
+
+-- and its number there
+pub slot_is : (way : Way) (k p : ℕ) → is_plain way ≡ true → slot_by way k p ≡ p
+slot_is Cleared k p plain = refl
+slot_is Single k p plain = refl
+slot_is Pair k p plain = absurd (false≢true plain)
+slot_is Own k p plain = refl
+slot_is Flat k p plain = absurd (false≢true plain)
+slot_is FlatPair k p plain = absurd (false≢true plain)
+
+pub by_way : (count : SampleCount) (xs : List BlockSamples) (way : Way) (i j s : ℕ) → is_plain way ≡ true → way_in_tile xs (block_in_tile i j) ≡ way
     → stored_in_tile count xs i j s ≡ stored_at (slice_index_or xs (place_by count way (block_in_tile i j) s) none) (pixel_in_block i j)
-by_way count xs way i j s other e =
+by_way count xs way i j s plain e =
     by_any_way count xs way i j s e
-    ∙ ap (λ n. stored_at (slice_index_or xs (place_by count way (block_in_tile i j) n) none) (pixel_in_block i j)) (plane_is count way (masks_in count (in_list xs) (block_in_tile i j)) (pixel_in_block i j) s other)
+    ∙ ap (λ n. stored_at (slice_index_or xs (place_by count way (block_in_tile i j) n) none) (slot_by way (block_in_tile i j) (pixel_in_block i j))) (plane_is count way (masks_in count (in_list xs) (block_in_tile i j)) (pixel_in_block i j) s plain)
+    ∙ ap (λ p. stored_at (slice_index_or xs (place_by count way (block_in_tile i j) s) none) p) (slot_is way (block_in_tile i j) (pixel_in_block i j) plain)
 
 -- the same masks
 pub same_own_plane : (count : SampleCount) (way : Way) (a b : BlockSamples) (p s : ℕ) → mask_of a s ≡ mask_of b s → own_plane count way a p s ≡ own_plane count way b p s
@@ -50,62 +75,81 @@ same_own_plane count Cleared a b p s same = refl
 same_own_plane count Single a b p s same = refl
 same_own_plane count Pair a b p s same = ap (λ mask. if bit_at mask p == 1 then count_of count / 2 else 0) same
 same_own_plane count Own a b p s same = refl
+same_own_plane count Flat a b p s same = ap (λ mask. if bit_at mask p == 1 then count_of count / 2 else 0) same
+same_own_plane count FlatPair a b p s same = ap (λ mask. if bit_at mask p == 1 then count_of count / 2 else 0) same
 
 pub same_mask : (a b : BlockSamples) (s : ℕ) → s < 16 → ((k : ℕ) → k < 64 → slice_index a.z k ≡ slice_index b.z k) → mask_of a s ≡ mask_of b s
 same_mask a b s l same =
     omega (arith, same (4 * s) (omega (arith, l)), same (4 * s + 1) (omega (arith, l)), same (4 * s + 2) (omega (arith, l)), same (4 * s + 3) (omega (arith, l)))
 
--- in a block that is no pair all pixels have their sample of an index in one plane
-pub in_block : (count : SampleCount) (xs : List BlockSamples) (a b i j s : ℕ) → block_in_tile i j ≡ block_in_tile a b → way_in_tile xs (block_in_tile a b) ≢ Pair
+-- in a block that is neither a pair nor flat all pixels have their sample of an index in one plane
+pub in_block : (count : SampleCount) (xs : List BlockSamples) (a b i j s : ℕ) → block_in_tile i j ≡ block_in_tile a b → is_plain (way_in_tile xs (block_in_tile a b)) ≡ true
     → stored_at (in_list xs (place_in_tile count (in_list xs) a b s)) (pixel_in_block i j) ≡ stored_in_tile count xs i j s
-in_block count xs a b i j s same other =
+in_block count xs a b i j s same plain =
     let block : ℕ = block_in_tile a b in
     let way = way_in_tile xs block in
-    ap (λ n. stored_at (in_list xs (place_by count way block n)) (pixel_in_block i j)) (plane_is count way (masks_in count (in_list xs) block) (pixel_in_block a b) s other)
+    ap (λ n. stored_at (in_list xs (place_by count way block n)) (pixel_in_block i j)) (plane_is count way (masks_in count (in_list xs) block) (pixel_in_block a b) s plain)
     ∙ ap (λ m. stored_at (in_list xs (place_by count way m s)) (pixel_in_block i j)) (sym same)
-    ∙ sym (by_way count xs way i j s other (ap (way_in_tile xs) same))
-
--- the masks of a pair are in its last plane
-same_plane : (count : SampleCount) (way : Way) (k p s : ℕ) (old new : List BlockSamples) → ((t : ℕ) → t < count_of count → in_list new (place_by count way k t) ≡ in_list old (place_by count way k t))
-    → own_plane count way (masks_in count (in_list new) k) p s ≡ own_plane count way (masks_in count (in_list old) k) p s
-same_plane count Cleared k p s old new same = refl
-same_plane count Single k p s old new same = refl
-same_plane count Pair k p s old new same = ap (λ masks. own_plane count Pair masks p s) (same (count_of count - 1) (last_sample count))
-same_plane count Own k p s old new same = refl
+    ∙ sym (by_way count xs way i j s plain (ap (way_in_tile xs) same))
 
 -- the same place, if the masks of a pair are the same
-pub same_place_by : (count : SampleCount) (way : Way) (old new : List BlockSamples) (k p s : ℕ) → (way ≡ Pair → in_list new (masks_place count k) ≡ in_list old (masks_place count k))
+pub same_place_by : (count : SampleCount) (way : Way) (old new : List BlockSamples) (k p s : ℕ) → (is_plain way ≡ false → mask_of (masks_in count (in_list new) k) s ≡ mask_of (masks_in count (in_list old) k) s)
     → sample_place count way (in_list new) k p s ≡ sample_place count way (in_list old) k p s
 same_place_by count Cleared old new k p s same = refl
 same_place_by count Single old new k p s same = refl
-same_place_by count Pair old new k p s same = ap (λ masks. place_by count Pair k (own_plane count Pair masks p s)) (same refl)
+same_place_by count Pair old new k p s same = ap (place_by count Pair k) (same_own_plane count Pair (masks_in count (in_list new) k) (masks_in count (in_list old) k) p s (same refl))
 same_place_by count Own old new k p s same = refl
+same_place_by count Flat old new k p s same = refl
+same_place_by count FlatPair old new k p s same = ap (place_by count FlatPair k) (same_own_plane count FlatPair (masks_in count (in_list new) k) (masks_in count (in_list old) k) p s (same refl))
 
--- the same way and the same planes: the same sample
+-- the same way, the same masks and the same samples in its planes: the same sample
 pub same_by_way : (count : SampleCount) (old new : List BlockSamples) (i j s : ℕ) → s < count_of count → way_in_tile new (block_in_tile i j) ≡ way_in_tile old (block_in_tile i j)
-    → ((t : ℕ) → t < count_of count → in_list new (place_by count (way_in_tile old (block_in_tile i j)) (block_in_tile i j) t) ≡ in_list old (place_by count (way_in_tile old (block_in_tile i j)) (block_in_tile i j) t))
+    → (is_plain (way_in_tile old (block_in_tile i j)) ≡ false → mask_of (masks_in count (in_list new) (block_in_tile i j)) s ≡ mask_of (masks_in count (in_list old) (block_in_tile i j)) s)
+    → ((t : ℕ) → t < count_of count
+    → stored_at (in_list new (place_by count (way_in_tile old (block_in_tile i j)) (block_in_tile i j) t)) (slot_by (way_in_tile old (block_in_tile i j)) (block_in_tile i j) (pixel_in_block i j))
+    ≡ stored_at (in_list old (place_by count (way_in_tile old (block_in_tile i j)) (block_in_tile i j) t)) (slot_by (way_in_tile old (block_in_tile i j)) (block_in_tile i j) (pixel_in_block i j)))
     → stored_in_tile count new i j s ≡ stored_in_tile count old i j s
-same_by_way count old new i j s h way planes =
+same_by_way count old new i j s h way masks planes =
     let k : ℕ = block_in_tile i j in
     let p : ℕ = pixel_in_block i j in
     let w = way_in_tile old k in
     by_any_way count new w i j s way
-    ∙ ap (λ n. stored_at (in_list new (place_by count w k n)) p) (same_plane count w k p s old new planes)
-    ∙ ap (λ plane. stored_at plane p) (planes (own_plane count w (masks_in count (in_list old) k) p s) (within_block count w (masks_in count (in_list old) k) p s h))
+    ∙ ap (λ n. stored_at (in_list new n) (slot_by w k p)) (same_place_by count w old new k p s masks)
+    ∙ planes (own_plane count w (masks_in count (in_list old) k) p s) (within_block count w (masks_in count (in_list old) k) p s h)
 
 -- ---- the own planes of a block
 -- no other block has them
-own_apart : (count : SampleCount) (way : Way) (m k s t : ℕ) → m ≢ k → s < count_of count → t < count_of count → place_by count way m s ≢ 1 + (k + 1) * count_of count + t
+flat_apart : (count : SampleCount) (m k n t : ℕ) → m ≢ k → n < count_of count → t < count_of count → flat_place count m n ≢ 1 + (k + 1) * count_of count + t
+flat_apart One m k n t other h l e = other (omega (arith, h, l, e))
+flat_apart Two m k n t other h l e = other (omega (arith, h, l, e))
+flat_apart Four m k n t other h l e = omega (arith, h, e)
+flat_apart Eight m k n t other h l e = omega (arith, h, e)
+flat_apart Sixteen m k n t other h l e = omega (arith, h, e)
+
+pub own_apart : (count : SampleCount) (way : Way) (m k s t : ℕ) → m ≢ k → s < count_of count → t < count_of count → place_by count way m s ≢ 1 + (k + 1) * count_of count + t
 own_apart count Cleared m k s t other h l e = omega (arith, e, add-mul k 1 (count_of count), h)
 own_apart count Single m k s t other h l e = other (omega (arith, (same_from_place (m + 1) 0 (k + 1) t (count_of count) (omega (arith, h)) l (omega (arith, e))).0))
 own_apart count Pair m k s t other h l e = other (omega (arith, (same_from_place (m + 1) s (k + 1) t (count_of count) h l (omega (arith, e))).0))
 own_apart count Own m k s t other h l e = other (omega (arith, (same_from_place (m + 1) s (k + 1) t (count_of count) h l (omega (arith, e))).0))
+own_apart count Flat m k s t other h l e = flat_apart count m k 0 t other (some_samples count) l e
+own_apart count FlatPair m k s t other h l e = flat_apart count m k s t other h l e
 
-pub apart : (count : SampleCount) (way way' : Way) (m k s t : ℕ) → m ≢ k → s < count_of count → t < count_of count → way' ≢ Cleared → place_by count way m s ≢ place_by count way' k t
-apart count way Cleared m k s t other h l own = absurd (own refl)
+-- no other block changes where those of a block that is kept in such a way are
+abbrev pub has_own : Way → Bool
+has_own Cleared = false
+has_own Single = true
+has_own Pair = true
+has_own Own = true
+has_own Flat = false
+has_own FlatPair = false
+
+pub apart : (count : SampleCount) (way way' : Way) (m k s t : ℕ) → m ≢ k → s < count_of count → t < count_of count → has_own way' ≡ true → place_by count way m s ≢ place_by count way' k t
+apart count way Cleared m k s t other h l own = absurd (false≢true own)
 apart count way Single m k s t other h l own = λ e. own_apart count way m k s 0 other h (some_samples count) (omega (arith, e))
 apart count way Pair m k s t other h l own = own_apart count way m k s t other h l
 apart count way Own m k s t other h l own = own_apart count way m k s t other h l
+apart count way Flat m k s t other h l own = absurd (false≢true own)
+apart count way FlatPair m k s t other h l own = absurd (false≢true own)
 
 -- the planes behind the first are unchanged but those of block k
 abbrev pub KeepsOthers : SampleCount → ℕ → List BlockSamples → List BlockSamples → Type 0
@@ -116,7 +160,10 @@ pub others_same : (count : SampleCount) (k : ℕ) (old new : List BlockSamples) 
 others_same count k old new ways planes i j s h other =
     let m : ℕ = block_in_tile i j in
     let way = way_in_tile old m in
-    same_by_way count old new i j s h (ways m (omega arith) other) (λ n small. planes (place_by count way m n) (behind_first count way m n) (λ t l. apart count way Own m k n t other small l own_not_cleared))
+    let behind : (w : Way) (n : ℕ) → n < count_of count → in_list new (place_by count w m n) ≡ in_list old (place_by count w m n) =
+    λ w n small. planes (place_by count w m n) (behind_first count w m n) (λ t l. own_apart count w m k n t other small l) in
+    same_by_way count old new i j s h (ways m (omega arith) other) (λ _. ap (λ plane. mask_of plane s) (behind Own (count_of count - 1) (last_sample count)))
+    (λ n small. ap (λ plane. stored_at plane (slot_by way m (pixel_in_block i j))) (behind way n small))
 
 -- the first plane, changed
 pub way_set : (xs : List BlockSamples) (state : BlockSamples) (m : ℕ) (way : Way) → 0 < length xs → way_of state m ≡ way → way_in_tile (slice_set xs 0 state) m ≡ way
@@ -148,15 +195,17 @@ one_filled count k t at f plane old xs is room h has before = record {
 }
 
 -- the place in a block that one plane stands for
-pub one_place : (count : SampleCount) (way : Way) (k n : ℕ) → way ≢ Pair → way ≢ Own → place_by count way k n ≡ place_by count way k 0
-one_place count Cleared k n pair own = refl
-one_place count Single k n pair own = refl
-one_place count Pair k n pair own = absurd (pair refl)
-one_place count Own k n pair own = absurd (own refl)
+pub one_place : (count : SampleCount) (way : Way) (k n : ℕ) → is_plain way ≡ true → way ≢ Own → place_by count way k n ≡ place_by count way k 0
+one_place count Cleared k n plain own = refl
+one_place count Single k n plain own = refl
+one_place count Pair k n plain own = absurd (false≢true plain)
+one_place count Own k n plain own = absurd (own refl)
+one_place count Flat k n plain own = absurd (false≢true plain)
+one_place count FlatPair k n plain own = absurd (false≢true plain)
 
 -- the plane that stands for all samples
-pub alike_place : (count : SampleCount) (way : Way) (k p s : ℕ) (f : ℕ → BlockSamples) → way ≢ Pair → way ≢ Own → sample_place count way f k p s ≡ place_by count way k 0
-alike_place count way k p s f pair own = one_place count way k (own_plane count way (masks_in count f k) p s) pair own
+pub alike_place : (count : SampleCount) (way : Way) (k p s : ℕ) (f : ℕ → BlockSamples) → is_plain way ≡ true → way ≢ Own → sample_place count way f k p s ≡ place_by count way k 0
+alike_place count way k p s f plain own = one_place count way k (own_plane count way (masks_in count f k) p s) plain own
 
 -- block k has its own planes, and its samples are unchanged
 module _ (count : SampleCount) (k : ℕ) (way : Way) (old filled : List BlockSamples) (state : BlockSamples) (some : 0 < length filled) (was : way_in_tile old k ≡ way)
@@ -182,11 +231,11 @@ module _ (count : SampleCount) (k : ℕ) (way : Way) (old filled : List BlockSam
       elim (cases_eq (block_in_tile i j) k) [
         | inr apart ↦ others_same count k old new block_ways others_kept i j s h apart
         | inl here ↦
-            by_way count new Own i j s own_not_pair (ap (way_in_tile new) here ∙ block_own)
+            by_way count new Own i j s refl (ap (way_in_tile new) here ∙ block_own)
             ∙ ap (λ m. stored_at (slice_index_or new (place_by count Own m s) none) (pixel_in_block i j)) here
             ∙ ap (λ plane. stored_at plane (pixel_in_block i j)) (behind_set filled state (place_by count Own k s) (behind_first count Own k s))
             ∙ planes s (pixel_in_block i j) h (omega arith)
-            ∙ ap (λ m. stored_at (in_list old (sample_place count way (in_list old) m (pixel_in_block i j) s)) (pixel_in_block i j)) (sym here)
+            ∙ ap (λ m. stored_at (in_list old (sample_place count way (in_list old) m (pixel_in_block i j) s)) (slot_by way m (pixel_in_block i j))) (sym here)
             ∙ sym (by_any_way count old way i j s (ap (way_in_tile old) here ∙ was))
       ]
 

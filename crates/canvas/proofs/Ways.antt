@@ -5,11 +5,8 @@ use Rattle.std.proofs.lemmas.Bool.Decides.{eqb_tells}
 use Rattle.std.proofs.lemmas.List.{get_or-set_other, get_or-replicate, length-replicate}
 use Rattle.std.proofs.lemmas.Grind.{same_number_lists}
 use Rattle.canvas.specs.declared.way.Way.{Way}
-use Rattle.canvas.specs.declared.way.Way.TheVariants.{Cleared, Single, Pair, Own}
-
--- the way that a red byte says
-abbrev by_byte : ℕ → Way
-by_byte byte = if byte == 1 then Cleared else (if byte == 2 then Single else (if byte == 3 then Pair else Own))
+use Rattle.canvas.specs.declared.way.Way.TheVariants.{Cleared, Single, Pair, Own, Flat, FlatPair}
+use Rattle.canvas.specs.Layout.{by_byte}
 
 abbrev pub way_by : List ℕ → List ℕ → ℕ → Way
 way_by green red m = if slice_index green 0 == 0 then Own else by_byte (slice_index red m)
@@ -35,6 +32,8 @@ IsNotCleared Cleared = ⊥
 IsNotCleared Single = Unit {0}
 IsNotCleared Pair = Unit {0}
 IsNotCleared Own = Unit {0}
+IsNotCleared Flat = Unit {0}
+IsNotCleared FlatPair = Unit {0}
 
 pub own_not_cleared : Own ≢ Cleared
 unfolding IsNotCleared
@@ -48,6 +47,14 @@ pub pair_not_cleared : Pair ≢ Cleared
 unfolding IsNotCleared
 pair_not_cleared e = subst IsNotCleared e tt
 
+flat_not_cleared : Flat ≢ Cleared
+unfolding IsNotCleared
+flat_not_cleared e = subst IsNotCleared e tt
+
+flat_pair_not_cleared : FlatPair ≢ Cleared
+unfolding IsNotCleared
+flat_pair_not_cleared e = subst IsNotCleared e tt
+
 pub cleared_by : (green red : List ℕ) (m : ℕ) → slice_index green 0 ≢ 0 → slice_index red m ≡ 1 → way_by green red m ≡ Cleared
 cleared_by green red m some e =
     ap (λ r. if slice_index green 0 == 0 then Own else by_byte r) e
@@ -59,10 +66,15 @@ cleared_by green red m some e =
 some_green : (green red : List ℕ) (m : ℕ) → way_by green red m ≡ Cleared → slice_index green 0 ≢ 0
 some_green green red m e none = own_not_cleared (sym (own_by_green green red m none) ∙ e)
 
-not_any : (b c : Bool) → (if b then Single else (if c then Pair else Own)) ≢ Cleared
-not_any true c = single_not_cleared
-not_any false true = pair_not_cleared
-not_any false false = own_not_cleared
+abbrev another : Bool → Bool → Bool → Bool → Way
+another b c d e = if b then Single else (if c then Pair else (if d then Flat else (if e then FlatPair else Own)))
+
+not_any : (b c d e : Bool) → another b c d e ≢ Cleared
+not_any true c d e = single_not_cleared
+not_any false true d e = pair_not_cleared
+not_any false false true e = flat_not_cleared
+not_any false false false true = flat_pair_not_cleared
+not_any false false false false = own_not_cleared
 
 red_one : (green red : List ℕ) (m : ℕ) → way_by green red m ≡ Cleared → slice_index red m ≡ 1
 red_one green red m e =
@@ -73,7 +85,7 @@ red_one green red m e =
           sym (ap (λ b. if b then Own else by_byte (slice_index red m)) other.0) ∙ e in
           elim (eqb_tells (slice_index red m) 1) [
             | inl one ↦ one.1
-            | inr not_one ↦ absurd (not_any (slice_index red m == 2) (slice_index red m == 3) (sym (ap (λ b. if b then Cleared else (if slice_index red m == 2 then Single else (if slice_index red m == 3 then Pair else Own))) not_one.0) ∙ by_red))
+            | inr not_one ↦ absurd (not_any (slice_index red m == 2) (slice_index red m == 3) (slice_index red m == 4) (slice_index red m == 5) (sym (ap (λ b. if b then Cleared else another (slice_index red m == 2) (slice_index red m == 3) (slice_index red m == 4) (slice_index red m == 5)) not_one.0) ∙ by_red))
           ]
     ]
 
@@ -92,22 +104,3 @@ some_of_cleared green red all = some_green green red 0 (all 0 (omega arith))
 pub other_way : (green red : List ℕ) (k byte m : ℕ) → m ≢ k → way_by green (slice_set red k byte) m ≡ way_by green red m
 other_way green red k byte m other =
     ap (λ r. if slice_index green 0 == 0 then Own else by_byte r) (get_or-set_other red k m byte 0 other)
-
--- ---- pairs and own blocks
-IsNotPair : Way → Type 0
-IsNotPair Cleared = Unit {0}
-IsNotPair Single = Unit {0}
-IsNotPair Pair = ⊥
-IsNotPair Own = Unit {0}
-
-pub own_not_pair : Own ≢ Pair
-unfolding IsNotPair
-own_not_pair e = subst IsNotPair e tt
-
-pub cleared_not_pair : Cleared ≢ Pair
-unfolding IsNotPair
-cleared_not_pair e = subst IsNotPair e tt
-
-pub single_not_pair : Single ≢ Pair
-unfolding IsNotPair
-single_not_pair e = subst IsNotPair e tt

@@ -1,14 +1,15 @@
 -- Where the samples of a picture lie, in planes that the caller keeps.
-use Rattle.std.specs.Prelude.{◌≡◌, ◌≢◌, ℕ, ◌+◌, ◌-◌, ◌*◌, ◌/◌, ◌%◌, ◌<◌, ◌≤◌, ◌==◌, if◌then◌else◌, List, [], slice_index, slice_index_or}
+use Rattle.std.specs.Prelude.{◌≡◌, ◌≢◌, Bool, true, false, ℕ, ◌+◌, ◌-◌, ◌*◌, ◌/◌, ◌%◌, ◌<◌, ◌≤◌, ◌==◌, if◌then◌else◌, List, [], slice_index, slice_index_or}
 use Rattle.std.specs.Int.{bit_at}
 use Rattle.grid.specs.Samples.{count_of}
 use Rattle.grid.specs.declared.sample_count.SampleCount.{SampleCount}
+use Rattle.grid.specs.declared.sample_count.SampleCount.TheVariants.{One, Two, Four, Eight, Sixteen}
 use Rattle.shade.specs.declared.sample.CanvasSample.{CanvasSample}
 use Rattle.lanes.specs.declared.block_samples.BlockSamples.{BlockSamples}
 use Rattle.lanes.specs.Block.{stored_at}
 use Rattle.canvas.specs.declared.canvas.Canvas.{Canvas}
 use Rattle.canvas.specs.declared.way.Way.{Way}
-use Rattle.canvas.specs.declared.way.Way.TheVariants.{Cleared, Single, Pair, Own}
+use Rattle.canvas.specs.declared.way.Way.TheVariants.{Cleared, Single, Pair, Own, Flat, FlatPair}
 
 -- A picture is at most 4096 by 4096 pixels, and not empty (this project's limits).
 pub record IsCanvasSize (width height : ℕ) : Type 0 where
@@ -26,7 +27,8 @@ abbrev pub rows_of : Canvas → ℕ
 rows_of c = (c.height + 63) / 64
 
 -- How many planes a tile has. One says in which way each of its blocks keeps its samples. Each of 65 blocks of 8 by 8 pixels has one
--- for each sample of a pixel: the first is that to which the tile was cleared, which uses one of them, and the others are its own.
+-- for each sample of a pixel: the first is that to which the tile was cleared, which uses one of them, and leaves two for the samples of
+-- flat blocks, if there are so many; the others are its own.
 abbrev pub planes_of_tile : SampleCount → ℕ
 planes_of_tile count = 1 + 65 * count_of count
 
@@ -67,32 +69,73 @@ block_in_tile i j = j % 64 / 8 * 8 + i % 64 / 8
 abbrev pub pixel_in_block : ℕ → ℕ → ℕ
 pixel_in_block i j = 8 * (j % 8) + i % 8
 
+-- The way in which a block keeps its samples, by a byte.
+abbrev pub by_byte : ℕ → Way
+by_byte byte =
+    if byte == 1 then Cleared
+    else (if byte == 2 then Single else (if byte == 3 then Pair else (if byte == 4 then Flat else (if byte == 5 then FlatPair else Own))))
+
 -- The way in which block k of a tile keeps its samples, by the tile's first plane. Its red byte k says so, unless its first green
 -- byte is 0, which stands for 64 own blocks.
 abbrev pub way_of : BlockSamples → ℕ → Way
 way_of state k =
     if slice_index state.g 0 == 0 then Own
-    else (if slice_index state.r k == 1 then Cleared else (if slice_index state.r k == 2 then Single else (if slice_index state.r k == 3 then Pair else Own)))
+    else by_byte (slice_index state.r k)
+
+-- The index of the plane with a sample of flat block k among those of its tile. It has the first sample if n is 0, and the second one if n is
+-- half of the samples of a pixel. With four samples or more these are planes 2 and 3, which have those of all flat blocks of the tile. A tile
+-- with fewer has no such planes, and they are own planes of the block.
+abbrev pub flat_place : SampleCount → ℕ → ℕ → ℕ
+flat_place One k n = 2 + k + n
+flat_place Two k n = 3 + 2 * k + n
+flat_place Four k n = 2 + n / 2
+flat_place Eight k n = 2 + n / 4
+flat_place Sixteen k n = 2 + n / 8
 
 -- The index of own plane n of block k among the planes of its tile, if the block keeps its samples in this way. Plane 1 is that of the
--- block to which the tile was cleared. The own planes of a block lie together: one for each sample of a pixel.
+-- block to which the tile was cleared. The own planes of a block lie together: one for each sample of a pixel. Of a flat block it is the
+-- plane with its first or its second sample.
 abbrev pub place_by : SampleCount → Way → ℕ → ℕ → ℕ
 place_by count Cleared k n = 1
 place_by count Single k n = 1 + (k + 1) * count_of count
 place_by count Pair k n = 1 + (k + 1) * count_of count + n
 place_by count Own k n = 1 + (k + 1) * count_of count + n
+place_by count Flat k n = flat_place count k 0
+place_by count FlatPair k n = flat_place count k n
+
+-- The number in its plane of the sample of pixel p of block k, by the way in which the block keeps its samples. It is that of the pixel, but a
+-- flat block has one sample for all of its pixels in a plane, at the block's number.
+abbrev pub slot_by : Way → ℕ → ℕ → ℕ
+slot_by Cleared k p = p
+slot_by Single k p = p
+slot_by Pair k p = p
+slot_by Own k p = p
+slot_by Flat k p = k
+slot_by FlatPair k p = k
+
+-- Whether a block that is kept in this way has its samples of an index in one plane, each at the number of its pixel.
+abbrev pub is_plain : Way → Bool
+is_plain Cleared = true
+is_plain Single = true
+is_plain Pair = false
+is_plain Own = true
+is_plain Flat = false
+is_plain FlatPair = false
 
 -- The mask of sample index s, 64 bits in place of depths: bit p says in which plane of a pair pixel p has the sample.
 abbrev pub mask_of : BlockSamples → ℕ → ℕ
 mask_of masks s =
     slice_index masks.z (4 * s) + 65536 * slice_index masks.z (4 * s + 1) + 4294967296 * slice_index masks.z (4 * s + 2) + 281474976710656 * slice_index masks.z (4 * s + 3)
 
--- Which of the own planes of a block has sample s of pixel p. A pair has two of them, the first and the middle one, and these masks.
+-- Which of the own planes of a block has sample s of pixel p. A pair has two of them, the first and the middle one, and these masks; a
+-- flat block too, with one sample in each.
 abbrev pub own_plane : SampleCount → Way → BlockSamples → ℕ → ℕ → ℕ
 own_plane count Cleared masks p s = s
 own_plane count Single masks p s = s
 own_plane count Pair masks p s = if bit_at (mask_of masks s) p == 1 then count_of count / 2 else 0
 own_plane count Own masks p s = s
+own_plane count Flat masks p s = if bit_at (mask_of masks s) p == 1 then count_of count / 2 else 0
+own_plane count FlatPair masks p s = if bit_at (mask_of masks s) p == 1 then count_of count / 2 else 0
 
 -- The index of the plane with the masks of block k among those of its tile, if it is a pair: the last of its own planes.
 abbrev pub masks_place : SampleCount → ℕ → ℕ
@@ -111,9 +154,11 @@ abbrev pub place_in_tile : SampleCount → (ℕ → BlockSamples) → ℕ → �
 place_in_tile count planes i j s =
     sample_place count (way_of (planes 0) (block_in_tile i j)) planes (block_in_tile i j) (pixel_in_block i j) s
 
--- Sample s of pixel (i, j), by the planes of its tile. A plane has one sample of each pixel of the block, row by row.
+-- Sample s of pixel (i, j), by the planes of its tile. A plane has one sample of each pixel of the block, row by row; planes 2 and 3 have
+-- one of each flat block.
 abbrev pub sample_in : SampleCount → (ℕ → BlockSamples) → ℕ → ℕ → ℕ → CanvasSample
-sample_in count planes i j s = stored_at (planes (place_in_tile count planes i j s)) (pixel_in_block i j)
+sample_in count planes i j s =
+    stored_at (planes (place_in_tile count planes i j s)) (slot_by (way_of (planes 0) (block_in_tile i j)) (block_in_tile i j) (pixel_in_block i j))
 
 -- Plane k of the tile of pixel (i, j), among those of the tile rows from `first` on. Tiles lie from left to right.
 abbrev pub plane_of : Canvas → ℕ → List BlockSamples → ℕ → ℕ → ℕ → BlockSamples
@@ -161,7 +206,7 @@ chosen mask p set clear = if bit_at mask p == 1 then set else clear
 abbrev pub AreOwnBy : SampleCount → Way → ℕ → List BlockSamples → List BlockSamples → Type 0
 AreOwnBy count way k old new =
     (s p : ℕ) → s < count_of count → p < 64
-    → stored_at (in_list new (place_by count Own k s)) p ≡ stored_at (in_list old (sample_place count way (in_list old) k p s)) p
+    → stored_at (in_list new (place_by count Own k s)) p ≡ stored_at (in_list old (sample_place count way (in_list old) k p s)) (slot_by way k p)
 
 -- All planes of the tile but the own ones of block k are unchanged.
 abbrev pub KeepsOtherPlanes : SampleCount → ℕ → List BlockSamples → List BlockSamples → Type 0

@@ -12,8 +12,12 @@
 --   HasTile: These tile rows have a tile in a column and a row of tiles.
 --   block_in_tile: The number of the block of pixel (i, j) among the 64 of its tile, row by row.
 --   pixel_in_block: The number of pixel (i, j) among the 64 of its block, row by row.
+--   by_byte: The way in which a block keeps its samples, by a byte.
 --   way_of: The way in which block k of a tile keeps its samples, by the tile's first plane.
+--   flat_place: The index of the plane with a sample of flat block k among those of its tile.
 --   place_by: The index of own plane n of block k among the planes of its tile, if the block keeps its samples in this way.
+--   slot_by: The number in its plane of the sample of pixel p of block k, by the way in which the block keeps its samples.
+--   is_plain: Whether a block that is kept in this way has its samples of an index in one plane, each at the number of its pixel.
 --   mask_of: The mask of sample index s, 64 bits in place of depths: bit p says in which plane of a pair pixel p has the sample.
 --   own_plane: Which of the own planes of a block has sample s of pixel p.
 --   masks_place: The index of the plane with the masks of block k among those of its tile, if it is a pair: the last of its own planes.
@@ -94,6 +98,12 @@
 --   AreOfRow: The first numbers are those of triangles, each with the columns of tiles in which it can meet a sample of this tile row.
 --   AreOfTile: Those of the triangles of these numbers that meet a sample of the tile have its column among theirs.
 --
+-- FlatBlocks.antt
+--   flat_sample: Sample s of pixel p of the block: the second one where its mask has the pixel's bit, else the first.
+--   HasFlat: The samples of block k of a tile are these.
+--   with_samples: The block once `first` has taken the place of its first sample, and `second` that of its second one.
+--   IsFlatReplaced: Where the masks have a bit, `first` has taken the place of the first sample, and `second` that of the second one.
+--
 -- Hidden.antt
 --   ReplacesColours: A triangle in this state gives its colour to each sample that it covers in its scissor.
 --   Hides: The triangle hides the colours that are stored in the tile.
@@ -158,6 +168,7 @@ pub mod Pixels
 pub mod Entries
 pub mod Colours
 pub mod Rows
+pub mod FlatBlocks
 pub mod Hidden
 pub mod Loaded
 pub mod Tiles

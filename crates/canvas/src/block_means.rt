@@ -5,7 +5,7 @@ ghost use Rattle.std.specs.Simd.Lanes.{Each1};
 ghost use Rattle.grid.specs.Samples.{count_of};
 ghost use Rattle.shade.specs.Resolve.{total};
 ghost use Rattle.lanes.specs.Block.{stored_at};
-ghost use Rattle.canvas.specs.declared.way.Way.TheVariants.{Pair as AsPair, Own as AsOwn};
+ghost use Rattle.canvas.specs.declared.way.Way.TheVariants.{Pair as AsPair, Own as AsOwn, FlatPair as AsFlatPair};
 ghost use Rattle.canvas.specs.Layout.{planes_of_tile, mask_of as the_mask, in_list, way_in_tile};
 ghost use Rattle.canvas.specs.Lanes.{channel_of};
 ghost use Rattle.canvas.specs.Colours.{IsMeanOf, HasMeansOf};
@@ -139,9 +139,26 @@ fn count_bits(count: SampleCount, masks: &BlockSamples) -> u16x64
     bits.cast::<u16>()
 }
 
-/// The means of a channel: `bits` samples of each pixel have that of `second`, and the others that of `first`.
+/// The means of bytes in lanes: `bits` samples of each pixel have the second, and the others the first.
 #[inline(always)]
-fn means_of_both(
+fn means_of_both(count: SampleCount, bits: u16x64, first: u16x64, second: u16x64) -> [u8; 64]
+    requires bits { length bits ≡ 64 }
+    requires few { (p : ℕ) → p < 64 → slice_index bits p ≤ count_of count }
+    requires first { length first ≡ 64 }
+    requires first_bytes { (p : ℕ) → p < 64 → slice_index first p ≤ 255 }
+    requires second { length second ≡ 64 }
+    requires second_bytes { (p : ℕ) → p < 64 → slice_index second p ≤ 255 }
+    ensures { (p : ℕ) → p < 64 → slice_index result p ≡
+        (slice_index first p * (count_of count - slice_index bits p) + slice_index second p * slice_index bits p +
+        count_of count / 2) / count_of count }
+{
+    let rest = u16x64::splat(count.count() as u16) - bits;
+    means_of_sums(count, first * rest + second * bits)
+}
+
+/// The means of a channel: `bits` samples of each pixel are that of `second`, and the others that of `first`.
+#[inline(always)]
+fn channel_of_both(
     count: SampleCount,
     bits: u16x64,
     first: &BlockSamples,
@@ -154,10 +171,11 @@ fn means_of_both(
         (channel_of channel (stored_at first.now p) * (count_of count - slice_index bits p) +
         channel_of channel (stored_at second.now p) * slice_index bits p + count_of count / 2) / count_of count }
 {
-    let rest = u16x64::splat(count.count() as u16) - bits;
-    means_of_sums(
+    means_of_both(
         count,
-        lanes_of(first, channel) * rest + lanes_of(second, channel) * bits,
+        bits,
+        lanes_of(first, channel),
+        lanes_of(second, channel),
     )
 }
 
@@ -176,9 +194,45 @@ pub(crate) fn means_of_pair(count: SampleCount, planes: &[BlockSamples], k: usiz
     let bits = count_bits(count, masks);
     BlockSamples {
         z: [0; 64],
-        r: means_of_both(count, bits, first, second, Channel::Red),
-        g: means_of_both(count, bits, first, second, Channel::Green),
-        b: means_of_both(count, bits, first, second, Channel::Blue),
-        alpha: means_of_both(count, bits, first, second, Channel::Alpha),
+        r: channel_of_both(count, bits, first, second, Channel::Red),
+        g: channel_of_both(count, bits, first, second, Channel::Green),
+        b: channel_of_both(count, bits, first, second, Channel::Blue),
+        alpha: channel_of_both(count, bits, first, second, Channel::Alpha),
+    }
+}
+
+/// The means of two bytes: `bits` samples of each pixel have the second, and the others the first.
+#[inline(always)]
+fn means_of_bytes(count: SampleCount, bits: u16x64, first: u8, second: u8) -> [u8; 64]
+    requires bits { length bits ≡ 64 }
+    requires few { (p : ℕ) → p < 64 → slice_index bits p ≤ count_of count }
+    ensures { (p : ℕ) → p < 64 → slice_index result p ≡
+        (first * (count_of count - slice_index bits p) + second * slice_index bits p + count_of count / 2) /
+        count_of count }
+{
+    let first = u16x64::splat(u16::from(first));
+    let second = u16x64::splat(u16::from(second));
+    means_of_both(count, bits, first, second)
+}
+
+/// The means of the samples of block `k` of a tile with these planes, if the block is kept in two samples.
+#[inline(never)]
+pub(crate) fn means_of_flat(count: SampleCount, planes: &[BlockSamples], k: usize) -> BlockSamples
+    requires block { k < 64 }
+    requires planes { length planes.now ≡ planes_of_tile count }
+    requires way { way_in_tile planes.now k ≡ AsFlatPair }
+    ensures { HasMeansOf count planes.now k result }
+{
+    let many = count.count();
+    let first = planes[place_by(count, Way::FlatPair, k, 0)].sample(k);
+    let second = planes[place_by(count, Way::FlatPair, k, many / 2)].sample(k);
+    let masks = &planes[place_by(count, Way::Own, k, many - 1)];
+    let bits = count_bits(count, masks);
+    BlockSamples {
+        z: [0; 64],
+        r: means_of_bytes(count, bits, first.r, second.r),
+        g: means_of_bytes(count, bits, first.g, second.g),
+        b: means_of_bytes(count, bits, first.b, second.b),
+        alpha: means_of_bytes(count, bits, first.alpha, second.alpha),
     }
 }

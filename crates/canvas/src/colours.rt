@@ -7,8 +7,9 @@ ghost use Rattle.canvas.specs.Pixels.{pixel_bytes, shown_rows, IsLargeEnough};
 ghost use Rattle.canvas.specs.Entries.{FitEntries, IsEntriesMisfit};
 ghost use Rattle.canvas.specs.Colours.{IsPixelOf, IsPixelWith, LiesInBlock, LiesInPart, IsSampleColour, AreBytesOfColour, AreWrittenTo, AreResolved, AreColours};
 
-use crate::block_means::{means_of_own, means_of_pair};
+use crate::block_means::{means_of_flat, means_of_own, means_of_pair};
 use crate::canvas::Canvas;
+use crate::flat_block::spread;
 use crate::format::{Format, arranged};
 use crate::misfit::Misfit;
 use crate::pixel_rows::PixelRows;
@@ -222,6 +223,14 @@ fn resolve_block(
         Way::Pair => {
             let means = means_of_pair(count, planes, k);
             resolve_block_by(rows, &means, across, down, format, bytes);
+        }
+        Way::FlatPair => {
+            let means = means_of_flat(count, planes, k);
+            resolve_block_by(rows, &means, across, down, format, bytes);
+        }
+        Way::Flat => {
+            let plane = spread(planes[place_by(count, way, k, 0)].sample(k));
+            resolve_block_by(rows, &plane, across, down, format, bytes);
         }
         _ => {
             let plane = &planes[place_by(count, way, k, 0)];

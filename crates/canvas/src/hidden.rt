@@ -83,7 +83,8 @@ fn hides(triangle: &Placed, tile: &Tile) -> bool
 }
 
 /// Whether a merge writes more than colours: depths or alphas.
-fn writes_beside_colours(merge: &Merge) -> bool
+#[inline]
+pub fn writes_beside_colours(merge: &Merge) -> bool
     ensures { result ≡ false → (merge.now.depth_write ≡ false) × (merge.now.blend.write_alpha ≡ false) }
 {
     merge.depth_write || merge.blend.write_alpha

@@ -8,6 +8,7 @@ mod cleared;
 mod colours;
 mod columns;
 mod entries;
+mod flat_block;
 mod format;
 mod hidden;
 mod ids;
@@ -37,8 +38,9 @@ mod window;
 
 pub use canvas::Canvas;
 pub use entries::Entry;
+pub use flat_block::FlatBlock;
 pub use format::Format;
-pub use hidden::replaces_colours;
+pub use hidden::{replaces_colours, writes_beside_colours};
 pub use ids::{Ids, colour_of_id, replacing};
 pub use indexed::Indexed;
 pub use laws::{joins_batches, keeps_colours, keeps_tiles, moves_by_pixels, tells_last};

@@ -9,7 +9,8 @@ use crate::mask_lanes::{choose_bytes, choose_depths, lanes_of_mask};
 use grid::SampleCount;
 use lanes::BlockSamples;
 
-/// Whether blocks with this many samples a pixel are kept as pairs: a pair needs three planes, of one of them few bytes.
+/// Whether blocks with this many samples a pixel are kept as pairs or in few samples: a pair needs three planes, of one of
+/// them few bytes.
 #[inline]
 pub fn has_pairs(count: SampleCount) -> bool
     ensures { IsTrue result → 4 ≤ count_of count }
@@ -44,6 +45,26 @@ pub(crate) fn set_mask(masks: &mut BlockSamples, s: u32, mask: u64)
     masks.z[at + 3] = (mask / 281474976710656) as u16;
 }
 
+/// The masks that a plane has in place of depths.
+pub(crate) fn masks_of(count: SampleCount, plane: &BlockSamples) -> [u64; 16]
+    ensures { (s : ℕ) → s < count_of count → slice_index result s ≡ the_mask plane.now s }
+{
+    let mut masks = [0; 16];
+    for s in 0..count.count() {
+        masks[s as usize] = mask_of(plane, s);
+    }
+    masks
+}
+
+/// Has a plane have these masks.
+pub(crate) fn set_masks(count: SampleCount, masks: &[u64; 16], plane: &mut BlockSamples)
+    ensures { (s : ℕ) → s < count_of count → the_mask plane.new s ≡ slice_index masks.now s }
+{
+    for s in 0..count.count() {
+        set_mask(plane, s, masks[s as usize]);
+    }
+}
+
 /// The samples of `second` where the mask has a bit, and those of `first` where it has none.
 pub(crate) fn merged(first: &BlockSamples, second: &BlockSamples, mask: u64) -> BlockSamples
     ensures { (p : ℕ) → p < 64 → stored_at result p ≡ chosen mask p (stored_at second.now p) (stored_at first.now p) }
@@ -71,12 +92,12 @@ pub(crate) fn are_full(count: SampleCount, masks: &[u64; 16]) -> bool
 }
 
 /// Whether all bits of a block's masks are in these.
-pub(crate) fn are_in(count: SampleCount, stored: &BlockSamples, masks: &[u64; 16]) -> bool
-    ensures { IsTrue result → (s p : ℕ) → s < count_of count → p < 64 → bit_at (the_mask stored.now s) p ≡ 1 →
+pub(crate) fn are_in(count: SampleCount, stored: &[u64; 16], masks: &[u64; 16]) -> bool
+    ensures { IsTrue result → (s p : ℕ) → s < count_of count → p < 64 → bit_at (slice_index stored.now s) p ≡ 1 →
         bit_at (slice_index masks.now s) p ≡ 1 }
 {
     for s in 0..count.count() {
-        if mask_of(stored, s) & !masks[s as usize] != 0 {
+        if stored[s as usize] & !masks[s as usize] != 0 {
             return false;
         }
     }
@@ -84,12 +105,12 @@ pub(crate) fn are_in(count: SampleCount, stored: &BlockSamples, masks: &[u64; 16
 }
 
 /// Whether each bit is in a block's masks or in these.
-pub(crate) fn are_all(count: SampleCount, stored: &BlockSamples, masks: &[u64; 16]) -> bool
+pub(crate) fn are_all(count: SampleCount, stored: &[u64; 16], masks: &[u64; 16]) -> bool
     ensures { IsTrue result → (s p : ℕ) → s < count_of count → p < 64 → bit_at (slice_index masks.now s) p ≢ 1 →
-        bit_at (the_mask stored.now s) p ≡ 1 }
+        bit_at (slice_index stored.now s) p ≡ 1 }
 {
     for s in 0..count.count() {
-        if mask_of(stored, s) | masks[s as usize] != u64::MAX {
+        if stored[s as usize] | masks[s as usize] != u64::MAX {
             return false;
         }
     }
@@ -97,29 +118,29 @@ pub(crate) fn are_all(count: SampleCount, stored: &BlockSamples, masks: &[u64; 1
 }
 
 /// The bits of a block's masks, and these.
-pub(crate) fn united(count: SampleCount, stored: &BlockSamples, masks: &[u64; 16]) -> [u64; 16]
+pub(crate) fn united(count: SampleCount, stored: &[u64; 16], masks: &[u64; 16]) -> [u64; 16]
     ensures more { (s p : ℕ) → s < count_of count → p < 64 → bit_at (slice_index masks.now s) p ≡ 1 →
         bit_at (slice_index result s) p ≡ 1 }
     ensures rest { (s p : ℕ) → s < count_of count → p < 64 → bit_at (slice_index masks.now s) p ≢ 1 →
-        bit_at (slice_index result s) p ≡ bit_at (the_mask stored.now s) p }
+        bit_at (slice_index result s) p ≡ bit_at (slice_index stored.now s) p }
 {
     let mut union = [0; 16];
     for s in 0..count.count() {
-        union[s as usize] = mask_of(stored, s) | masks[s as usize];
+        union[s as usize] = stored[s as usize] | masks[s as usize];
     }
     union
 }
 
 /// The bits of a block's masks that are not in these.
-pub(crate) fn without(count: SampleCount, stored: &BlockSamples, masks: &[u64; 16]) -> [u64; 16]
+pub(crate) fn without(count: SampleCount, stored: &[u64; 16], masks: &[u64; 16]) -> [u64; 16]
     ensures less { (s p : ℕ) → s < count_of count → p < 64 → bit_at (slice_index masks.now s) p ≡ 1 →
         bit_at (slice_index result s) p ≡ 0 }
     ensures rest { (s p : ℕ) → s < count_of count → p < 64 → bit_at (slice_index masks.now s) p ≢ 1 →
-        bit_at (slice_index result s) p ≡ bit_at (the_mask stored.now s) p }
+        bit_at (slice_index result s) p ≡ bit_at (slice_index stored.now s) p }
 {
     let mut rest = [0; 16];
     for s in 0..count.count() {
-        rest[s as usize] = mask_of(stored, s) & !masks[s as usize];
+        rest[s as usize] = stored[s as usize] & !masks[s as usize];
     }
     rest
 }

@@ -5,23 +5,16 @@ ghost use Rattle.std.specs.Int.{bit_at};
 ghost use Rattle.grid.specs.Samples.{count_of};
 ghost use Rattle.lanes.specs.Block.{stored_at};
 ghost use Rattle.canvas.specs.declared.way.Way.TheVariants.{Cleared as AsCleared, Single as AsSingle, Pair as AsPair};
-ghost use Rattle.canvas.specs.Layout.{planes_of_tile, block_in_tile, pixel_in_block, place_by as place_of_way, stored_in_tile, way_in_tile, mask_of as the_mask, chosen, in_list, HasMasks, AreReplaced, IsSameTile, KeepsOtherSamples, KeepsOtherWays};
+ghost use Rattle.canvas.specs.Layout.{planes_of_tile, block_in_tile, pixel_in_block, place_by as place_of_way, stored_in_tile, way_in_tile, chosen, in_list, HasMasks, AreReplaced, IsSameTile, KeepsOtherSamples, KeepsOtherWays};
 
-use crate::pair::{are_all, are_full, are_in, are_same, has_pairs, set_mask, united, without};
+use crate::pair::{
+    are_all, are_full, are_in, are_same, has_pairs, masks_of, set_masks, united, without,
+};
 use crate::place::place_by;
 use crate::tile_planes::{make_single, single_block};
 use crate::way::{Way, set_way, way_of};
 use grid::SampleCount;
 use lanes::BlockSamples;
-
-/// Has a plane have these masks.
-fn set_masks(count: SampleCount, masks: &[u64; 16], plane: &mut BlockSamples)
-    ensures { (s : ℕ) → s < count_of count → the_mask plane.new s ≡ slice_index masks.now s }
-{
-    for s in 0..count.count() {
-        set_mask(plane, s, masks[s as usize]);
-    }
-}
 
 /// Makes block `k` of a tile a pair of the planes that lie in the places of a pair's two: a sample is that of the second
 /// where the mask of its index has a bit, else that of the first.
@@ -113,20 +106,23 @@ pub fn replace_samples(
         make_pair(count, k, masks, samples);
         return true;
     }
-    let stored = &samples[place_by(count, Way::Pair, k, count.count() - 1)];
-    if are_in(count, stored, masks) {
+    let stored = masks_of(
+        count,
+        &samples[place_by(count, Way::Pair, k, count.count() - 1)],
+    );
+    if are_in(count, &stored, masks) {
         samples[second_place(count, k)] = *plane;
         make_pair(count, k, masks, samples);
         return true;
     }
-    if are_all(count, stored, masks) {
-        let rest = without(count, stored, masks);
+    if are_all(count, &stored, masks) {
+        let rest = without(count, &stored, masks);
         samples[place_by(count, Way::Pair, k, 0)] = *plane;
         make_pair(count, k, &rest, samples);
         return true;
     }
     if are_same(&samples[second_place(count, k)], plane) {
-        let union = united(count, stored, masks);
+        let union = united(count, &stored, masks);
         make_pair(count, k, &union, samples);
         return true;
     }

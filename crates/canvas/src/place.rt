@@ -1,16 +1,17 @@
 //! Where a sample is stored.
-ghost use Rattle.std.specs.Prelude.{◌≡◌, ◌≢◌, ◌↔◌, ℕ, ◌+◌, ◌*◌, ◌/◌, ◌%◌, ◌<◌, length, IsTrue, IsSome, IfSome};
+ghost use Rattle.std.specs.Prelude.{◌≡◌, ◌↔◌, true, false, ℕ, ◌+◌, ◌*◌, ◌/◌, ◌%◌, ◌<◌, length, IsTrue, IsSome, IfSome};
 ghost use Rattle.grid.specs.Samples.{count_of};
 ghost use Rattle.lanes.specs.Block.{stored_at};
-ghost use Rattle.canvas.specs.declared.way.Way.TheVariants.{Pair as AsPair};
-ghost use Rattle.canvas.specs.Layout.{HasPixel, HasTile, columns_of, planes_of_tile, planes_of_row, block_in_tile, pixel_in_block, block_in_tile as block_of, pixel_in_block as pixel_of_block, place_by as place_of_way, own_plane, masks_in, place_in_tile, in_list, stored, stored_in_tile, way_in_tile, way_in_row};
+ghost use Rattle.canvas.specs.Layout.{HasPixel, HasTile, columns_of, planes_of_tile, planes_of_row, block_in_tile, pixel_in_block, block_in_tile as block_of, pixel_in_block as pixel_of_block, place_by as place_of_way, flat_place as the_flat_place, slot_by, is_plain, own_plane, masks_in, place_in_tile, in_list, stored, stored_in_tile, way_in_tile, way_in_row};
 
 use crate::canvas::Canvas;
+use crate::flat_block::spread;
 use crate::pair::{mask_of, merged};
 use crate::tile_rows::TileRows;
 use crate::way::{Way, way_of};
 use grid::SampleCount;
 use lanes::BlockSamples;
+use shade::CanvasSample;
 
 /// The number of the block of pixel (i, j) among the 64 of its tile, row by row.
 #[inline]
@@ -30,8 +31,27 @@ pub(crate) fn pixel_in_block(i: u32, j: u32) -> usize
     (8 * (j % 8) + i % 8) as usize
 }
 
+/// The index of the plane with a sample of flat block `k` among the planes of its tile: with the first one if `n` is 0, and
+/// with the second one if `n` is half of the samples of a pixel.
+#[inline]
+fn flat_place(count: SampleCount, k: usize, n: u32) -> usize
+    requires block { k < 64 }
+    requires sample { n < count_of count }
+    ensures value { result ≡ the_flat_place count k n }
+    ensures within { result < planes_of_tile count }
+{
+    let n = n as usize;
+    match count {
+        SampleCount::One => 2 + k + n,
+        SampleCount::Two => 3 + 2 * k + n,
+        SampleCount::Four => 2 + n / 2,
+        SampleCount::Eight => 2 + n / 4,
+        SampleCount::Sixteen => 2 + n / 8,
+    }
+}
+
 /// The index of own plane `n` of block `k` among the planes of its tile, if it keeps its samples in this way: that of
-/// sample index `n`, unless the block is a pair.
+/// sample index `n`, unless the block is a pair; of a flat block that with its first or its second sample.
 #[inline]
 pub fn place_by(count: SampleCount, way: Way, k: usize, n: u32) -> usize
     requires block { k < 64 }
@@ -44,6 +64,8 @@ pub fn place_by(count: SampleCount, way: Way, k: usize, n: u32) -> usize
         Way::Cleared => 1,
         Way::Single => own,
         Way::Pair | Way::Own => own + n as usize,
+        Way::Flat => flat_place(count, k, 0),
+        Way::FlatPair => flat_place(count, k, n),
     }
 }
 
@@ -65,7 +87,7 @@ fn own_plane(
     ensures within { result < count_of count }
 {
     match way {
-        Way::Pair => {
+        Way::Pair | Way::Flat | Way::FlatPair => {
             let masks = &planes[place_by(count, Way::Own, k, count.count() - 1)];
             if (mask_of(masks, s) >> p) % 2 == 1 {
                 count.count() / 2
@@ -73,7 +95,7 @@ fn own_plane(
                 0
             }
         }
-        _ => s,
+        Way::Cleared | Way::Single | Way::Own => s,
     }
 }
 
@@ -97,7 +119,48 @@ pub(crate) fn place_in_tile(
     place_by(count, way, block, own)
 }
 
-/// A plane that has sample `s` of each pixel of block `k`, put together of two, if the block is kept as a pair.
+/// Sample `s` of pixel (i, j), as it is stored in these planes of its tile.
+pub(crate) fn sample_in_tile(
+    planes: &[BlockSamples],
+    count: SampleCount,
+    i: u32,
+    j: u32,
+    s: u32,
+) -> CanvasSample
+    requires sample { s < count_of count }
+    requires planes { length planes.now ≡ planes_of_tile count }
+    ensures { result ≡ stored_in_tile count planes.now i j s }
+{
+    let block = block_in_tile(i, j);
+    let slot = way_of(&planes[0], block).slot(block, pixel_in_block(i, j));
+    planes[place_in_tile(planes, count, i, j, s)].sample(slot)
+}
+
+/// The two planes of block `k` of a tile with these planes, if it is a pair. If it is flat, all samples of the first are its
+/// first sample, and all of the second its second one.
+pub(crate) fn two_planes(
+    count: SampleCount,
+    way: Way,
+    k: usize,
+    planes: &[BlockSamples],
+) -> (BlockSamples, BlockSamples)
+    requires way { is_plain way ≡ false }
+    requires block { k < 64 }
+    requires planes { length planes.now ≡ planes_of_tile count }
+    ensures first { (p : ℕ) → p < 64 → stored_at result.0 p ≡
+        stored_at (in_list planes.now (place_of_way count way k 0)) (slot_by way k p) }
+    ensures second { (p : ℕ) → p < 64 → stored_at result.1 p ≡
+        stored_at (in_list planes.now (place_of_way count way k (count_of count / 2))) (slot_by way k p) }
+{
+    let first = &planes[place_by(count, way, k, 0)];
+    let second = &planes[place_by(count, way, k, count.count() / 2)];
+    match way {
+        Way::Flat | Way::FlatPair => (spread(first.sample(k)), spread(second.sample(k))),
+        Way::Cleared | Way::Single | Way::Pair | Way::Own => (*first, *second),
+    }
+}
+
+/// A plane that has sample `s` of each pixel of block `k`, put together of two, if the block is a pair or flat.
 #[inline]
 pub(crate) fn merged_in_tile(
     planes: &[BlockSamples],
@@ -108,31 +171,29 @@ pub(crate) fn merged_in_tile(
     requires block { k < 64 }
     requires sample { s < count_of count }
     requires planes { length planes.now ≡ planes_of_tile count }
-    ensures some { IsSome result ↔ way_in_tile planes.now k ≡ AsPair }
+    ensures some { IsSome result ↔ is_plain (way_in_tile planes.now k) ≡ false }
     ensures merged { IfSome result (λ plane. (i j : ℕ) → block_in_tile i j ≡ k →
         stored_at plane (pixel_in_block i j) ≡ stored_in_tile count planes.now i j s) }
 {
-    if way_of(&planes[0], k) != Way::Pair {
+    let way = way_of(&planes[0], k);
+    if way.is_plain() {
         return None;
     }
-    let first = &planes[place_by(count, Way::Pair, k, 0)];
-    let second = &planes[place_by(count, Way::Pair, k, count.count() / 2)];
-    let masks = &planes[place_by(count, Way::Pair, k, count.count() - 1)];
-    Some(merged(first, second, mask_of(masks, s)))
+    let (first, second) = two_planes(count, way, k, planes);
+    let masks = &planes[place_by(count, Way::Own, k, count.count() - 1)];
+    Some(merged(&first, &second, mask_of(masks, s)))
 }
 
 impl Canvas {
-    /// The index of the plane of sample `s` of pixel (i, j) among those of its tile row. The pixels to its right in its
-    /// block have theirs there too, unless the block is kept as a pair.
+    /// The index of the plane of sample `s` of pixel (i, j) among those of its tile row, unless its block is a pair or flat.
+    /// The pixels to its right in its block have theirs there too.
     #[inline]
     pub(crate) fn place(&self, samples: &[BlockSamples], i: u32, j: u32, s: u32) -> usize
         requires column { i / 64 < columns_of self.now }
         requires sample { s < count_of self.now.count }
         requires samples { length samples.now ≡ planes_of_row self.now }
         ensures within { result < planes_of_row self.now }
-        ensures stored { stored_at (in_list samples.now result) (pixel_of_block i j) ≡
-            stored self.now (j / 64) samples.now i j s }
-        ensures row { way_in_row self.now samples.now i j ≢ AsPair → (k : ℕ) → i % 8 + k < 8 →
+        ensures row { is_plain (way_in_row self.now samples.now i j) ≡ true → (k : ℕ) → i % 8 + k < 8 →
             stored_at (in_list samples.now result) (8 * (j % 8) + (i % 8 + k)) ≡
             stored self.now (j / 64) samples.now (i + k) j s }
     {
@@ -142,7 +203,7 @@ impl Canvas {
     }
 
     /// A plane that has sample `s` of pixel (i, j) and of those to its right in its block, put together of two, if
-    /// the block is kept as a pair.
+    /// the block is a pair or flat.
     #[inline]
     pub(crate) fn merged(
         &self,
@@ -154,7 +215,7 @@ impl Canvas {
         requires column { i / 64 < columns_of self.now }
         requires sample { s < count_of self.now.count }
         requires samples { length samples.now ≡ planes_of_row self.now }
-        ensures some { IsSome result ↔ way_in_row self.now samples.now i j ≡ AsPair }
+        ensures some { IsSome result ↔ is_plain (way_in_row self.now samples.now i j) ≡ false }
         ensures row { IfSome result (λ plane. (k : ℕ) → i % 8 + k < 8 →
             stored_at plane (8 * (j % 8) + (i % 8 + k)) ≡ stored self.now (j / 64) samples.now (i + k) j s) }
     {

@@ -3,6 +3,7 @@ ghost use Rattle.std.specs.Prelude.{◌≡◌, ◌↔◌, ◌<◌, IsSome, IfSom
 ghost use Rattle.grid.specs.Samples.{count_of};
 ghost use Rattle.canvas.specs.Layout.{HasPixel, stored};
 
+use crate::place::sample_in_tile;
 use crate::view::View;
 use shade::CanvasSample;
 
@@ -22,7 +23,8 @@ impl View<'_> {
         let each = canvas.planes_of_row();
         let from = (j / 64 - self.rows.first) as usize * each;
         let planes = &self.planes[from..from + each];
-        let place = canvas.place(planes, i, j, s);
-        Some(planes[place].sample((8 * (j % 8) + i % 8) as usize))
+        let each = canvas.planes_of_tile();
+        let from = (i / 64) as usize * each;
+        Some(sample_in_tile(&planes[from..from + each], canvas.count, i, j, s))
     }
 }

@@ -1,15 +1,17 @@
 //! The planes of one tile. The first says in which way each of the tile's 64 blocks keeps its samples. Behind it lie
 //! those of the block to which the tile was cleared, and then those of its own blocks. So clearing a tile touches two
-//! of its planes, and a block whose pixels are alike in all samples can be kept in one.
-ghost use Rattle.std.specs.Prelude.{◌≡◌, ◌≢◌, ◌↔◌, ℕ, ◌%◌, ◌+◌, ◌*◌, ◌<◌, false, length, IsTrue};
+//! of its planes, and a block whose pixels are alike in all samples can be kept in one. With four samples a pixel or more
+//! two planes lie between that have the samples of flat blocks.
+ghost use Rattle.std.specs.Prelude.{◌≡◌, ◌≢◌, ◌↔◌, ℕ, ◌%◌, ◌+◌, ◌*◌, ◌<◌, true, false, length, IsTrue};
 ghost use Rattle.grid.specs.Samples.{count_of};
 ghost use Rattle.shade.specs.Canvas.{with_alpha};
 ghost use Rattle.lanes.specs.Block.{stored_at};
-ghost use Rattle.canvas.specs.declared.way.Way.TheVariants.{Cleared as AsCleared, Single as AsSingle, Pair as AsPair, Own as AsOwn};
-ghost use Rattle.canvas.specs.Layout.{planes_of_tile, block_in_tile, pixel_in_block, stored_in_tile, way_in_tile, IsSameTile, KeepsOtherSamples, KeepsOtherWays, AreOwnBy, KeepsOtherPlanes, in_list, place_by as place_of_way};
+ghost use Rattle.canvas.specs.declared.way.Way.TheVariants.{Cleared as AsCleared, Single as AsSingle, Own as AsOwn};
+ghost use Rattle.canvas.specs.Layout.{planes_of_tile, block_in_tile, pixel_in_block, stored_in_tile, way_in_tile, IsSameTile, KeepsOtherSamples, KeepsOtherWays, AreOwnBy, KeepsOtherPlanes, in_list, is_plain, place_by as place_of_way};
 
+use crate::flat_block::spread;
 use crate::pair::{mask_of, merged};
-use crate::place::place_by;
+use crate::place::{place_by, two_planes};
 use crate::way::{Way, all_cleared, says_cleared, says_own, set_all_own, set_way, way_of};
 use grid::SampleCount;
 use lanes::BlockSamples;
@@ -53,7 +55,8 @@ pub(crate) fn clear_tile(
 
 /// Copies the plane that stands for all samples of block `k` of a tile to each of its own planes.
 fn fill_alike(count: SampleCount, way: Way, k: usize, samples: &mut [BlockSamples])
-    requires way { (way ≢ AsPair) × (way ≢ AsOwn) }
+    requires plain { is_plain way ≡ true }
+    requires way { way ≢ AsOwn }
     requires block { k < 64 }
     requires samples { length samples.old ≡ planes_of_tile count }
     ensures own { AreOwnBy count way k samples.old samples.new }
@@ -65,16 +68,17 @@ fn fill_alike(count: SampleCount, way: Way, k: usize, samples: &mut [BlockSample
     }
 }
 
-/// Puts each of the own planes of block `k` of a tile together of the two planes of the pair.
-fn fill_pair(count: SampleCount, k: usize, samples: &mut [BlockSamples])
+/// Puts each of the own planes of block `k` of a tile together of the two planes of the pair, or of its two samples if it is
+/// flat.
+fn fill_pair(count: SampleCount, way: Way, k: usize, samples: &mut [BlockSamples])
+    requires way { is_plain way ≡ false }
     requires block { k < 64 }
     requires samples { length samples.old ≡ planes_of_tile count }
-    ensures own { AreOwnBy count AsPair k samples.old samples.new }
+    ensures own { AreOwnBy count way k samples.old samples.new }
     ensures others { KeepsOtherPlanes count k samples.old samples.new }
 {
-    let first = samples[place_by(count, Way::Pair, k, 0)];
-    let second = samples[place_by(count, Way::Pair, k, count.count() / 2)];
-    let masks = samples[place_by(count, Way::Pair, k, count.count() - 1)];
+    let (first, second) = two_planes(count, way, k, samples);
+    let masks = samples[place_by(count, Way::Own, k, count.count() - 1)];
     for s in 0..count.count() {
         samples[place_by(count, Way::Own, k, s)] = merged(&first, &second, mask_of(&masks, s));
     }
@@ -88,9 +92,10 @@ fn fill_planes(count: SampleCount, way: Way, k: usize, samples: &mut [BlockSampl
     ensures own { AreOwnBy count way k samples.old samples.new }
     ensures others { KeepsOtherPlanes count k samples.old samples.new }
 {
-    match way {
-        Way::Pair => fill_pair(count, k, samples),
-        _ => fill_alike(count, way, k, samples),
+    if way.is_plain() {
+        fill_alike(count, way, k, samples);
+    } else {
+        fill_pair(count, way, k, samples);
     }
 }
 
@@ -168,8 +173,13 @@ pub fn single_block(count: SampleCount, k: usize, samples: &mut [BlockSamples]) 
             make_single(count, k, &plane, samples);
             true
         }
+        Way::Flat => {
+            let plane = spread(samples[place_by(count, Way::Flat, k, 0)].sample(k));
+            make_single(count, k, &plane, samples);
+            true
+        }
         Way::Single => true,
-        Way::Pair | Way::Own => false,
+        Way::Pair | Way::Own | Way::FlatPair => false,
     }
 }
 

@@ -1,7 +1,7 @@
 //! The ways in which the blocks of a tile keep their samples, as its first plane says them.
 ghost use Rattle.std.specs.Prelude.{◌≡◌, ◌≢◌, ◌↔◌, ℕ, ◌<◌, slice_index, IsTrue};
-ghost use Rattle.canvas.specs.declared.way.Way.TheVariants.{Cleared as AsCleared, Pair as AsPair, Own as AsOwn};
-ghost use Rattle.canvas.specs.Layout.{way_of as the_way};
+ghost use Rattle.canvas.specs.declared.way.Way.TheVariants.{Cleared as AsCleared, Own as AsOwn};
+ghost use Rattle.canvas.specs.Layout.{way_of as the_way, is_plain as plain, slot_by};
 
 use lanes::BlockSamples;
 use shade::Sample;
@@ -17,17 +17,36 @@ pub enum Way {
     Pair,
     /// In its own planes, one for each sample of a pixel.
     Own,
+    /// In one sample, which stands for all samples of all of its pixels.
+    Flat,
+    /// In two samples. Masks in one of its own planes say which of the two a sample of a pixel is.
+    FlatPair,
 }
 
 impl Way {
-    /// Whether one plane stands for all samples of the block's pixels.
+    /// Whether the block has its samples of an index in one plane, each at the number of its pixel.
     #[inline]
-    pub(crate) fn is_alike(self) -> bool
-        ensures { IsTrue result ↔ (self ≢ AsPair) × (self ≢ AsOwn) }
+    pub(crate) fn is_plain(self) -> bool
+        ensures { result ≡ plain self }
     {
         match self {
-            Way::Cleared | Way::Single => true,
-            Way::Pair | Way::Own => false,
+            Way::Cleared | Way::Single | Way::Own => true,
+            Way::Pair | Way::Flat | Way::FlatPair => false,
+        }
+    }
+
+    /// The number of the sample of pixel `p` of block `k` in its plane: that of the pixel, but that of the block if it is
+    /// flat.
+    #[inline]
+    pub(crate) fn slot(self, k: usize, p: usize) -> usize
+        requires block { k < 64 }
+        requires pixel { p < 64 }
+        ensures value { result ≡ slot_by self k p }
+        ensures within { result < 64 }
+    {
+        match self {
+            Way::Cleared | Way::Single | Way::Pair | Way::Own => p,
+            Way::Flat | Way::FlatPair => k,
         }
     }
 }
@@ -40,6 +59,12 @@ const SINGLE: u8 = 2;
 
 /// The red byte of a block that is kept as a pair.
 const PAIR: u8 = 3;
+
+/// The red byte of a block that is kept in one sample.
+const FLAT: u8 = 4;
+
+/// The red byte of a block that is kept in two samples.
+const FLAT_PAIR: u8 = 5;
 
 /// The red byte of a block that is kept in its own planes. So is one with any other byte.
 const OWN: u8 = 0;
@@ -57,6 +82,8 @@ pub(crate) fn way_of(state: &BlockSamples, k: usize) -> Way
         CLEARED => Way::Cleared,
         SINGLE => Way::Single,
         PAIR => Way::Pair,
+        FLAT => Way::Flat,
+        FLAT_PAIR => Way::FlatPair,
         _ => Way::Own,
     }
 }
@@ -120,5 +147,7 @@ pub(crate) fn set_way(state: &mut BlockSamples, k: usize, way: Way)
         Way::Single => SINGLE,
         Way::Pair => PAIR,
         Way::Own => OWN,
+        Way::Flat => FLAT,
+        Way::FlatPair => FLAT_PAIR,
     };
 }

@@ -1,5 +1,5 @@
 -- A block that is drawn whole, of which one plane is as good as its own.
-use Rattle.std.proofs.Common.{◌≡◌, ◌∙◌, inl, inr, sym, subst, ap, arith, ℕ, ◌+◌, ◌<◌, List, take, drop, slice_index}
+use Rattle.std.proofs.Common.{◌≡◌, ◌∙◌, inl, inr, refl, sym, subst, ap, arith, ℕ, ◌+◌, ◌<◌, List, take, drop, slice_index}
 use Rattle.std.specs.Prelude.{slice_index_or}
 use Rattle.grid.specs.Position.{Position}
 use Rattle.grid.specs.Samples.{count_of}
@@ -16,7 +16,6 @@ use Rattle.canvas.proofs.Cut.{part_of}
 use Rattle.canvas.proofs.Places.{none}
 use Rattle.canvas.proofs.Shown.{always, merged_alike}
 use Rattle.canvas.proofs.TilePlanes.{by_way, cases_eq}
-use Rattle.canvas.proofs.Ways.{own_not_pair}
 use Rattle.painting.specs.Parts.{DrawsAlike, KeepsOtherBlocks}
 
 -- the triangle that replaces colours makes the same of samples of the same depth and alpha
@@ -52,7 +51,7 @@ module _ (t : Placed) (count : SampleCount) (k first n : ℕ) (old new : List Bl
 
     own_is : stored_in_tile count old i j s ≡ stored_at (plane s) (pixel_in_block i j)
     own_is =
-        by_way count old Own i j s own_not_pair (ap (way_in_tile old) here ∙ own)
+        by_way count old Own i j s refl (ap (way_in_tile old) here ∙ own)
         ∙ ap (λ m. stored_at (slice_index_or old (place_by count Own m s) none) (pixel_in_block i j)) here
         ∙ ap (λ q. stored_at (slice_index_or old q none) (pixel_in_block i j)) (let e : place_by count Own k s ≡ first + s = omega (arith, at) in e)
         ∙ ap (λ (p : BlockSamples). stored_at p (pixel_in_block i j)) (sym (plane_is s h))

@@ -6,6 +6,7 @@ pub mod Tiles
 pub mod BlocksAlike
 pub mod OnePlane
 pub mod PairBlocks
+pub mod FlatBlocks
 pub mod Columns
 pub mod Strips
 pub mod RowMasks

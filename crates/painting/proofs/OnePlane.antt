@@ -1,5 +1,5 @@
 -- A plane of a tile that stands for all samples of its pixels.
-use Rattle.std.proofs.Common.{◌≡◌, ◌≢◌, inl, inr, sym, subst, ap, ◌∙◌, arith, zero, suc, ℕ, ◌+◌, ◌-◌, ◌*◌, ◌/◌, ◌%◌, ◌^◌, ◌<◌, ◌≤◌, List, [], ◌∷◌, length, take, drop, slice_index, IsBitSet}
+use Rattle.std.proofs.Common.{true, false, refl, ◌≡◌, ◌≢◌, inl, inr, sym, subst, ap, ◌∙◌, arith, zero, suc, ℕ, ◌+◌, ◌-◌, ◌*◌, ◌/◌, ◌%◌, ◌^◌, ◌<◌, ◌≤◌, List, [], ◌∷◌, length, take, drop, slice_index, IsBitSet}
 use Rattle.std.specs.Prelude.{slice_index_or}
 use Rattle.grid.specs.Samples.{count_of, sample_position}
 use Rattle.grid.specs.declared.pixels.PixelBox.{PixelBox}
@@ -18,18 +18,17 @@ use Rattle.raster.specs.Region.{HoldsTile}
 use Rattle.raster.specs.Samples.{IsSampleOf, place_of as place_in, stored as in_tile}
 use Rattle.raster.proofs.Rows.{word_full}
 use Rattle.canvas.specs.declared.way.Way.{Way}
-use Rattle.canvas.specs.declared.way.Way.TheVariants.{Cleared, Single, Pair, Own}
-use Rattle.canvas.specs.Layout.{stored_in_tile, block_in_tile, pixel_in_block, in_list, place_by, place_in_tile, sample_place, masks_place, masks_in, own_plane, way_of, way_in_tile}
+use Rattle.canvas.specs.declared.way.Way.TheVariants.{Cleared, Single, Own}
+use Rattle.canvas.specs.Layout.{stored_in_tile, block_in_tile, pixel_in_block, in_list, place_by, place_in_tile, sample_place, masks_place, masks_in, mask_of, own_plane, slot_by, is_plain, way_of, way_in_tile}
 use Rattle.canvas.proofs.Cut.{put, put_here, put_elsewhere, part_of}
-use Rattle.canvas.proofs.Places.{none, last_sample, within_block}
-use Rattle.canvas.proofs.TilePlanes.{cases_eq, apart, same_place_by}
-use Rattle.canvas.proofs.Ways.{single_not_cleared}
+use Rattle.canvas.proofs.Places.{none, last_sample, within_block, slot_below}
+use Rattle.canvas.proofs.TilePlanes.{cases_eq, has_own, apart, same_place_by}
 use Rattle.grid.specs.declared.sample_count.SampleCount.{SampleCount}
 use Rattle.painting.specs.declared.masks.Masks.{Masks}
 use Rattle.painting.specs.Parts.{block_mask, number_in_tile, AllowsTile, IsAllowed, IsInBlock, IsKeptAt, HasNoMasks, KeepsPlanesBut, DrawsPlane, TilePaints, DrawsAlike, KeepsOtherBlocks}
 use Rattle.painting.proofs.Joined.{tile_same}
 use Rattle.painting.proofs.Screen.{IsAlikeOverScreen}
-use Rattle.painting.proofs.Tiles.{in_block, of_block}
+use Rattle.painting.proofs.Tiles.{on_screen, in_block, of_block}
 
 -- the state lets each sample of the tile be drawn
 pub allowed_all : (state : State) (tile : Tile) → AllowsTile state tile → (row column s : ℕ) → IsSampleOf tile row column s → IsAllowed state tile row column s
@@ -101,7 +100,7 @@ pub same_places : (count : SampleCount) (q : ℕ) (xs after : List BlockSamples)
 same_places count q xs after first others no_masks i j s =
     let k : ℕ = block_in_tile i j in
     ap (λ (state : BlockSamples). sample_place count (way_of state k) (in_list after) k (pixel_in_block i j) s) (others 0 (λ e. omega (arith, e, first)))
-    ∙ same_place_by count (way_in_tile xs k) xs after k (pixel_in_block i j) s (λ pair. others (masks_place count k) (no_masks k (omega arith) pair))
+    ∙ same_place_by count (way_in_tile xs k) xs after k (pixel_in_block i j) s (λ masked. ap (λ plane. mask_of plane s) (others (masks_place count k) (no_masks k (omega arith) masked)))
 
 -- ---- plane q of a tile, put back with the triangle drawn at it
 module _ (t : Placed) (tile : Tile) (side : tile.side ≡ T64) (q : ℕ) (xs part : List BlockSamples) (n : ℕ) (single : n ≡ 1) (first : 1 ≤ q) (fits : q + n ≤ length xs) (long : length part ≡ n)
@@ -122,29 +121,36 @@ module _ (t : Placed) (tile : Tile) (side : tile.side ≡ T64) (q : ℕ) (xs par
   same_here = same_places tile.count q xs after first others_kept no_masks
 
   module _ (row column s : ℕ) (h : IsSampleOf tile row column s) where
-    across : 8 * tile.bx + column < 4096
-    across = let aligned = rw side at tile.column.aligned in let wide = rw side at h.wide in omega (arith, aligned, tile.column.on_screen, wide)
+    seen : (8 * tile.bx + column < 4096) × (8 * tile.by + row < 4096)
+    seen = on_screen tile side tile.bx tile.by row column s h
 
-    down : 8 * tile.by + row < 4096
-    down = let aligned = rw side at tile.row.aligned in let high = rw side at h.high in omega (arith, aligned, tile.row.on_screen, high)
+    -- the sample's number in its plane
+    abbrev slot_there : ℕ
+    slot_there = slot_by (way_in_tile xs (block_in_tile column row)) (block_in_tile column row) (pixel_in_block column row)
+
+    same_slot : stored_in_tile tile.count after column row s ≡ stored_at (in_list after (place_in_tile tile.count (in_list after) column row s)) slot_there
+    same_slot =
+        ap (λ (state : BlockSamples). stored_at (in_list after (place_in_tile tile.count (in_list after) column row s)) (slot_by (way_of state (block_in_tile column row)) (block_in_tile column row) (pixel_in_block column row)))
+        (others_kept 0 (λ e. omega (arith, e, first)))
 
     -- a sample that is kept there
     pub drawn_there : place_in_tile tile.count (in_list xs) column row s ≡ q
         → IsCanvasDrawnAt t (sample_position (8 * tile.bx + column) (8 * tile.by + row) s tile.count) (stored_in_tile tile.count xs column row s) (stored_in_tile tile.count after column row s)
     drawn_there at =
-        let pixel : ℕ = pixel_in_block column row in
+        let pixel : ℕ = slot_there in
         let old_is : stored_in_tile tile.count xs column row s ≡ stored_at (in_list xs q) pixel = ap (λ k. stored_at (in_list xs k) pixel) at in
-        let new_is : stored_in_tile tile.count after column row s ≡ stored_at (in_list after q) pixel = ap (λ k. stored_at (in_list after k) pixel) (same_here column row s ∙ at) in
+        let new_is : stored_in_tile tile.count after column row s ≡ stored_at (in_list after q) pixel = same_slot ∙ ap (λ k. stored_at (in_list after k) pixel) (same_here column row s ∙ at) in
         let there = sample_position (8 * tile.bx + column) (8 * tile.by + row) s tile.count in
         subst (λ (x : CanvasSample). IsCanvasDrawnAt t there x (stored_in_tile tile.count after column row s)) (ap (λ (p : BlockSamples). stored_at p pixel) old_plane ∙ sym old_is)
         (subst (λ (y : CanvasSample). IsCanvasDrawnAt t there (stored_at (in_list (take n (drop q xs)) 0) pixel) y) (ap (λ (p : BlockSamples). stored_at p pixel) new_plane ∙ sym new_is)
-        (draws tile.count (8 * tile.bx + column) (8 * tile.by + row) s pixel across down (omega arith)))
+        (draws tile.count (8 * tile.bx + column) (8 * tile.by + row) s pixel seen.0 seen.1 (slot_below (way_in_tile xs (block_in_tile column row)) (block_in_tile column row) (pixel_in_block column row) (omega arith) (omega arith))))
 
     -- a sample that is kept elsewhere
     pub kept_elsewhere : place_in_tile tile.count (in_list xs) column row s ≢ q → stored_in_tile tile.count after column row s ≡ stored_in_tile tile.count xs column row s
     kept_elsewhere other =
-        let pixel : ℕ = pixel_in_block column row in
-        ap (λ k. stored_at (in_list after k) pixel) (same_here column row s)
+        let pixel : ℕ = slot_there in
+        same_slot
+        ∙ ap (λ k. stored_at (in_list after k) pixel) (same_here column row s)
         ∙ ap (λ (p : BlockSamples). stored_at p pixel) (others_kept (place_in_tile tile.count (in_list xs) column row s) other)
 
   pub plane_painted : TilePaints t tile (IsKeptAt tile.count xs q) xs after
@@ -152,7 +158,7 @@ module _ (t : Placed) (tile : Tile) (side : tile.side ≡ T64) (q : ℕ) (xs par
 
 -- ---- of a block that is kept in one plane
 -- a sample of another block is kept elsewhere
-pub place_apart : (count : SampleCount) (xs : List BlockSamples) (way : Way) (i j s k n : ℕ) → block_in_tile i j ≢ k → s < count_of count → n < count_of count → way ≢ Cleared
+pub place_apart : (count : SampleCount) (xs : List BlockSamples) (way : Way) (i j s k n : ℕ) → block_in_tile i j ≢ k → s < count_of count → n < count_of count → has_own way ≡ true
     → place_in_tile count (in_list xs) i j s ≢ place_by count way k n
 place_apart count xs way i j s k n other h l own =
     let m : ℕ = block_in_tile i j in
@@ -160,11 +166,11 @@ place_apart count xs way i j s k n other h l own =
     apart count w way m k (own_plane count w (masks_in count (in_list xs) m) (pixel_in_block i j) s) n other (within_block count w (masks_in count (in_list xs) m) (pixel_in_block i j) s h) l own
 
 -- and so are the masks of another block, and those of this one are not in its other planes
-pub no_masks_at : (count : SampleCount) (xs : List BlockSamples) (way : Way) (k n : ℕ) → n < count_of count → way ≢ Cleared → (way_in_tile xs k ≡ Pair → masks_place count k ≢ place_by count way k n)
+pub no_masks_at : (count : SampleCount) (xs : List BlockSamples) (way : Way) (k n : ℕ) → n < count_of count → has_own way ≡ true → (is_plain (way_in_tile xs k) ≡ false → masks_place count k ≢ place_by count way k n)
     → HasNoMasks count xs (place_by count way k n)
 no_masks_at count xs way k n l own here m small pair e =
     elim (cases_eq m k) [
-      | inl same ↦ here (ap (way_in_tile xs) (sym same) ∙ pair) (ap (masks_place count) (sym same) ∙ e)
+      | inl same ↦ here (ap (λ b. is_plain (way_in_tile xs b)) (sym same) ∙ pair) (ap (masks_place count) (sym same) ∙ e)
       | inr other ↦ apart count Own way m k (count_of count - 1) n other (last_sample count) l own e
     ]
 
@@ -183,7 +189,7 @@ module _ (t : Placed) (tile : Tile) (side : tile.side ≡ T64) (bx by : ℕ) (bl
       ∙ ap (λ (way : Way). sample_place tile.count way (in_list xs) (number_in_tile tile bx by) (pixel_in_block column row) s) single)
       (λ row column s h at. elim (cases_eq (block_in_tile column row) (number_in_tile tile bx by)) [
         | inl here ↦ of_block tile side bx by row column s h left (omega (arith, right)) top (omega (arith, bottom)) here
-        | inr other ↦ absurd (place_apart tile.count xs Single column row s (number_in_tile tile bx by) 0 other h.is_sample (some_samples tile.count) single_not_cleared at)
+        | inr other ↦ absurd (place_apart tile.count xs Single column row s (number_in_tile tile bx by) 0 other h.is_sample (some_samples tile.count) refl at)
       ])
 
 -- ---- of a tile all of whose blocks are kept as the one to which it was cleared

@@ -1,5 +1,5 @@
 -- What is drawn at blocks that are kept as pairs.
-use Rattle.std.proofs.Common.{◌≡◌, ◌≢◌, ◌∙◌, inl, inr, sym, subst, ap, arith, ℕ, ◌+◌, ◌-◌, ◌*◌, ◌/◌, ◌<◌, ◌≤◌, List, slice_index}
+use Rattle.std.proofs.Common.{refl, ◌≡◌, ◌≢◌, ◌∙◌, inl, inr, sym, subst, ap, arith, ℕ, ◌+◌, ◌-◌, ◌*◌, ◌/◌, ◌<◌, ◌≤◌, List, slice_index}
 use Rattle.std.specs.Prelude.{◌==◌, if◌then◌else◌}
 use Rattle.std.specs.Int.{bit_at}
 use Rattle.std.proofs.lemmas.Bool.Decides.{eqb_tells}
@@ -19,23 +19,22 @@ use Rattle.raster.proofs.Bits.{is_one, is_set}
 use Rattle.canvas.specs.declared.way.Way.{Way}
 use Rattle.canvas.specs.declared.way.Way.TheVariants.{Pair}
 use Rattle.canvas.specs.Hidden.{ReplacesColours}
-use Rattle.canvas.specs.Layout.{block_in_tile, pixel_in_block, in_list, place_by, place_in_tile, sample_place, mask_of as mask_in, masks_in, own_plane, stored_in_tile, way_in_tile, HasMasks, AreReplaced, KeepsOtherSamples}
+use Rattle.canvas.specs.Layout.{block_in_tile, pixel_in_block, in_list, place_by, place_in_tile, sample_place, slot_by, mask_of as mask_in, masks_in, own_plane, stored_in_tile, way_in_tile, HasMasks, AreReplaced, KeepsOtherSamples}
 use Rattle.canvas.proofs.Places.{middle_sample}
 use Rattle.canvas.proofs.TilePlanes.{cases_eq}
-use Rattle.canvas.proofs.Ways.{pair_not_cleared}
 use Rattle.painting.specs.declared.masks.Masks.{Masks}
 use Rattle.painting.specs.Parts.{block_mask, number_in_tile, AllowsTile, IsInWords, IsInBlock, IsKeptAt, HasNoMasks, KeepsPlanesBut, DrawsPlane, TilePaints}
 use Rattle.painting.proofs.BlocksAlike.{drawn_alike}
 use Rattle.painting.proofs.Joined.{tile_same, tile_joined}
 use Rattle.painting.proofs.OnePlane.{allowed_all, no_masks_at, place_apart, same_places}
-use Rattle.painting.proofs.Tiles.{in_block, of_block}
+use Rattle.painting.proofs.Tiles.{on_screen, in_block, of_block}
 
 -- ---- the planes of a pair
 pub no_masks_first : (count : SampleCount) (xs : List BlockSamples) (k : ℕ) → 4 ≤ count_of count → HasNoMasks count xs (place_by count Pair k 0)
-no_masks_first count xs k some = no_masks_at count xs Pair k 0 (some_samples count) pair_not_cleared (λ pair e. omega (arith, e, some))
+no_masks_first count xs k some = no_masks_at count xs Pair k 0 (some_samples count) refl (λ pair e. omega (arith, e, some))
 
 pub no_masks_second : (count : SampleCount) (xs : List BlockSamples) (k : ℕ) → 4 ≤ count_of count → HasNoMasks count xs (place_by count Pair k (count_of count / 2))
-no_masks_second count xs k some = no_masks_at count xs Pair k (count_of count / 2) (middle_sample count) pair_not_cleared (λ pair e. omega (arith, e, some))
+no_masks_second count xs k some = no_masks_at count xs Pair k (count_of count / 2) (middle_sample count) refl (λ pair e. omega (arith, e, some))
 
 pair_place : (count : SampleCount) (xs : List BlockSamples) (i j s k : ℕ) → block_in_tile i j ≡ k → way_in_tile xs k ≡ Pair
     → place_in_tile count (in_list xs) i j s ≡ place_by count Pair k (own_plane count Pair (masks_in count (in_list xs) k) (pixel_in_block i j) s)
@@ -114,7 +113,7 @@ module _ (t : Placed) (tile : Tile) (side : tile.side ≡ T64) (bx by : ℕ) (bl
       (with_bit tile.count (masks_in tile.count (in_list mid) number) p_in s (ap (λ w. bit_at w p_in) (has s h.is_sample) ∙ p.in_words)))
       (λ row column s h at. elim (cases_eq (block_in_tile column row) number) [
         | inl here ↦ second_in row column s h at here
-        | inr other ↦ absurd (place_apart tile.count mid Pair column row s number (count_of tile.count / 2) other h.is_sample (middle_sample tile.count) pair_not_cleared at)
+        | inr other ↦ absurd (place_apart tile.count mid Pair column row s number (count_of tile.count / 2) other h.is_sample (middle_sample tile.count) refl at)
       ])
 
 -- ---- drawn in both planes
@@ -142,11 +141,11 @@ module _ (t : Placed) (tile : Tile) (side : tile.side ≡ T64) (bx by : ℕ) (bl
       ])
       (λ row column s h at. elim (cases_eq (block_in_tile column row) its) [
         | inl here ↦ square_of tile side bx by block row column s h here
-        | inr other ↦ absurd (place_apart tile.count old Pair column row s its 0 other h.is_sample (some_samples tile.count) pair_not_cleared at)
+        | inr other ↦ absurd (place_apart tile.count old Pair column row s its 0 other h.is_sample (some_samples tile.count) refl at)
       ])
       (λ row column s h at. elim (cases_eq (block_in_tile column row) its) [
         | inl here ↦ square_of tile side bx by block row column s h here
-        | inr other ↦ absurd (place_apart tile.count mid Pair column row s its (count_of tile.count / 2) other h.is_sample (middle_sample tile.count) pair_not_cleared at)
+        | inr other ↦ absurd (place_apart tile.count mid Pair column row s its (count_of tile.count / 2) other h.is_sample (middle_sample tile.count) refl at)
       ])
 
 -- ---- stored in place of the samples in the masks
@@ -169,26 +168,24 @@ module _ (t : Placed) (tile : Tile) (side : tile.side ≡ T64) (bx by : ℕ) (bl
     abbrev pixel : ℕ
     pixel = pixel_in_block column row
 
-    on_screen : (8 * tile.bx + column < 4096) × (8 * tile.by + row < 4096)
-    on_screen =
-        let across = rw side at tile.column.aligned in
-        let down = rw side at tile.row.aligned in
-        let wide = rw side at h.wide in
-        let high = rw side at h.high in
-        (omega (arith, across, tile.column.on_screen, wide), omega (arith, down, tile.row.on_screen, high))
+    seen : (8 * tile.bx + column < 4096) × (8 * tile.by + row < 4096)
+    seen = on_screen tile side bx by row column s h
 
     -- the stored sample is that of one of the two planes
     drawn_over : block_in_tile column row ≡ this → IsCanvasDrawnAt t (sample_position (8 * tile.bx + column) (8 * tile.by + row) s tile.count) (stored_in_tile tile.count old column row s) (stored_at plane pixel)
     drawn_over here =
         let marks = masks_in tile.count (in_list old) this in
         let position = sample_position (8 * tile.bx + column) (8 * tile.by + row) s tile.count in
-        let over_first = drawn tile.count (8 * tile.bx + column) (8 * tile.by + row) s pixel on_screen.0 on_screen.1 (omega arith) in
+        let over_first = drawn tile.count (8 * tile.bx + column) (8 * tile.by + row) s pixel seen.0 seen.1 (omega arith) in
         let over_second = drawn_alike t tile.count position (stored_at first_plane pixel) (stored_at second_plane pixel) (stored_at plane pixel) replaces
         (ap (λ (z : List ℕ). slice_index z pixel) (sym same.0)) (ap (λ (alpha : List ℕ). slice_index alpha pixel) (sym same.1)) over_first in
         let place = pair_place tile.count old column row s this here pair in
+        let stored_is : stored_in_tile tile.count old column row s ≡ stored_at (in_list old (place_in_tile tile.count (in_list old) column row s)) pixel =
+        ap (λ way. stored_at (in_list old (place_in_tile tile.count (in_list old) column row s)) (slot_by way (block_in_tile column row) pixel)) (ap (way_in_tile old) here ∙ pair) in
+        let drawn_at = λ (n : ℕ) (e : place_in_tile tile.count (in_list old) column row s ≡ n). subst (λ (x : CanvasSample). IsCanvasDrawnAt t position x (stored_at plane pixel)) (sym (stored_is ∙ ap (λ n. stored_at (in_list old n) pixel) e)) in
         elim (cases_eq (bit_at (mask_in marks s) pixel) 1) [
-          | inl set ↦ subst (λ (n : ℕ). IsCanvasDrawnAt t position (stored_at (in_list old n) pixel) (stored_at plane pixel)) (sym (place ∙ ap (place_by tile.count Pair this) (with_bit tile.count marks pixel s set))) over_second
-          | inr clear ↦ subst (λ (n : ℕ). IsCanvasDrawnAt t position (stored_at (in_list old n) pixel) (stored_at plane pixel)) (sym (place ∙ ap (place_by tile.count Pair this) (without_bit tile.count marks pixel s clear))) over_first
+          | inl set ↦ drawn_at _ (place ∙ ap (place_by tile.count Pair this) (with_bit tile.count marks pixel s set)) over_second
+          | inr clear ↦ drawn_at _ (place ∙ ap (place_by tile.count Pair this) (without_bit tile.count marks pixel s clear)) over_first
         ]
 
     in_words_is : IsInWords tile bx by words row column s

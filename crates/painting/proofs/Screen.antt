@@ -1,5 +1,5 @@
 -- The triangle that covers the screen, and what it makes of a sample.
-use Rattle.std.proofs.Common.{◌≡◌, ◌∙◌, inl, inr, refl, sym, ap, subst, arith, Bool, false, true, ℕ, ◌+◌, ◌*◌, ◌<◌, List, slice_index, ℤ, pos, negsuc, ◌-ℤ◌, ◌*ℤ◌, ◌<ℤ◌}
+use Rattle.std.proofs.Common.{IsTrue, ◌≤◌, ◌≡◌, ◌∙◌, inl, inr, refl, sym, ap, subst, arith, Bool, false, true, ℕ, ◌+◌, ◌*◌, ◌<◌, List, slice_index, ℤ, pos, negsuc, ◌-ℤ◌, ◌*ℤ◌, ◌<ℤ◌}
 use Rattle.std.specs.Prelude.{if◌then◌else◌, slice_index_or}
 use Rattle.std.proofs.lemmas.Bool.Decides.{eqb_tells}
 use Rattle.std.proofs.lemmas.Int.{ints}
@@ -19,19 +19,24 @@ use Rattle.shade.specs.declared.operands.Operands.{Operands}
 use Rattle.shade.specs.declared.placed.Placed.{Placed}
 use Rattle.shade.specs.declared.sample.Merge.{Merge}
 use Rattle.shade.specs.Blend.{factor, IsBlended, IsCombined}
-use Rattle.shade.specs.Merging.{operands_of, IsWritten, IsChannelMerged}
+use Rattle.shade.specs.Merging.{operands_of, Writes, IsWritten, IsChannelMerged}
 use Rattle.shade.specs.declared.sample.CanvasSample.{CanvasSample}
 use Rattle.shade.specs.declared.sample.Shaded.{Shaded}
 use Rattle.shade.specs.Canvas.{IsCanvasApplied}
 use Rattle.shade.specs.Placed.{channel, rgba_of, IsFragmentAt}
 use Rattle.shade.specs.Canvas.{IsCanvasDrawnAt}
 use Rattle.shade.proofs.Drawn.{fragment-unique}
+use Rattle.shade.proofs.Blended.{replace_is}
+use Rattle.shade.specs.Presets.{replace}
+use Rattle.shade.specs.declared.state.State.{State}
 use Rattle.canvas.proofs.Flat.{flat_value, IsFlat}
+use Rattle.canvas.proofs.Shown.{always}
+use Rattle.canvas.specs.Hidden.{ReplacesColours}
 use Rattle.canvas.specs.declared.window.Origin.{Origin}
 use Rattle.polygons.proofs.Samples.{offset_x, offset_y}
 use Rattle.painting.specs.declared.polygon.Polygon.{Polygon}
 use Rattle.painting.specs.Painting.{fragment_of, shape_of}
-use Rattle.painting.specs.Parts.{opaque_factor, factor_by, equation_by, merge_by, over_screen, CoversScreen, FillsScreen}
+use Rattle.painting.specs.Parts.{opaque_factor, factor_by, equation_by, merge_by, over_screen, CoversScreen, FillsScreen, DrawsSample}
 
 abbrev a : Position
 a = record { x = negsuc 0; y = negsuc 0 }
@@ -95,7 +100,7 @@ pub fills_screen : (polygon : Polygon) (origin : Origin) → FillsScreen (over_s
 fills_screen polygon origin = record { tri = refl; z = (refl, refl); rgba = (refl, refl) }
 
 -- the fragment is the same at each sample that is covered
-abbrev fragment : Placed → Shaded
+abbrev pub fragment : Placed → Shaded
 fragment t = let c = rgba_of t 0 in record { r = slice_index c 0; g = slice_index c 1; b = slice_index c 2; a = slice_index c 3; z = slice_index t.z 0 }
 
 fragment_there : (t : Placed) → FillsScreen t → (p : Position) → Covers t.tri.a t.tri.b t.tri.c p → IsFragmentAt t p (fragment t)
@@ -108,6 +113,32 @@ fragment_there t fills p h =
       blue = flat_value t p (channel t 2) _ (flat 2) h;
       alpha = flat_value t p (channel t 3) _ (flat 3) h;
     }
+
+pub drawn_anywhere : (t : Placed) (old new : CanvasSample) → FillsScreen t → IsCanvasApplied t.state.merge (fragment t) old new → DrawsSample t old new
+drawn_anywhere t old new fills applied count i j s h l = (fragment t, fragment_there t fills (sample_position i j s count) (covers_screen t fills count i j s h l), applied)
+
+-- ---- of a triangle that replaces colours, and writes neither depth nor alpha
+written_replaced : (w : Bool) (e : Equation) (o : Operands) → IsTrue w → e ≡ replace → o.source ≤ 255 → IsWritten w (IsBlended e Colour o) o.stored o.source
+written_replaced w e o is plain small = rw (is, plain) ((replace_is o o.source small).0 refl)
+
+channel_replaced : (m : Merge) (k source alpha stored_alpha stored : ℕ) → Writes m k → m.blend.colour ≡ replace → source ≤ 255 → IsChannelMerged m k source alpha stored_alpha stored source
+channel_replaced m k source alpha stored_alpha stored is plain small = written_replaced (slice_index_or m.write k false) m.blend.colour (operands_of m k source alpha stored_alpha stored) is plain small
+
+alpha_kept : (w : Bool) (P : ℕ → Type 0) (old : ℕ) → w ≡ false → IsWritten w P old old
+alpha_kept w P old is = rw is refl
+
+pub colour_replaced : (s : State) (count : SampleCount) (f : Shaded) (old : CanvasSample) → ReplacesColours s count → s.merge.depth_write ≡ false → s.merge.blend.write_alpha ≡ false → f.r ≤ 255 → f.g ≤ 255 → f.b ≤ 255
+    → IsCanvasApplied s.merge f old (record { r = f.r; g = f.g; b = f.b; alpha = old.alpha; z = old.z })
+colour_replaced s count f old replaces depth alpha red green blue = record {
+  passed = λ _. record {
+    red = channel_replaced s.merge 0 f.r f.a old.alpha old.r replaces.red replaces.plain red;
+    green = channel_replaced s.merge 1 f.g f.a old.alpha old.g replaces.green replaces.plain green;
+    blue = channel_replaced s.merge 2 f.b f.a old.alpha old.b replaces.blue replaces.plain blue;
+    alpha = alpha_kept s.merge.blend.write_alpha _ old.alpha alpha;
+    depth = ap (λ w. if w then f.z else old.z) (sym depth);
+  };
+  failed = λ fails. absurd (fails (always s.merge.test f.z old.z replaces.passes));
+}
 
 -- ---- by the equation for its alpha
 opaque_is : (f : BlendFactor) (o : Operands) → o.source_alpha ≡ 255 → factor (opaque_factor f) Colour o ≡ factor f Colour o

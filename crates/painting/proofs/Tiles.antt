@@ -1,6 +1,7 @@
 -- What is drawn at the samples of a block with its own planes, drawn at the tile's samples.
-use Rattle.std.proofs.Common.{◌≡◌, ◌≢◌, ◌∙◌, refl, ap, sym, subst, ℕ, ◌+◌, ◌-◌, ◌*◌, ◌%◌, ◌/◌, ◌<◌, ◌≤◌, List, length, take, drop, arith}
+use Rattle.std.proofs.Common.{true, false, inl, inr, ◌≡◌, ◌≢◌, ◌∙◌, refl, ap, sym, subst, ℕ, ◌+◌, ◌-◌, ◌*◌, ◌%◌, ◌/◌, ◌<◌, ◌≤◌, List, length, take, drop, arith}
 use Rattle.std.specs.Prelude.{slice_index_or}
+use Rattle.std.proofs.lemmas.Bool.{false≢true}
 use Rattle.grid.specs.Samples.{count_of, sample_position}
 use Rattle.grid.specs.declared.pixels.TileSide.TheVariants.{T64}
 use Rattle.lanes.specs.declared.block_samples.BlockSamples.{BlockSamples}
@@ -13,13 +14,12 @@ use Rattle.raster.specs.declared.tile.Tile.{Tile}
 use Rattle.raster.specs.Drawing.{IsChosen, IsInSquare, DrawsMasks}
 use Rattle.raster.specs.Samples.{IsSampleOf, place_of as place_in, stored as in_tile}
 use Rattle.canvas.specs.declared.way.Way.{Way}
-use Rattle.canvas.specs.declared.way.Way.TheVariants.{Cleared, Single, Pair, Own}
-use Rattle.canvas.specs.Layout.{planes_of_tile, stored_in_tile, way_of, way_in_tile, block_in_tile, pixel_in_block, in_list, place_by, masks_place, masks_in, own_plane}
+use Rattle.canvas.specs.declared.way.Way.TheVariants.{Cleared, Single, Pair, Own, Flat, FlatPair}
+use Rattle.canvas.specs.Layout.{planes_of_tile, stored_in_tile, way_of, way_in_tile, block_in_tile, pixel_in_block, in_list, is_plain, place_by, flat_place, slot_by, masks_place, masks_in, own_plane}
 use Rattle.canvas.proofs.Cut.{put, put_elsewhere, part_of}
 use Rattle.canvas.proofs.DrawnTiles.{own_put, mark_put}
-use Rattle.canvas.proofs.Places.{none, last_sample, within_block}
+use Rattle.canvas.proofs.Places.{none, last_sample, within_block, flat_where}
 use Rattle.canvas.proofs.TilePlanes.{by_way, by_any_way, own_place, within_own, same_own_plane, same_mask}
-use Rattle.canvas.proofs.Ways.{cleared_not_pair, single_not_pair, own_not_pair}
 use Rattle.painting.specs.Parts.{number_in_tile, TilePaints}
 
 -- ---- where the samples of a block are
@@ -29,6 +29,14 @@ module _ (tile : Tile) (side : tile.side ≡ T64) (bx by row column s : ℕ) (h 
 
   wide_is : column < 64
   wide_is = let below = h.wide in rw side at below
+
+  pub on_screen : (8 * tile.bx + column < 4096) × (8 * tile.by + row < 4096)
+  on_screen =
+      let across = rw side at tile.column.aligned in
+      let down = rw side at tile.row.aligned in
+      let wide = wide_is in
+      let high = high_is in
+      (omega (arith, across, tile.column.on_screen, wide), omega (arith, down, tile.row.on_screen, high))
 
   pub in_block : IsInSquare tile bx by 8 row column s → block_in_tile column row ≡ number_in_tile tile bx by
   in_block q = let down = high_is in let across = wide_is in omega (arith, down, across, q.left, q.right, q.top, q.bottom)
@@ -45,12 +53,17 @@ same_square row column r s q = record { left = q.left; right = q.right; top = q.
 single_own : Single ≡ Own → ⊥
 single_own e = cc
 
--- a block is kept in one of four ways
-way_cases : (P : Way → Type 0) → P Cleared → P Single → P Pair → P Own → (way : Way) → P way
-way_cases P a b c d Cleared = a
-way_cases P a b c d Single = b
-way_cases P a b c d Pair = c
-way_cases P a b c d Own = d
+plain_own : (way : Way) → is_plain way ≡ false → way ≢ Own
+plain_own way other own = false≢true (sym other ∙ ap is_plain own)
+
+-- a block is kept in one of six ways
+way_cases : (P : Way → Type 0) → P Cleared → P Single → P Pair → P Own → P Flat → P FlatPair → (way : Way) → P way
+way_cases P a b c d e f Cleared = a
+way_cases P a b c d e f Single = b
+way_cases P a b c d e f Pair = c
+way_cases P a b c d e f Own = d
+way_cases P a b c d e f Flat = e
+way_cases P a b c d e f FlatPair = f
 
 -- ---- drawn in the planes of a block
 module _ (t : Placed) (tile : Tile) (side : tile.side ≡ T64) (bx by from : ℕ) (masks : List ℕ) (old part : List BlockSamples) (n a : ℕ) (many : a + n ≡ planes_of_tile tile.count) (at : a ≡ 1 + count_of tile.count)
@@ -123,7 +136,7 @@ module _ (t : Placed) (tile : Tile) (side : tile.side ≡ T64) (bx by from : ℕ
     abbrev here_pixel : ℕ
     here_pixel = pixel_in_block column row
 
-    at_way : (xs : List BlockSamples) (way : Way) → way ≢ Pair → slice_index_or xs 0 none ≡ slice_index_or old 0 none → way_in_tile old here_block ≡ way
+    at_way : (xs : List BlockSamples) (way : Way) → is_plain way ≡ true → slice_index_or xs 0 none ≡ slice_index_or old 0 none → way_in_tile old here_block ≡ way
         → stored_in_tile tile.count xs column row s ≡ stored_at (slice_index_or xs (place_by tile.count way here_block s) none) here_pixel
     at_way xs way other same e = by_way tile.count xs way column row s other (ap (λ (state : BlockSamples). way_of state here_block) same ∙ e)
 
@@ -132,8 +145,8 @@ module _ (t : Placed) (tile : Tile) (side : tile.side ≡ T64) (bx by from : ℕ
     met chosen =
         let here : way_in_tile old here_block ≡ Own = ap (way_in_tile old) (in_block tile side bx by row column s h chosen.part.square) ∙ own in
         let p = sample_position (8 * tile.bx + column) (8 * tile.by + row) s tile.count in
-        subst (λ (x : CanvasSample). IsCanvasDrawnAt t p x (stored_in_tile tile.count new column row s)) (in_own row column s h s h.is_sample old ∙ sym (at_way old Own own_not_pair refl here))
-        (subst (λ (y : CanvasSample). IsCanvasDrawnAt t p (in_tile tile (take n (drop a old)) row column s) y) (in_new row column s h s h.is_sample ∙ sym (at_way new Own own_not_pair same_state here))
+        subst (λ (x : CanvasSample). IsCanvasDrawnAt t p x (stored_in_tile tile.count new column row s)) (in_own row column s h s h.is_sample old ∙ sym (at_way old Own refl refl here))
+        (subst (λ (y : CanvasSample). IsCanvasDrawnAt t p (in_tile tile (take n (drop a old)) row column s) y) (in_new row column s h s h.is_sample ∙ sym (at_way new Own refl same_state here))
         (draws.drawn row column s h chosen))
 
     abbrev Missed : Way → Type 0
@@ -141,37 +154,61 @@ module _ (t : Placed) (tile : Tile) (side : tile.side ≡ T64) (bx by from : ℕ
 
     missed_cleared : Missed Cleared
     missed_cleared e other =
-        at_way new Cleared cleared_not_pair same_state e
+        at_way new Cleared refl same_state e
         ∙ ap (λ p. stored_at p here_pixel) (put_elsewhere old part a n none fits whole 1 (λ k l m. let some = some_samples tile.count in omega (arith, m, at, some)))
-        ∙ sym (at_way old Cleared cleared_not_pair refl e)
+        ∙ sym (at_way old Cleared refl refl e)
 
     missed_single : Missed Single
     missed_single e other =
         let first : 1 + (here_block + 1) * count_of tile.count ≡ 1 + (here_block + 1) * count_of tile.count + 0 = omega arith in
-        at_way new Single single_not_pair same_state e
+        at_way new Single refl same_state e
         ∙ ap (λ k. stored_at (slice_index_or new k none) here_pixel) first
         ∙ same_in_block row column s h (λ f. single_own (sym e ∙ f)) here_pixel 0 (omega arith) (some_samples tile.count)
         ∙ ap (λ k. stored_at (slice_index_or old k none) here_pixel) (sym first)
-        ∙ sym (at_way old Single single_not_pair refl e)
+        ∙ sym (at_way old Single refl refl e)
 
-    -- the masks of a pair are unchanged too
-    missed_pair : Missed Pair
-    missed_pair e other =
-        let not_own = λ (f : way_in_tile old here_block ≡ Own). own_not_pair (sym f ∙ e) in
+    -- the masks of a block that is not plain are unchanged too, and so it is, if its planes are
+    missed_masked : (way : Way) → is_plain way ≡ false
+        → ((n : ℕ) → n < count_of tile.count
+        → stored_at (in_list new (place_by tile.count way here_block n)) (slot_by way here_block here_pixel) ≡ stored_at (in_list old (place_by tile.count way here_block n)) (slot_by way here_block here_pixel))
+        → Missed way
+    missed_masked way masked planes e other =
+        let not_own = λ (f : way_in_tile old here_block ≡ Own). plain_own way masked (sym e ∙ f) in
         let place : ℕ = masks_place tile.count here_block in
         let depths = λ (k : ℕ) (l : k < 64). ap (λ (x : CanvasSample). x.z) (same_in_block row column s h not_own k (count_of tile.count - 1) l (last_sample tile.count)) in
         let masks_same = same_mask (in_list new place) (in_list old place) s (omega (arith, h.is_sample, few_samples tile.count)) depths in
-        let plane : ℕ = own_plane tile.count Pair (masks_in tile.count (in_list old) here_block) here_pixel s in
-        by_any_way tile.count new Pair column row s (ap (λ (state : BlockSamples). way_of state here_block) same_state ∙ e)
-        ∙ ap (λ k. stored_at (in_list new (place_by tile.count Pair here_block k)) here_pixel) (same_own_plane tile.count Pair (in_list new place) (in_list old place) here_pixel s masks_same)
-        ∙ same_in_block row column s h not_own here_pixel plane (omega arith) (within_block tile.count Pair (masks_in tile.count (in_list old) here_block) here_pixel s h.is_sample)
-        ∙ sym (by_any_way tile.count old Pair column row s e)
+        let plane : ℕ = own_plane tile.count way (masks_in tile.count (in_list old) here_block) here_pixel s in
+        by_any_way tile.count new way column row s (ap (λ (state : BlockSamples). way_of state here_block) same_state ∙ e)
+        ∙ ap (λ k. stored_at (in_list new (place_by tile.count way here_block k)) (slot_by way here_block here_pixel)) (same_own_plane tile.count way (in_list new place) (in_list old place) here_pixel s masks_same)
+        ∙ planes plane (within_block tile.count way (masks_in tile.count (in_list old) here_block) here_pixel s h.is_sample)
+        ∙ sym (by_any_way tile.count old way column row s e)
+
+    missed_pair : Missed Pair
+    missed_pair e other = missed_masked Pair refl (λ n l. same_in_block row column s h (λ f. plain_own Pair refl (sym e ∙ f)) here_pixel n (omega arith) l) e other
+
+    -- a sample of a flat block, in a plane before the own ones or in one of its own
+    same_flat : way_in_tile old here_block ≢ Own → (r : ℕ) → r < count_of tile.count
+        → stored_at (in_list new (flat_place tile.count here_block r)) here_block ≡ stored_at (in_list old (flat_place tile.count here_block r)) here_block
+    same_flat not_own r l =
+        elim (flat_where tile.count here_block r l) [
+          | inl before ↦ ap (λ (p : BlockSamples). stored_at p here_block) (put_elsewhere old part a n none fits whole (flat_place tile.count here_block r) (λ m small d. omega (arith, d, at, before)))
+          | inr own_one ↦
+              ap (λ q. stored_at (in_list new q) here_block) own_one
+              ∙ same_in_block row column s h not_own here_block r (omega arith) l
+              ∙ ap (λ q. stored_at (in_list old q) here_block) (sym own_one)
+        ]
+
+    missed_flat : Missed Flat
+    missed_flat e other = missed_masked Flat refl (λ n l. same_flat (λ f. plain_own Flat refl (sym e ∙ f)) 0 (some_samples tile.count)) e other
+
+    missed_flat_pair : Missed FlatPair
+    missed_flat_pair e other = missed_masked FlatPair refl (λ n l. same_flat (λ f. plain_own FlatPair refl (sym e ∙ f)) n l) e other
 
     missed_own : Missed Own
-    missed_own e other = at_way new Own own_not_pair same_state e ∙ same_own row column s h s h.is_sample other ∙ sym (at_way old Own own_not_pair refl e)
+    missed_own e other = at_way new Own refl same_state e ∙ same_own row column s h s h.is_sample other ∙ sym (at_way old Own refl refl e)
 
     missed : ¬ IsChosen t.state tile bx by from masks row column s → stored_in_tile tile.count new column row s ≡ stored_in_tile tile.count old column row s
-    missed = way_cases Missed missed_cleared missed_single missed_pair missed_own (way_in_tile old here_block) refl
+    missed = way_cases Missed missed_cleared missed_single missed_pair missed_own missed_flat missed_flat_pair (way_in_tile old here_block) refl
 
   pub tile_painted : TilePaints t tile (IsChosen t.state tile bx by from masks) old new
   tile_painted = record { met = λ row column s h chosen. met row column s h chosen; missed = λ row column s h other. missed row column s h other }

@@ -30,9 +30,11 @@
 --   AllowsTile: The state lets each sample of the tile be drawn.
 --   number_in_tile: The number of block (bx, by) among the 64 of its tile, row by row.
 --   IsKeptAt: The sample is kept in the plane of this index among those of the tile.
---   HasNoMasks: The plane of this index among those of the tile is not that of a pair's masks.
+--   HasNoMasks: The plane of this index among those of the tile is not that of the masks of a pair or a flat block.
 --   KeepsPlanesBut: All planes of the tile but the one of this index are unchanged.
 --   DrawsPlane: The triangle is drawn at each sample of the plane, wherever on the screen the sample lies, and however many a pixel has.
+--   DrawsSample: The triangle is drawn at the sample, wherever on the screen it lies, and however many a pixel has.
+--   IsFlatDrawn: The triangle is drawn at those samples of a block that are in the masks.
 --   IsInBlock: The sample is in block (bx, by) and is drawn there.
 --   IsInWords: The sample is in block (bx, by), and its bit is set in the mask of its index.
 --   IsInColumn: The sample is in the first n rows of blocks of column `bx` of blocks and is drawn there.

@@ -1,5 +1,5 @@
 -- Parts of a canvas that are painted one after another, by masks.
-use Rattle.std.specs.Prelude.{◌≡◌, ◌≢◌, ◌↔◌, ℕ, ◌+◌, ◌-◌, ◌*◌, ◌/◌, ◌%◌, ◌^◌, ◌<◌, ◌≤◌, ◌==◌, if◌then◌else◌, pos, negsuc, ◌+ℤ◌, List, [], ◌∷◌, slice_index, IsBitSet}
+use Rattle.std.specs.Prelude.{false, ◌≡◌, ◌≢◌, ◌↔◌, ℕ, ◌+◌, ◌-◌, ◌*◌, ◌/◌, ◌%◌, ◌^◌, ◌<◌, ◌≤◌, ◌==◌, if◌then◌else◌, pos, negsuc, ◌+ℤ◌, List, [], ◌∷◌, slice_index, IsBitSet}
 use Rattle.std.specs.Int.{bit_at}
 use Rattle.grid.specs.Position.{Position}
 use Rattle.grid.specs.Samples.{count_of, parts_of, sample_position}
@@ -27,10 +27,11 @@ use Rattle.raster.specs.Drawing.{Allows, IsInSquare}
 use Rattle.raster.specs.Region.{HoldsTile}
 use Rattle.raster.specs.Samples.{IsSampleOf}
 use Rattle.canvas.specs.declared.canvas.Canvas.{Canvas}
+use Rattle.canvas.specs.declared.flat_block.FlatBlock.{FlatBlock}
 use Rattle.canvas.specs.declared.window.Origin.{Origin}
-use Rattle.canvas.specs.declared.way.Way.TheVariants.{Pair}
-use Rattle.canvas.specs.Layout.{IsStoredIn, block_in_tile, columns_of, in_list, masks_place, pixel_in_block, place_in_tile, rows_of, stored, stored_in_tile, way_in_tile}
+use Rattle.canvas.specs.Layout.{IsStoredIn, block_in_tile, columns_of, in_list, is_plain, masks_place, pixel_in_block, place_in_tile, rows_of, stored, stored_in_tile, way_in_tile}
 use Rattle.lanes.specs.Block.{stored_at}
+use Rattle.canvas.specs.FlatBlocks.{IsFlatReplaced}
 use Rattle.canvas.specs.Window.{moved_state}
 use Rattle.painting.specs.declared.masks.Masks.{Masks}
 use Rattle.painting.specs.declared.polygon.Polygon.{Polygon}
@@ -137,9 +138,9 @@ number_in_tile tile bx by = (by - tile.by) * 8 + (bx - tile.bx)
 abbrev pub IsKeptAt : SampleCount → List BlockSamples → ℕ → ℕ → ℕ → ℕ → Type 0
 IsKeptAt count samples place row column s = place_in_tile count (in_list samples) column row s ≡ place
 
--- The plane of this index among those of the tile is not that of a pair's masks.
+-- The plane of this index among those of the tile is not that of the masks of a pair or a flat block.
 abbrev pub HasNoMasks : SampleCount → List BlockSamples → ℕ → Type 0
-HasNoMasks count samples place = (k : ℕ) → k < 64 → way_in_tile samples k ≡ Pair → masks_place count k ≢ place
+HasNoMasks count samples place = (k : ℕ) → k < 64 → is_plain (way_in_tile samples k) ≡ false → masks_place count k ≢ place
 
 -- All planes of the tile but the one of this index are unchanged.
 abbrev pub KeepsPlanesBut : ℕ → List BlockSamples → List BlockSamples → Type 0
@@ -149,6 +150,15 @@ KeepsPlanesBut place old new = (n : ℕ) → n ≢ place → in_list new n ≡ i
 abbrev pub DrawsPlane : Placed → BlockSamples → BlockSamples → Type 0
 DrawsPlane t old new =
     (count : SampleCount) (i j s p : ℕ) → i < 4096 → j < 4096 → p < 64 → IsCanvasDrawnAt t (sample_position i j s count) (stored_at old p) (stored_at new p)
+
+-- The triangle is drawn at the sample, wherever on the screen it lies, and however many a pixel has.
+abbrev pub DrawsSample : Placed → CanvasSample → CanvasSample → Type 0
+DrawsSample t old new = (count : SampleCount) (i j s : ℕ) → i < 4096 → j < 4096 → IsCanvasDrawnAt t (sample_position i j s count) old new
+
+-- The triangle is drawn at those samples of a block that are in the masks. The block has one sample or two before and afterwards.
+abbrev pub IsFlatDrawn : Placed → SampleCount → FlatBlock → List ℕ → FlatBlock → Type 0
+IsFlatDrawn t count old words new =
+    (first second : CanvasSample) × DrawsSample t old.first first × DrawsSample t old.second second × IsFlatReplaced count old words first second new
 
 -- The sample is in block (bx, by) and is drawn there. Its bit is set in column k of the masks, and the state lets it be drawn.
 pub record IsInBlock (state : State) (tile : Tile) (bx by : ℕ) (masks : Masks) (k : ℕ) (row column s : ℕ) : Type 0 where

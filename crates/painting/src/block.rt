@@ -8,7 +8,7 @@ ghost use Rattle.painting.specs.Parts.{number_in_tile, IsInBlock, TilePaints};
 
 use crate::covered_block::CoveredBlock;
 use crate::masks::{Masks, has_some};
-use canvas::{Way, fill_block, has_pairs, place_by};
+use canvas::{Way, block_way, fill_block, has_pairs, place_by};
 use lanes::BlockSamples;
 use planes::Corrections;
 use raster::draw_masks;
@@ -88,14 +88,17 @@ impl CoveredBlock<'_> {
             self.paint_single(samples);
             return true;
         }
-        if has_pairs(self.tile.count) && self.paint_as_pair(&masks.words(k, row), samples) {
+        if has_pairs(self.tile.count)
+            && block_way(self.number(), samples) != Way::Own
+            && self.paint_as_pair(&masks.words(k, row), samples)
+        {
             return true;
         }
         full && self.paint_both(samples)
     }
 
     /// Draws the triangle at those samples of the block whose bits are set, in column `k` of the masks. A block that can
-    /// be kept in one plane or two is.
+    /// be kept in one sample or two is; else one that can be kept in one plane or two.
     pub(crate) fn paint_block(&self, masks: &Masks<'_>, k: usize, samples: &mut [BlockSamples])
         requires count { masks.now.count ≡ self.now.tile.now.count }
         requires column { k < masks.now.columns }
@@ -103,8 +106,11 @@ impl CoveredBlock<'_> {
         ensures { let b = self.now in TilePaints b.triangle.now b.tile.now
             (IsInBlock b.triangle.now.state b.tile.now b.bx b.by masks.now k) samples.old samples.new }
     {
-        if !self.whole || !self.paint_planes(masks, k, samples) {
-            self.paint_parts(masks, k, samples);
+        if self.whole
+            && (self.paint_flat(masks, k, samples) || self.paint_planes(masks, k, samples))
+        {
+            return;
         }
+        self.paint_parts(masks, k, samples);
     }
 }

@@ -6,6 +6,7 @@ mod batch;
 mod block;
 mod column;
 mod covered_block;
+mod flat;
 mod group;
 mod masks;
 mod pair;

@@ -1,12 +1,12 @@
 //! Tiles whose blocks are kept in each way, compared with those whose blocks all have planes of their own.
 use super::{CLEAR, CLEAR_ALPHA, Numbers, cleared, piece, stored, untouched, view};
 use crate::{
-    Canvas, Format, TileRows, fill_block, fill_tile, is_cleared, make_single, pair_block,
-    replace_samples, second_place, single_block,
+    Canvas, FlatBlock, Format, TileRows, fill_block, fill_tile, has_pairs, is_cleared, make_single,
+    pair_block, replace_samples, second_place, single_block,
 };
 use grid::SampleCount;
 use lanes::BlockSamples;
-use shade::Sample;
+use shade::{CanvasSample, Sample};
 use std::alloc::Global;
 use std::process::Abort;
 use std::test::Fail;
@@ -46,6 +46,44 @@ fn in_pairs(
     }
 }
 
+/// Makes block 40 flat, and blocks 41 to 44 ones of two samples, if a pixel has four samples or more. Block 43 is single
+/// then, and block 44 has planes of its own.
+fn in_samples(
+    rt: &impl Abort,
+    count: SampleCount,
+    other: CanvasSample,
+    samples: &mut [BlockSamples],
+) {
+    assert!(rt; samples.len() == 1 + 65 * count.count() as usize);
+    if !has_pairs(count) {
+        return;
+    }
+    let some = [0x00ff_1234_5678_9abc; 16];
+    let block = FlatBlock::of(count, 40, samples).expect(rt, "one sample of a cleared block");
+    assert!(rt; FlatBlock::of(count, 20, samples).is_none());
+    let two = block
+        .replaced(count, &some, other, other)
+        .expect(rt, "two samples");
+    for k in 41..44 {
+        two.store(count, k, samples);
+    }
+    let read = FlatBlock::of(count, 41, samples).expect(rt, "two samples");
+    assert!(rt;
+        read.first == two.first && read.second == two.second && read.masks[3] == two.masks[3]
+    );
+    let all = two
+        .replaced(count, &[u64::MAX; 16], other, other)
+        .expect(rt, "one sample");
+    all.store(count, 40, samples);
+    all.store(count, 43, samples);
+    assert!(rt; single_block(count, 43, samples));
+    assert!(rt; FlatBlock::of(count, 43, samples).expect(rt, "one sample") == all);
+    assert!(rt; !single_block(count, 42, samples));
+    two.store(count, 44, samples);
+    fill_block(count, 44, samples);
+    assert!(rt; FlatBlock::of(count, 44, samples).is_none());
+}
+
 /// The planes of the tile, cleared, with blocks 3 and 12 in one plane each and block 20 in planes of its own.
 fn in_each_way(rt: &impl Abort, alloc: Global, canvas: &Canvas) -> Result<Vec<BlockSamples>, Fail> {
     let (count, rows) = (canvas.count, canvas.all());
@@ -63,6 +101,7 @@ fn in_each_way(rt: &impl Abort, alloc: Global, canvas: &Canvas) -> Result<Vec<Bl
     make_single(count, 12, &BlockSamples::filled(other, 200), &mut samples);
     fill_block(count, 20, &mut samples);
     in_pairs(rt, count, &BlockSamples::filled(other, 100), &mut samples);
+    in_samples(rt, count, other.with_alpha(150), &mut samples);
     assert!(rt; single_block(count, 12, &mut samples));
     assert!(rt; !single_block(count, 20, &mut samples));
     assert!(rt; !is_cleared(&samples));

@@ -1,5 +1,6 @@
-use Rattle.std.proofs.Common.{◌∙◌, ap, ◌-◌, ◌/◌, replicate}
+use Rattle.std.proofs.Common.{refl, ◌∙◌, ap, ◌-◌, ◌/◌, replicate}
 use Rattle.lanes.specs.declared.block_samples.BlockSamples.{BlockSamples}
+use Rattle.lanes.specs.Block.{stored_at}
 use Rattle.canvas.specs.declared.way.Way.TheVariants.{Pair}
 use Rattle.canvas.specs.Layout.{place_by, in_list}
 use Rattle.canvas.proofs.BlockMeans.{AreMeansBy, each_channel, means_of_both}
@@ -11,9 +12,12 @@ returns c =
     let k = c.args.k in
     let xs = c.args.planes.now in
     let bits = c.count_bits-bits.result in
-    let mean : BlockSamples = record { z = replicate 64 0; r = c.means_of_both.result; g = c.means_of_both-2.result; b = c.means_of_both-3.result; alpha = c.means_of_both-4.result } in
-    means_of_both count xs k c.place_by.result c.place_by-2.result c.place_by-3.result bits mean c.requires.way c.place_by.ensures.value
-    (c.place_by-2.ensures.value ∙ ap (λ n. place_by count Pair k (n / 2)) c.count-many.ensures)
+    let first = stored_at (in_list xs c.place_by.result) in
+    let second = stored_at (in_list xs c.place_by-2.result) in
+    let mean : BlockSamples = record { z = replicate 64 0; r = c.channel_of_both.result; g = c.channel_of_both-2.result; b = c.channel_of_both-3.result; alpha = c.channel_of_both-4.result } in
+    means_of_both count Pair xs k c.place_by-3.result first second bits mean c.requires.way refl
+    (λ p l. ap (λ q. stored_at (in_list xs q) p) c.place_by.ensures.value)
+    (λ p l. ap (λ q. stored_at (in_list xs q) p) (c.place_by-2.ensures.value ∙ ap (λ n. place_by count Pair k (n / 2)) c.count-many.ensures))
     (c.place_by-3.ensures.value ∙ ap (λ n. place_by count Pair k (n - 1)) c.count-many.ensures)
     c.count_bits-bits.ensures.each
-    (each_channel (AreMeansBy count bits (in_list xs c.place_by.result) (in_list xs c.place_by-2.result) mean) c.means_of_both.ensures c.means_of_both-2.ensures c.means_of_both-3.ensures c.means_of_both-4.ensures)
+    (each_channel (AreMeansBy count bits first second mean) c.channel_of_both.ensures c.channel_of_both-2.ensures c.channel_of_both-3.ensures c.channel_of_both-4.ensures)

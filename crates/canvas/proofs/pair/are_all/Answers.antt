@@ -1,10 +1,9 @@
-use Rattle.std.proofs.Common.{◌≡◌, ◌≢◌, ◌∙◌, ap, sym, slice_index, bit_or}
+use Rattle.std.proofs.Common.{◌≡◌, ◌≢◌, slice_index}
 use Rattle.std.specs.Int.{bit_at}
-use Rattle.canvas.specs.Layout.{mask_of}
 use Rattle.canvas.proofs.MaskBits.{one_more, bit_of_either}
 use Rattle.canvas.proofs.pair.are_all.Goals as goal
 
 pub loop-s-preserved : goal.loop-s-preserved
 loop-s-preserved c t p l small =
-    one_more (λ t. bit_at (slice_index c.args.masks.now t) p ≢ 1 → bit_at (mask_of c.args.stored.now t) p ≡ 1) c.loop-s.s (λ t l. c.loop-s.invariant t p l small)
-    (bit_of_either (mask_of c.args.stored.now c.loop-s.s) (slice_index c.args.masks.now c.loop-s.s) p small (ap (λ m. bit_or m (slice_index c.args.masks.now c.loop-s.s)) (sym c.mask_of.ensures) ∙ c.if-mask_of-masks.false)) t l
+    one_more (λ t. bit_at (slice_index c.args.masks.now t) p ≢ 1 → bit_at (slice_index c.args.stored.now t) p ≡ 1) c.loop-s.s (λ t l. c.loop-s.invariant t p l small)
+    (bit_of_either (slice_index c.args.stored.now c.loop-s.s) (slice_index c.args.masks.now c.loop-s.s) p small c.if-stored-s.false) t l

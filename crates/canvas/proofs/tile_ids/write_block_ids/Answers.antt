@@ -1,11 +1,9 @@
-use Rattle.std.proofs.Common.{◌≡◌, ◌≢◌, ◌∙◌, ap, sym, ◌+◌, ◌*◌, ◌/◌, ◌%◌, ℕ, arith}
-use Rattle.std.proofs.lemmas.Bool.{false≢true}
+use Rattle.std.proofs.Common.{true, ◌≡◌, ◌∙◌, ap, sym, ◌+◌, ◌*◌, ◌/◌, ◌%◌, ℕ, arith}
 use Rattle.std.proofs.lemmas.List.{map-id}
 use Rattle.lanes.specs.Block.{stored_at}
-use Rattle.canvas.specs.declared.way.Way.TheVariants.{Pair}
-use Rattle.canvas.specs.Layout.{block_in_tile, pixel_in_block, in_list, way_in_tile}
+use Rattle.canvas.specs.Layout.{block_in_tile, pixel_in_block, in_list, is_plain, way_in_tile}
 use Rattle.canvas.specs.Colours.{id_of}
-use Rattle.canvas.proofs.TilePlanes.{in_block}
+use Rattle.canvas.proofs.TilePlanes.{in_block, by_none}
 use Rattle.canvas.proofs.tile_ids.write_block_ids.Goals as goal
 
 pub returns-in-Some : goal.returns-in-Some
@@ -20,7 +18,7 @@ returns-in-None c i j here =
     let xs = c.args.samples.now in
     let k : ℕ = c.args.k in
     let first : block_in_tile (8 * (k % 8)) (8 * (k / 8)) ≡ k = omega (arith, c.requires.block) in
-    let other : way_in_tile xs (block_in_tile (8 * (k % 8)) (8 * (k / 8))) ≢ Pair = λ e. false≢true (c.in-None.ensures.some.1 (sym (ap (way_in_tile xs) first) ∙ e)) in
+    let other : is_plain (way_in_tile xs (block_in_tile (8 * (k % 8)) (8 * (k / 8)))) ≡ true = ap (λ m. is_plain (way_in_tile xs m)) first ∙ by_none (is_plain (way_in_tile xs k)) c.in-None.ensures.some.1 in
     let pixel : 0 + pixel_in_block i j ≡ pixel_in_block i j = omega arith in
     (rw (map-id) at c.write_entries-in-None.ensures (pixel_in_block i j) (omega arith))
     ∙ ap (λ m. id_of (stored_at (in_list xs c.place_in_tile-place.result) m)) pixel

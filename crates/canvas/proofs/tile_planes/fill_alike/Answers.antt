@@ -1,7 +1,7 @@
 use Rattle.std.proofs.Common.{◌∙◌, refl, ap, sym, arith}
 use Rattle.lanes.specs.Block.{stored_at}
-use Rattle.canvas.specs.Layout.{in_list}
-use Rattle.canvas.proofs.TilePlanes.{none_filled, one_filled, alike_place}
+use Rattle.canvas.specs.Layout.{in_list, sample_place}
+use Rattle.canvas.proofs.TilePlanes.{none_filled, one_filled, alike_place, slot_is}
 use Rattle.canvas.proofs.tile_planes.fill_alike.Goals as goal
 
 pub loop-s-init : goal.loop-s-init
@@ -17,7 +17,8 @@ returns-clause-own c s p h small =
     let count = c.args.count in
     let old = c.args.samples.now in
     c.loop-s.invariant.filled s p (omega (arith, h, c.loop-s-test.false, c.count-s-end.ensures)) small
-    ∙ ap (λ q. stored_at (in_list old q) p) (c.place_by.ensures.value ∙ sym (alike_place count c.args.way c.args.k p s (in_list old) c.requires.way.0 c.requires.way.1))
+    ∙ ap (λ q. stored_at (in_list old q) p) (c.place_by.ensures.value ∙ sym (alike_place count c.args.way c.args.k p s (in_list old) c.requires.plain c.requires.way))
+    ∙ ap (stored_at (in_list old (sample_place count c.args.way (in_list old) c.args.k p s))) (sym (slot_is c.args.way c.args.k p c.requires.plain))
 
 pub returns-clause-others : goal.returns-clause-others
 returns-clause-others c = c.loop-s.invariant.kept

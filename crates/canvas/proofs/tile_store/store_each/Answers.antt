@@ -2,7 +2,7 @@ use Rattle.std.proofs.Common.{◌≡◌, ◌∙◌, sym, ap, subst, ◌+◌, ◌
 use Rattle.std.specs.Prelude.{slice_index_or}
 use Rattle.grid.specs.Samples.{count_of}
 use Rattle.lanes.specs.Block.{stored_at}
-use Rattle.canvas.specs.Layout.{block_in_tile, place_in_tile, pixel_in_block, in_list, sample_place}
+use Rattle.canvas.specs.Layout.{block_in_tile, place_in_tile, pixel_in_block, slot_by, in_list, sample_place}
 use Rattle.canvas.specs.Tiles.{entry_in_tile, with_colour}
 use Rattle.canvas.proofs.Cut.{part_of}
 use Rattle.canvas.proofs.Places.{none}
@@ -46,5 +46,5 @@ returns c i j s h =
     let below = number_below count q s (omega arith) h in
     let entry : 64 * (own + number_in count i j s - own) + pixel_in_block i j ≡ entry_in_tile count i j s = omega arith in
     sample_recoloured count own (own + number) (slice_index colours (entry_in_tile count i j s)) f filled c.loop-number.samples i j s h (omega arith) (omega (arith, place)) (omega (arith, place, below, c.loop-number-test.false, c.count-many.ensures))
-    (ap (λ p. f p (pixel_in_block i j)) place ∙ ap (λ m. slice_index colours m) entry) c.loop-number.invariant
+    (ap (λ way. f (place_in_tile count (in_list filled) i j s) (slot_by way q (pixel_in_block i j))) (c.fill_tile.ensures.own q) ∙ ap (λ p. f p (pixel_in_block i j)) place ∙ ap (λ m. slice_index colours m) entry) c.loop-number.invariant
     ∙ ap (λ x. with_colour (slice_index colours (entry_in_tile count i j s)) x) (c.fill_tile.ensures.kept i j s h)

@@ -1,11 +1,12 @@
-use Rattle.std.proofs.Common.{subst, sym, ◌∙◌}
-use Rattle.canvas.proofs.Ways.{cleared_not_pair}
+use Rattle.std.proofs.Common.{ap, subst, sym, ◌∙◌}
+use Rattle.std.proofs.lemmas.Bool.{false≢true}
+use Rattle.canvas.specs.Layout.{is_plain}
 use Rattle.painting.specs.Parts.{IsKeptAt, TilePaints}
 use Rattle.painting.proofs.OnePlane.{whole_painted}
 use Rattle.painting.proofs.whole.paint_whole.Goals as goal
 
 pub paint_plane-requires-clause-masks : goal.paint_plane-requires-clause-masks
-paint_plane-requires-clause-masks c k small pair = absurd (cleared_not_pair (sym (c.requires.cleared k small) ∙ pair))
+paint_plane-requires-clause-masks c k small masked = absurd (false≢true (sym masked ∙ ap is_plain (c.requires.cleared k small)))
 
 pub returns : goal.returns
 returns c =

@@ -1,12 +1,11 @@
-use Rattle.std.proofs.Common.{◌≡◌, ◌≢◌, ◌∙◌, ap, subst, ◌+◌, ◌*◌, ◌%◌, ◌<◌, ℕ, slice_index, arith}
-use Rattle.std.proofs.lemmas.Bool.{false≢true}
+use Rattle.std.proofs.Common.{true, ◌≡◌, ◌∙◌, ap, subst, ◌+◌, ◌*◌, ◌%◌, ◌<◌, ℕ, slice_index, arith}
 use Rattle.std.specs.Prelude.{slice_index_or}
 use Rattle.lanes.specs.Block.{stored_at}
-use Rattle.canvas.specs.declared.way.Way.TheVariants.{Pair}
-use Rattle.canvas.specs.Layout.{way_in_row}
+use Rattle.canvas.specs.Layout.{is_plain, way_in_row}
 use Rattle.canvas.specs.Pixels.{pixel_bytes}
 use Rattle.canvas.specs.Colours.{IsSampleColour}
 use Rattle.canvas.proofs.Places.{none}
+use Rattle.canvas.proofs.TilePlanes.{by_none}
 use Rattle.canvas.proofs.canvas.Canvas.colour_eight.Goals as goal
 
 pub returns-in-Some : goal.returns-in-Some
@@ -29,7 +28,7 @@ returns-in-None c i l =
     let first : 8 * block % 8 ≡ 0 = omega arith in
     let inside : 8 * block % 8 + i < 8 = omega (arith, l, c.requires.count, first) in
     let pixel : 8 * (j % 8) + i ≡ 8 * (j % 8) + (8 * block % 8 + i) = omega (arith, first) in
-    let other : way_in_row c.args.self.now xs (8 * block) j ≢ Pair = λ e. false≢true (c.in-None.ensures.some.1 e) in
+    let other : is_plain (way_in_row c.args.self.now xs (8 * block) j) ≡ true = by_none (is_plain (way_in_row c.args.self.now xs (8 * block) j)) c.in-None.ensures.some.1 in
     subst (λ sample. IsSampleColour c.args.format sample (λ k. slice_index c.resolve_plane-in-None.new.bytes (i * pixel_bytes c.args.format + k)))
     (ap (λ k. stored_at (slice_index_or xs place none) k) pixel ∙ c.place-place.ensures.row other i inside)
     (c.resolve_plane-in-None.ensures i l)

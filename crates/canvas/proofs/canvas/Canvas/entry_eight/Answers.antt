@@ -1,8 +1,7 @@
-use Rattle.std.proofs.Common.{◌≡◌, ◌≢◌, ◌∙◌, ap, ◌+◌, ◌*◌, ◌%◌, ◌<◌, ℕ, arith}
-use Rattle.std.proofs.lemmas.Bool.{false≢true}
+use Rattle.std.proofs.Common.{true, ◌≡◌, ◌∙◌, ap, ◌+◌, ◌*◌, ◌%◌, ◌<◌, ℕ, arith}
 use Rattle.lanes.specs.Block.{stored_at}
-use Rattle.canvas.specs.declared.way.Way.TheVariants.{Pair}
-use Rattle.canvas.specs.Layout.{in_list, way_in_row}
+use Rattle.canvas.specs.Layout.{in_list, is_plain, way_in_row}
+use Rattle.canvas.proofs.TilePlanes.{by_none}
 use Rattle.canvas.proofs.canvas.Canvas.entry_eight.Goals as goal
 
 pub returns-in-Some : goal.returns-in-Some
@@ -24,5 +23,5 @@ returns-in-None g c =
     let first : 8 * block % 8 ≡ 0 = omega arith in
     let inside : 8 * block % 8 + i < 8 = omega (arith, l, c.requires.entries, first) in
     let pixel : 8 * (j % 8) + i ≡ 8 * (j % 8) + (8 * block % 8 + i) = omega (arith, first) in
-    let other : way_in_row c.args.self.now xs (8 * block) j ≢ Pair = λ e. false≢true (c.in-None.ensures.some.1 e) in
+    let other : is_plain (way_in_row c.args.self.now xs (8 * block) j) ≡ true = by_none (is_plain (way_in_row c.args.self.now xs (8 * block) j)) c.in-None.ensures.some.1 in
     c.write_run-in-None.ensures i l ∙ ap g.E.Entry.number_of (ap (stored_at (in_list xs c.place-place.result)) pixel ∙ c.place-place.ensures.row other i inside)

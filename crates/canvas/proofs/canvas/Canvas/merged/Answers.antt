@@ -2,7 +2,7 @@ use Rattle.std.proofs.Common.{◌≡◌, ◌∙◌, ap, sym, refl, ◌+◌, ◌-
 use Rattle.std.proofs.lemmas.Option.{IfSome_then}
 use Rattle.lanes.specs.declared.block_samples.BlockSamples.{BlockSamples}
 use Rattle.lanes.specs.Block.{stored_at}
-use Rattle.canvas.specs.Layout.{planes_of_tile, block_in_tile, pixel_in_block, way_in_tile, way_in_row}
+use Rattle.canvas.specs.Layout.{planes_of_tile, block_in_tile, pixel_in_block, is_plain, way_in_tile, way_in_row}
 use Rattle.canvas.proofs.Places.{tile_of, tile_way}
 use Rattle.canvas.proofs.canvas.Canvas.merged.Goals as goal
 
@@ -22,7 +22,7 @@ returns c =
     let block : c.block_in_tile.result ≡ block_in_tile i j = c.block_in_tile.ensures.value in
     let way : way_in_tile part c.block_in_tile.result ≡ way_in_row self xs i j = ap (way_in_tile part) block ∙ tile_way self i j s (j / 64) xs n first refl size start in
     record {
-      some = (λ is. sym way ∙ c.merged_in_tile.ensures.some.0 is, λ is. c.merged_in_tile.ensures.some.1 (way ∙ is));
+      some = (λ is. ap is_plain (sym way) ∙ c.merged_in_tile.ensures.some.0 is, λ is. c.merged_in_tile.ensures.some.1 (ap is_plain way ∙ is));
       row = IfSome_then c.merged_in_tile.result c.merged_in_tile.ensures.merged
           (λ (plane : BlockSamples) has k l.
           let tile : i / 64 ≡ (i + k) / 64 = omega (arith, l) in

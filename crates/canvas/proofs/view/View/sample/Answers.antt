@@ -1,7 +1,7 @@
-use Rattle.std.proofs.Common.{◌≡◌, ◌∙◌, ◌+◌, ◌-◌, ◌*◌, ◌/◌, ◌<◌, ℕ, take, drop, refl, arith}
+use Rattle.std.proofs.Common.{ap, ◌≡◌, ◌∙◌, ◌+◌, ◌-◌, ◌*◌, ◌/◌, ◌<◌, ℕ, take, drop, refl, arith}
 use Rattle.grid.specs.Samples.{count_of}
-use Rattle.canvas.specs.Layout.{HasPixel, columns_of, planes_of_row}
-use Rattle.canvas.proofs.Places.{row_of}
+use Rattle.canvas.specs.Layout.{HasPixel, columns_of, planes_of_row, planes_of_tile}
+use Rattle.canvas.proofs.Places.{row_of, tile_of}
 use Rattle.canvas.proofs.view.View.sample.Goals as goal
 
 pub returns-clause-value : goal.returns-clause-value
@@ -18,6 +18,11 @@ returns-clause-value c =
     let wide : i / 64 < columns_of self.canvas = omega (arith, has.column) in
     let sample : c.args.s < count_of self.canvas.count = omega (arith, c.count.ensures, c.if-count-s.false) in
     let planes = take n (drop from c.args.self.now.planes.now) in
-    c.sample.ensures
-    ∙ c.place-place.ensures.stored
+    let of_tile : ℕ = c.planes_of_tile-each.result in
+    let first : ℕ = i / 64 * of_tile in
+    let many : ℕ = first + of_tile - first in
+    let whole : many ≡ planes_of_tile self.canvas.count = omega (arith, c.planes_of_tile-each.ensures.value) in
+    let start : first ≡ i / 64 * planes_of_tile self.canvas.count = ap (λ m. i / 64 * m) c.planes_of_tile-each.ensures.value in
+    c.sample_in_tile.ensures
+    ∙ tile_of self.canvas i j c.args.s (j / 64) planes many first refl whole start sample
     ∙ row_of self.canvas i j c.args.s (j / 64) self.first c.args.self.now.planes.now n from refl size at wide sample

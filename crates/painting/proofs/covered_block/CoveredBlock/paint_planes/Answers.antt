@@ -5,7 +5,7 @@ use Rattle.painting.specs.Parts.{IsInWords, TilePaints}
 use Rattle.painting.proofs.OnePlane.{full_painted}
 use Rattle.painting.proofs.PairBlocks.{words_painted}
 use Rattle.painting.proofs.covered_block.CoveredBlock.paint_planes.Goals as goal
-use Rattle.painting.proofs.covered_block.CoveredBlock.paint_planes.Goals.{else-full-via-then-full+else-has_one_plane, else-full-via-else-full, else-has_pairs-via-then-has_pairs+else-paint_as_pair, else-has_pairs-via-else-has_pairs}
+use Rattle.painting.proofs.covered_block.CoveredBlock.paint_planes.Goals.{else-full-via-then-full+else-has_one_plane, else-full-via-else-full, else-has_pairs-via-then-has_pairs+then-ne+else-paint_as_pair, else-has_pairs-via-then-has_pairs+else-ne, else-has_pairs-via-else-has_pairs}
 
 pub returns-then-has_one_plane-clause-painted : goal.returns-then-has_one_plane-clause-painted
 returns-then-has_one_plane-clause-painted c true_is =
@@ -48,7 +48,8 @@ returns-then-full-2-clause-painted c true_is =
       | else-full-via-else-full w ↦ w.samples-is
     ] in
     let second : c.else-has_pairs.samples ≡ mid = elim c.else-has_pairs.branch [
-      | else-has_pairs-via-then-has_pairs+else-paint_as_pair w ↦ w.samples-is ∙ w.paint_as_pair.ensures.unchanged w.if-paint_as_pair.false
+      | else-has_pairs-via-then-has_pairs+then-ne+else-paint_as_pair w ↦ w.samples-is ∙ w.paint_as_pair.ensures.unchanged w.if-paint_as_pair.false
+      | else-has_pairs-via-then-has_pairs+else-ne w ↦ w.samples-is
       | else-has_pairs-via-else-has_pairs w ↦ w.samples-is
     ] in
     full_painted b.triangle.now tile b.side b.bx b.by b.block c.args.masks.now c.args.k (b.allows c.requires.whole)

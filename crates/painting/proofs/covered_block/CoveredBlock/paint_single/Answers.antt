@@ -1,9 +1,9 @@
-use Rattle.std.proofs.Common.{◌≡◌, ◌∙◌, ap, subst, sym}
+use Rattle.std.proofs.lemmas.Bool.{false≢true}
+use Rattle.std.proofs.Common.{refl, ◌≡◌, ◌∙◌, ap, subst, sym}
 use Rattle.canvas.specs.declared.way.Way.TheVariants.{Single}
-use Rattle.canvas.specs.Layout.{place_by}
+use Rattle.canvas.specs.Layout.{is_plain, place_by}
 use Rattle.painting.specs.Parts.{number_in_tile, HasNoMasks, IsKeptAt, TilePaints}
 use Rattle.painting.proofs.OnePlane.{no_masks_at, single_painted}
-use Rattle.canvas.proofs.Ways.{single_not_cleared, single_not_pair}
 use Rattle.shade.proofs.Resolved.{some_samples}
 use Rattle.painting.proofs.covered_block.CoveredBlock.paint_single.Goals as goal
 
@@ -14,7 +14,7 @@ paint_plane-requires-clause-masks c =
     let number = number_in_tile c.args.self.now.tile.now c.args.self.now.bx c.args.self.now.by in
     let at : c.place_by-place.result ≡ place_by count Single number 0 = c.place_by-place.ensures.value ∙ ap (λ k. place_by count Single k 0) c.number.ensures.value in
     subst (HasNoMasks count old) (sym at)
-    (no_masks_at count old Single number 0 (some_samples count) single_not_cleared (λ pair. absurd (single_not_pair (sym c.requires.single ∙ pair))))
+    (no_masks_at count old Single number 0 (some_samples count) refl (λ masked. absurd (false≢true (sym masked ∙ ap is_plain c.requires.single))))
 
 pub returns : goal.returns
 returns c =

@@ -1,0 +1,159 @@
+//! Blocks of a tile that are kept in one sample or in two.
+ghost use Rattle.std.specs.Prelude.{◌≡◌, ℕ, ◌<◌, ◌≤◌, false, length, slice_index, IsTrue, IfSome};
+ghost use Rattle.grid.specs.Samples.{count_of};
+ghost use Rattle.lanes.specs.Block.{stored_at};
+ghost use Rattle.canvas.specs.Layout.{planes_of_tile, KeepsOtherSamples, KeepsOtherWays};
+ghost use Rattle.canvas.specs.FlatBlocks.{HasFlat, IsFlatReplaced};
+
+use crate::pair::{are_all, are_full, are_in, are_same, masks_of, set_masks, united, without};
+use crate::place::place_by;
+use crate::way::{Way, set_way, way_of};
+use grid::SampleCount;
+use lanes::BlockSamples;
+use shade::CanvasSample;
+
+/// The samples of a block: sample `s` of a pixel is the second one where `masks[s]` has the pixel's bit, else the first.
+#[derive(Clone, Copy, Debug, PartialEq, Eq)]
+pub struct FlatBlock {
+    /// The first sample.
+    pub first: CanvasSample,
+    /// The second one.
+    pub second: CanvasSample,
+    /// Of each sample index the pixels whose sample is the second one. No bit is set if the block has one sample.
+    pub masks: [u64; 16],
+}
+
+/// A plane all of whose samples are this one.
+#[inline]
+pub(crate) fn spread(sample: CanvasSample) -> BlockSamples
+    ensures { (p : ℕ) → p < 64 → stored_at result p ≡ sample }
+{
+    BlockSamples::filled(sample.colour_and_depth(), sample.alpha)
+}
+
+/// Whether all samples of a plane are the same.
+fn is_flat(plane: &BlockSamples) -> bool
+    ensures { IsTrue result → (p : ℕ) → p < 64 → stored_at plane.now p ≡ stored_at plane.now 0 }
+{
+    are_same(plane, &spread(plane.sample(0)))
+}
+
+/// Whether some bit of the masks is set.
+fn has_bits(count: SampleCount, masks: &[u64; 16]) -> bool
+    ensures { result ≡ false → (s : ℕ) → s < count_of count → slice_index masks.now s ≡ 0 }
+{
+    for s in 0..count.count() as usize {
+        if masks[s] != 0 {
+            return true;
+        }
+    }
+    false
+}
+
+impl FlatBlock {
+    /// All samples are this one.
+    fn one(sample: CanvasSample) -> FlatBlock
+        ensures { (result.first ≡ sample) × (result.second ≡ sample) }
+    {
+        FlatBlock {
+            first: sample,
+            second: sample,
+            masks: [0; 16],
+        }
+    }
+
+    /// The samples of block `k` of a tile with these planes, if it is seen that it has no more than two.
+    #[inline(always)]
+    pub fn of(count: SampleCount, k: usize, samples: &[BlockSamples]) -> Option<FlatBlock>
+        requires block { k < 64 }
+        requires samples { length samples.now ≡ planes_of_tile count }
+        ensures { IfSome result (λ flat. HasFlat count k flat samples.now) }
+    {
+        let way = way_of(&samples[0], k);
+        let first = &samples[place_by(count, way, k, 0)];
+        match way {
+            Way::Cleared | Way::Single if is_flat(first) => Some(FlatBlock::one(first.sample(0))),
+            Way::Flat => Some(FlatBlock::one(first.sample(k))),
+            Way::FlatPair => Some(FlatBlock {
+                first: first.sample(k),
+                second: samples[place_by(count, way, k, count.count() / 2)].sample(k),
+                masks: masks_of(
+                    count,
+                    &samples[place_by(count, Way::Own, k, count.count() - 1)],
+                ),
+            }),
+            _ => None,
+        }
+    }
+
+    /// Makes these the samples of block `k` of a tile.
+    #[inline(always)]
+    pub fn store(&self, count: SampleCount, k: usize, samples: &mut [BlockSamples])
+        requires some { 4 ≤ count_of count }
+        requires block { k < 64 }
+        requires samples { length samples.old ≡ planes_of_tile count }
+        ensures made { HasFlat count k self.now samples.new }
+        ensures ways { KeepsOtherWays k samples.old samples.new }
+        ensures others { KeepsOtherSamples count k samples.old samples.new }
+    {
+        samples[place_by(count, Way::Flat, k, 0)].set(k, self.first);
+        if !has_bits(count, &self.masks) {
+            set_way(&mut samples[0], k, Way::Flat);
+            return;
+        }
+        samples[place_by(count, Way::FlatPair, k, count.count() / 2)].set(k, self.second);
+        let masks = place_by(count, Way::Own, k, count.count() - 1);
+        set_masks(count, &self.masks, &mut samples[masks]);
+        set_way(&mut samples[0], k, Way::FlatPair);
+    }
+
+    /// The samples once, where these masks have a bit, `first` has taken the place of the first one, and `second` that of
+    /// the second one, if these are at most two.
+    #[inline(always)]
+    pub fn replaced(
+        &self,
+        count: SampleCount,
+        masks: &[u64; 16],
+        first: CanvasSample,
+        second: CanvasSample,
+    ) -> Option<FlatBlock>
+        ensures { IfSome result (λ flat. IsFlatReplaced count self.now masks.now first second flat) }
+    {
+        if first != second {
+            return if are_full(count, masks) {
+                Some(FlatBlock {
+                    first,
+                    second,
+                    masks: self.masks,
+                })
+            } else {
+                None
+            };
+        }
+        if are_full(count, masks) {
+            return Some(FlatBlock::one(first));
+        }
+        if are_in(count, &self.masks, masks) {
+            return Some(FlatBlock {
+                first: self.first,
+                second,
+                masks: *masks,
+            });
+        }
+        if self.first == first || are_all(count, &self.masks, masks) {
+            return Some(FlatBlock {
+                first,
+                second: self.second,
+                masks: without(count, &self.masks, masks),
+            });
+        }
+        if self.second == second {
+            return Some(FlatBlock {
+                first: self.first,
+                second,
+                masks: united(count, &self.masks, masks),
+            });
+        }
+        None
+    }
+}

@@ -1,0 +1,64 @@
+-- Blocks that have one sample or two, and what is drawn at them.
+use Rattle.std.proofs.Common.{◌≡◌, ◌∙◌, inl, inr, sym, subst, arith, Bool, true, false, ℕ, ◌+◌, ◌*◌, List, slice_index}
+use Rattle.std.specs.Prelude.{◌==◌, if◌then◌else◌}
+use Rattle.std.specs.Int.{bit_at}
+use Rattle.grid.specs.Position.{Position}
+use Rattle.grid.specs.Samples.{sample_position}
+use Rattle.grid.specs.declared.pixels.TileSide.TheVariants.{T64}
+use Rattle.lanes.specs.declared.block_samples.BlockSamples.{BlockSamples}
+use Rattle.shade.specs.declared.placed.Placed.{Placed}
+use Rattle.shade.specs.declared.sample.CanvasSample.{CanvasSample}
+use Rattle.shade.specs.Canvas.{IsCanvasDrawnAt}
+use Rattle.raster.specs.declared.tile.Tile.{Tile}
+use Rattle.raster.specs.Drawing.{LiesIn}
+use Rattle.raster.specs.Samples.{IsSampleOf}
+use Rattle.canvas.specs.declared.flat_block.FlatBlock.{FlatBlock}
+use Rattle.canvas.specs.Layout.{block_in_tile, pixel_in_block, stored_in_tile, KeepsOtherSamples}
+use Rattle.canvas.specs.FlatBlocks.{flat_sample, with_samples, HasFlat, IsFlatReplaced}
+use Rattle.canvas.proofs.Pairs.{chosen_set, chosen_clear}
+use Rattle.canvas.proofs.TilePlanes.{cases_eq}
+use Rattle.painting.specs.Parts.{number_in_tile, DrawsSample, IsInWords, TilePaints}
+use Rattle.painting.proofs.PairBlocks.{square_of}
+use Rattle.painting.proofs.Tiles.{on_screen, in_block}
+
+-- drawn at either of two samples
+either : (t : Placed) (p : Position) (b : Bool) (x y x' y' : CanvasSample) → IsCanvasDrawnAt t p x x' → IsCanvasDrawnAt t p y y' → IsCanvasDrawnAt t p (if b then y else x) (if b then y' else x')
+either t p true x y x' y' first second = second
+either t p false x y x' y' first second = first
+
+module _ (t : Placed) (tile : Tile) (side : tile.side ≡ T64) (bx by : ℕ) (block : LiesIn tile bx by 8) (words : List ℕ) (flat made : FlatBlock) (first second : CanvasSample) (old new : List BlockSamples)
+    (has : HasFlat tile.count (number_in_tile tile bx by) flat old) (draws_first : DrawsSample t flat.first first) (draws_second : DrawsSample t flat.second second)
+    (is : IsFlatReplaced tile.count flat words first second made) (stored : HasFlat tile.count (number_in_tile tile bx by) made new) (others : KeepsOtherSamples tile.count (number_in_tile tile bx by) old new) where
+  module _ (row column s : ℕ) (h : IsSampleOf tile row column s) where
+    abbrev pixel : ℕ
+    pixel = pixel_in_block column row
+
+    abbrev drawn : CanvasSample
+    drawn = flat_sample (with_samples flat first second) s pixel
+
+    new_is : block_in_tile column row ≡ number_in_tile tile bx by → stored_in_tile tile.count new column row s ≡ (if bit_at (slice_index words s) pixel == 1 then drawn else flat_sample flat s pixel)
+    new_is here = stored column row s h.is_sample here ∙ is s pixel h.is_sample (omega arith)
+
+    met : IsInWords tile bx by words row column s
+        → IsCanvasDrawnAt t (sample_position (8 * tile.bx + column) (8 * tile.by + row) s tile.count) (stored_in_tile tile.count old column row s) (stored_in_tile tile.count new column row s)
+    met p =
+        let here = in_block tile side bx by row column s h p.square in
+        let seen = on_screen tile side bx by row column s h in
+        let at = sample_position (8 * tile.bx + column) (8 * tile.by + row) s tile.count in
+        let both = either t at (bit_at (slice_index flat.masks s) pixel == 1) flat.first flat.second first second
+        (draws_first tile.count (8 * tile.bx + column) (8 * tile.by + row) s seen.0 seen.1) (draws_second tile.count (8 * tile.bx + column) (8 * tile.by + row) s seen.0 seen.1) in
+        subst (λ (x : CanvasSample). IsCanvasDrawnAt t at x (stored_in_tile tile.count new column row s)) (sym (has column row s h.is_sample here))
+        (subst (λ (y : CanvasSample). IsCanvasDrawnAt t at (flat_sample flat s pixel) y) (sym (new_is here ∙ chosen_set (slice_index words s) pixel drawn (flat_sample flat s pixel) p.in_words)) both)
+
+    missed : ¬ IsInWords tile bx by words row column s → stored_in_tile tile.count new column row s ≡ stored_in_tile tile.count old column row s
+    missed other =
+        elim (cases_eq (block_in_tile column row) (number_in_tile tile bx by)) [
+          | inr apart ↦ others column row s h.is_sample apart
+          | inl here ↦
+              new_is here
+              ∙ chosen_clear (slice_index words s) pixel drawn (flat_sample flat s pixel) (λ set. other (record { square = square_of tile side bx by block row column s h here; in_words = set }))
+              ∙ sym (has column row s h.is_sample here)
+        ]
+
+  pub flat_painted : TilePaints t tile (IsInWords tile bx by words) old new
+  flat_painted = record { met = λ row column s h p. met row column s h p; missed = λ row column s h other. missed row column s h other }
