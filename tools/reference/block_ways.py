@@ -1,8 +1,9 @@
-"""A canvas that keeps its blocks in one plane, as pairs or in planes of their own, as docs/polygons.md says, and
-mutants of it: by these the tests show that the scenes of tools/reference/polygon_scenes.py find mistakes of ways.
+"""A canvas that keeps its blocks in one sample or two, in one plane, as pairs or in planes of their own, as
+docs/polygons.md says, and mutants of it: by these the tests show that the scenes of tools/reference/polygon_scenes.py
+find mistakes of ways.
 
 It is no second library: it has the samples of tools/reference/polygon_samples.py, and of each pair the two planes and
-the masks. It is drawn on canvases of whole tiles, so that all blocks are whole. Needs numpy.
+the masks, or the two samples. It is drawn on canvases of whole tiles, so that all blocks are whole. Needs numpy.
 """
 
 from __future__ import annotations
@@ -32,6 +33,14 @@ class Pair(NamedTuple):
     masks: Any
 
 
+class Flat(NamedTuple):
+    """Two samples, and of each sample of the block whether it is the second of them."""
+
+    first: Any
+    second: Any
+    masks: Any
+
+
 def replaces_colours(shape: renderer.Triangle, samples: int) -> bool:
     """Whether a shape gives its colour to each sample that it covers in its scissor."""
     state, full = shape.state, (1 << samples) - 1
@@ -46,6 +55,8 @@ class Blocks(Samples):
     def __init__(self, scene: Scene) -> None:
         self.counted: Counter[str] = Counter()
         self.pairs: dict[At, Pair] = {}
+        # Blocks of two samples. A block of one is any that is neither here, nor a pair, nor own, and is all the same.
+        self.flats: dict[At, Flat] = {}
         # The blocks with planes of their own.
         self.own: set[At] = set()
         # The rows and columns of tiles that are as they were cleared, or were drawn whole since.
@@ -55,7 +66,7 @@ class Blocks(Samples):
     # ---- Calls but polygons
 
     def clear(self, call: Clear) -> None:
-        self.pairs, self.own = {}, set()
+        self.pairs, self.flats, self.own = {}, {}, set()
         self.cleared = set(tiles_of((slice(0, self.frame.height), slice(0, self.frame.width))))
         super().clear(call)
 
@@ -92,13 +103,16 @@ class Blocks(Samples):
                 self.paint_block(at, words, shape)
 
     def paint_block(self, at: At, words: Any, shape: renderer.Triangle) -> None:
-        if self.allows(at, shape) and self.paint_planes(at, words, shape):
+        if self.allows(at, shape) and (self.paint_flat(at, words, shape) or self.paint_planes(at, words, shape)):
             return
         if at not in self.own:
-            self.counted["pair to own" if at in self.pairs else "single to own"] += 1
+            self.counted[f"{self.way(at)} to own"] += 1
         self.free(at)
         self.own.add(at)
         self.values[square(at)][words] = self.merged(self.values[square(at)][words], shape)
+
+    def way(self, at: At) -> str:
+        return "pair" if at in self.pairs else "two samples" if at in self.flats else "single"
 
     def allows(self, at: At, shape: renderer.Triangle) -> bool:
         """Whether the state lets all samples of the block's tile be drawn."""
@@ -108,10 +122,56 @@ class Blocks(Samples):
         holds = holds and left + TILE <= state.scissor[2] and top + TILE <= state.scissor[3]
         return holds and state.sample_mask & full == full
 
+    def paint_flat(self, at: At, words: Any, shape: renderer.Triangle) -> bool:
+        """Whether the block had one sample or two, and has no more now."""
+        flat = self.flat_of(at)
+        if self.frame.samples < 4 or flat is None:
+            return False
+        first, second = self.drawn(flat, shape)
+        if first != second:
+            self.counted["both samples"] += bool(words.all())
+            return bool(words.all()) and self.put_flat(at, Flat(first, second, flat.masks))
+        if words.all():
+            self.counted["one sample"] += 1
+            return self.put_flat(at, Flat(first, first, flat.masks & False))
+        if self.holds(words, flat.masks):
+            self.counted["second sample replaced"] += 1
+            return self.put_flat(at, Flat(flat.first, first, words))
+        if flat.first == first or (words | flat.masks).all():
+            self.counted["first sample extended" if flat.first == first else "first sample replaced"] += 1
+            return self.put_flat(at, Flat(first, flat.second, self.rest(flat.masks, words)))
+        if flat.second == first:
+            self.counted["second sample extended"] += 1
+            return self.put_flat(at, Flat(flat.first, first, self.joined(flat.masks, words)))
+        return False
+
+    def flat_of(self, at: At) -> Flat | None:
+        if at in self.flats:
+            return self.flats[at]
+        found = self.values[square(at)]
+        if at in self.pairs or at in self.own or not self.is_uniform(found):
+            return None
+        return Flat(found[0, 0, 0], found[0, 0, 0], np.zeros(found.shape, bool))
+
+    def is_uniform(self, found: Any) -> bool:
+        return bool((found == found[0, 0, 0]).all())
+
+    def drawn(self, flat: Flat, shape: renderer.Triangle) -> tuple[Any, Any]:
+        """What the shape makes of the two samples."""
+        first, second = self.merged(np.array([flat.first, flat.second]), shape)
+        return first, second
+
+    def put_flat(self, at: At, flat: Flat) -> bool:
+        self.free(at)
+        if flat.masks.any():
+            self.flats[at] = flat
+        self.values[square(at)] = np.where(self.seen(flat.masks), flat.second, flat.first)
+        return True
+
     def paint_planes(self, at: At, words: Any, shape: renderer.Triangle) -> bool:
         """Whether the block was drawn in one plane or two."""
         is_full = words.all()
-        if is_full and at not in self.pairs and self.has_one_plane(at, shape):
+        if is_full and at not in self.pairs and at not in self.flats and self.has_one_plane(at, shape):
             plane = self.values[square(at)][..., 0]
             self.put_single(at, self.merged(plane.ravel(), shape).reshape(plane.shape))
             return True
@@ -138,7 +198,7 @@ class Blocks(Samples):
 
     def paint_as_pair(self, at: At, words: Any, shape: renderer.Triangle) -> bool:
         if at not in self.pairs:
-            if at in self.own:
+            if at in self.own or at in self.flats:
                 return False
             first = self.values[square(at)][..., 0].copy()
             self.counted["single to pair"] += 1
@@ -207,8 +267,9 @@ class Blocks(Samples):
         return masks
 
     def free(self, at: At) -> None:
-        """The block is no pair any more; its samples are those that were read of it."""
+        """The block is no pair any more, nor of two samples; its samples are those that were read of it."""
         self.pairs.pop(at, None)
+        self.flats.pop(at, None)
 
     def is_alike(self, at: At) -> bool:
         found = self.values[square(at)]
@@ -331,6 +392,29 @@ class SecondPlaneShrunk(Blocks):
         return words
 
 
+class SecondSampleLeft(Blocks):
+    """The second sample of a block that has two is left as it was where a polygon covers the block."""
+
+    def drawn(self, flat: Flat, shape: renderer.Triangle) -> tuple[Any, Any]:
+        first, second = super().drawn(flat, shape)
+        return first, second if flat.first == flat.second else flat.second
+
+
+class SamplesAlike(Blocks):
+    """What a polygon makes of the first sample of a block is taken for what it makes of the second."""
+
+    def drawn(self, flat: Flat, shape: renderer.Triangle) -> tuple[Any, Any]:
+        first, _second = super().drawn(flat, shape)
+        return first, first
+
+
+class PixelsAlike(Blocks):
+    """A block whose first two pixels are the same is taken for one of one sample."""
+
+    def is_uniform(self, found: Any) -> bool:
+        return bool((found[0, :2] == found[0, 0, 0]).all())
+
+
 class SampleOfPair(Blocks):
     """A picture of one sample of a pixel becomes that of all samples of a pair's plane."""
 
@@ -391,7 +475,8 @@ class LargeLeftOut(Samples):
 MUTANTS: tuple[type[Samples], ...] = (
     FirstPlaneAlone, SecondPlaneAlone, MasksTurned, MasksSwapped, MasksOfNextRow, SingleOverDepths,
     SingleOverSecondDepths, SingleOverAlphas, PairOverDepths, PairOverBlending, ThirdColourLost, MasksLeft,
-    SecondPlaneShrunk, SampleOfPair, PixelsWhole, MaskOverlooked, RowsReversed, LargeFirst, LargeLeftOut,
+    SecondPlaneShrunk, SecondSampleLeft, SamplesAlike, PixelsAlike, SampleOfPair, PixelsWhole, MaskOverlooked,
+    RowsReversed, LargeFirst, LargeLeftOut,
 )
 
 

@@ -276,14 +276,14 @@ def a_triangles_call(pick: random.Random, size: Size, palette: Palette) -> Trian
     return Triangles(vertices, pick.choice(palette.states), a_first_id(pick))
 
 
-def a_picture(pick: random.Random, size: Size, palette: Palette, samples: int) -> Picture:
-    """A picture of the scene's colours: spots of some pixels over one of them."""
+def a_picture(pick: random.Random, size: Size, palette: Palette, samples: int, whole: float = 0.4) -> Picture:
+    """A picture of the scene's colours: spots of some pixels over one of them, of all samples in so many of 1."""
     channels = pick.choice((3, 4))
     colours = [colour[:channels] for colour in palette.colours]
     pixels = [[pick.choice(colours)] * size[0] for _ in range(size[1])]
     for row in pick.sample(pixels, size[1] // 3):
         row[pick.randrange(size[0])] = pick.choice(colours)
-    return Picture(pixels, pick.randrange(samples) if pick.random() < 0.6 else None)
+    return Picture(pixels, None if pick.random() < whole else pick.randrange(samples))
 
 
 def a_call(
@@ -336,6 +336,10 @@ def a_scene(pick: random.Random, samples: int, size: Size | None = None) -> Scen
     partitions = [a_partition(pick, (width, height)) for _ in range(pick.randint(1, 2))]
     origin = (0, 0) if pick.random() < 0.6 else (pick.randint(-99, 99), pick.randint(-99, 99))
     calls: list[Any] = [Clear(palette.colours[0], pick.choice((65535, *palette.depths)))]
+    # Blocks of more colours than two, which are kept in planes, and polygons over them.
+    if pick.random() < 0.5:
+        calls.append(a_picture(pick, (width, height), palette, samples, whole=1))
+        calls += [a_shapes_call(pick, (width, height), palette) for _ in range(3)]
     calls += [a_call(pick, (width, height), palette, partitions, samples) for _ in range(pick.randint(5, 12))]
     return Scene(
         width, height, samples, has_alpha, origin, pick.randint(1, 3), [moved(it, origin) for it in calls]

@@ -52,12 +52,14 @@ def test_ways_of_blocks_change_no_sample_and_each_is_taken_often() -> None:
         assert isinstance(blocks, block_ways.Blocks)
         taken += blocks.counted
     for way in (
-        "single to pair", "pair to single", "second plane replaced", "first plane replaced", "both planes",
-        "single to own", "pair to own", "own to single",
+        "one sample", "both samples", "second sample replaced", "first sample replaced", "first sample extended",
+        "two samples to own", "single to pair", "pair to single", "both planes", "single to own", "pair to own",
+        "own to single",
     ):
         assert taken[way] >= 100, (way, taken)
-    assert taken["second plane extended"] >= 40, taken
-    assert taken["whole cleared tile"] >= 10, taken
+    for way in ("second sample extended", "second plane replaced", "first plane replaced", "whole cleared tile"):
+        assert taken[way] >= 40, (way, taken)
+    assert taken["second plane extended"] >= 10, taken
 
 
 @pytest.mark.parametrize("kind", block_ways.MUTANTS, ids=[kind.__name__ for kind in block_ways.MUTANTS])
