@@ -16,6 +16,10 @@ abbrev pub HasFlat : SampleCount → ℕ → FlatBlock → List BlockSamples →
 HasFlat count k flat samples =
     (i j s : ℕ) → s < count_of count → block_in_tile i j ≡ k → stored_in_tile count samples i j s ≡ flat_sample flat s (pixel_in_block i j)
 
+-- All samples of block k of a tile are this one.
+abbrev pub HasOne : SampleCount → ℕ → CanvasSample → List BlockSamples → Type 0
+HasOne count k sample samples = (i j s : ℕ) → s < count_of count → block_in_tile i j ≡ k → stored_in_tile count samples i j s ≡ sample
+
 -- The block once `first` has taken the place of its first sample, and `second` that of its second one.
 abbrev pub with_samples : FlatBlock → CanvasSample → CanvasSample → FlatBlock
 with_samples flat first second = record { first = first; second = second; masks = flat.masks }

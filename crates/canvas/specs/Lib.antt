@@ -101,6 +101,7 @@
 -- FlatBlocks.antt
 --   flat_sample: Sample s of pixel p of the block: the second one where its mask has the pixel's bit, else the first.
 --   HasFlat: The samples of block k of a tile are these.
+--   HasOne: All samples of block k of a tile are this one.
 --   with_samples: The block once `first` has taken the place of its first sample, and `second` that of its second one.
 --   IsFlatReplaced: Where the masks have a bit, `first` has taken the place of the first sample, and `second` that of the second one.
 --

@@ -140,7 +140,7 @@ fn count_bits(count: SampleCount, masks: &BlockSamples) -> u16x64
 }
 
 /// The means of bytes in lanes: `bits` samples of each pixel have the second, and the others the first.
-#[inline(always)]
+#[inline(never)]
 fn means_of_both(count: SampleCount, bits: u16x64, first: u16x64, second: u16x64) -> [u8; 64]
     requires bits { length bits ≡ 64 }
     requires few { (p : ℕ) → p < 64 → slice_index bits p ≤ count_of count }

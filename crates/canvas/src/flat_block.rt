@@ -3,7 +3,7 @@ ghost use Rattle.std.specs.Prelude.{◌≡◌, ℕ, ◌<◌, ◌≤◌, false, l
 ghost use Rattle.grid.specs.Samples.{count_of};
 ghost use Rattle.lanes.specs.Block.{stored_at};
 ghost use Rattle.canvas.specs.Layout.{planes_of_tile, KeepsOtherSamples, KeepsOtherWays};
-ghost use Rattle.canvas.specs.FlatBlocks.{HasFlat, IsFlatReplaced};
+ghost use Rattle.canvas.specs.FlatBlocks.{HasFlat, HasOne, IsFlatReplaced};
 
 use crate::pair::{are_all, are_full, are_in, are_same, masks_of, set_masks, united, without};
 use crate::place::place_by;
@@ -50,6 +50,41 @@ fn has_bits(count: SampleCount, masks: &[u64; 16]) -> bool
     false
 }
 
+/// The sample that all samples of block `k` of a tile with these planes are, if that is seen.
+#[inline(always)]
+pub fn one_sample(count: SampleCount, k: usize, samples: &[BlockSamples]) -> Option<CanvasSample>
+    requires block { k < 64 }
+    requires samples { length samples.now ≡ planes_of_tile count }
+    ensures { IfSome result (λ sample. HasOne count k sample samples.now) }
+{
+    let way = way_of(&samples[0], k);
+    let plane = &samples[place_by(count, way, k, 0)];
+    match way {
+        Way::Flat => Some(plane.sample(k)),
+        Way::Cleared | Way::Single if is_flat(plane) => Some(plane.sample(0)),
+        _ => None,
+    }
+}
+
+/// Makes a sample all samples of block `k` of a tile.
+#[inline(always)]
+pub fn make_flat(
+    count: SampleCount,
+    k: usize,
+    sample: CanvasSample,
+    samples: &mut [BlockSamples],
+)
+    requires some { 4 ≤ count_of count }
+    requires block { k < 64 }
+    requires samples { length samples.old ≡ planes_of_tile count }
+    ensures made { HasOne count k sample samples.new }
+    ensures ways { KeepsOtherWays k samples.old samples.new }
+    ensures others { KeepsOtherSamples count k samples.old samples.new }
+{
+    samples[place_by(count, Way::Flat, k, 0)].set(k, sample);
+    set_way(&mut samples[0], k, Way::Flat);
+}
+
 impl FlatBlock {
     /// All samples are this one.
     fn one(sample: CanvasSample) -> FlatBlock
@@ -69,14 +104,13 @@ impl FlatBlock {
         requires samples { length samples.now ≡ planes_of_tile count }
         ensures { IfSome result (λ flat. HasFlat count k flat samples.now) }
     {
-        let way = way_of(&samples[0], k);
-        let first = &samples[place_by(count, way, k, 0)];
-        match way {
-            Way::Cleared | Way::Single if is_flat(first) => Some(FlatBlock::one(first.sample(0))),
-            Way::Flat => Some(FlatBlock::one(first.sample(k))),
+        if let Some(sample) = one_sample(count, k, samples) {
+            return Some(FlatBlock::one(sample));
+        }
+        match way_of(&samples[0], k) {
             Way::FlatPair => Some(FlatBlock {
-                first: first.sample(k),
-                second: samples[place_by(count, way, k, count.count() / 2)].sample(k),
+                first: samples[place_by(count, Way::FlatPair, k, 0)].sample(k),
+                second: samples[place_by(count, Way::FlatPair, k, count.count() / 2)].sample(k),
                 masks: masks_of(
                     count,
                     &samples[place_by(count, Way::Own, k, count.count() - 1)],
@@ -96,11 +130,11 @@ impl FlatBlock {
         ensures ways { KeepsOtherWays k samples.old samples.new }
         ensures others { KeepsOtherSamples count k samples.old samples.new }
     {
-        samples[place_by(count, Way::Flat, k, 0)].set(k, self.first);
         if !has_bits(count, &self.masks) {
-            set_way(&mut samples[0], k, Way::Flat);
+            make_flat(count, k, self.first, samples);
             return;
         }
+        samples[place_by(count, Way::FlatPair, k, 0)].set(k, self.first);
         samples[place_by(count, Way::FlatPair, k, count.count() / 2)].set(k, self.second);
         let masks = place_by(count, Way::Own, k, count.count() - 1);
         set_masks(count, &self.masks, &mut samples[masks]);

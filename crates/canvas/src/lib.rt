@@ -38,7 +38,7 @@ mod window;
 
 pub use canvas::Canvas;
 pub use entries::Entry;
-pub use flat_block::FlatBlock;
+pub use flat_block::{FlatBlock, make_flat, one_sample};
 pub use format::Format;
 pub use hidden::{replaces_colours, writes_beside_colours};
 pub use ids::{Ids, colour_of_id, replacing};

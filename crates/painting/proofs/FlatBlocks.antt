@@ -10,11 +10,11 @@ use Rattle.shade.specs.declared.placed.Placed.{Placed}
 use Rattle.shade.specs.declared.sample.CanvasSample.{CanvasSample}
 use Rattle.shade.specs.Canvas.{IsCanvasDrawnAt}
 use Rattle.raster.specs.declared.tile.Tile.{Tile}
-use Rattle.raster.specs.Drawing.{LiesIn}
+use Rattle.raster.specs.Drawing.{IsInSquare, LiesIn}
 use Rattle.raster.specs.Samples.{IsSampleOf}
 use Rattle.canvas.specs.declared.flat_block.FlatBlock.{FlatBlock}
 use Rattle.canvas.specs.Layout.{block_in_tile, pixel_in_block, stored_in_tile, KeepsOtherSamples}
-use Rattle.canvas.specs.FlatBlocks.{flat_sample, with_samples, HasFlat, IsFlatReplaced}
+use Rattle.canvas.specs.FlatBlocks.{flat_sample, with_samples, HasFlat, HasOne, IsFlatReplaced}
 use Rattle.canvas.proofs.Pairs.{chosen_set, chosen_clear}
 use Rattle.canvas.proofs.TilePlanes.{cases_eq}
 use Rattle.painting.specs.Parts.{number_in_tile, DrawsSample, IsInWords, TilePaints}
@@ -25,6 +25,20 @@ use Rattle.painting.proofs.Tiles.{on_screen, in_block}
 either : (t : Placed) (p : Position) (b : Bool) (x y x' y' : CanvasSample) → IsCanvasDrawnAt t p x x' → IsCanvasDrawnAt t p y y' → IsCanvasDrawnAt t p (if b then y else x) (if b then y' else x')
 either t p true x y x' y' first second = second
 either t p false x y x' y' first second = first
+
+-- drawn at the one sample of a block
+module _ (t : Placed) (tile : Tile) (side : tile.side ≡ T64) (bx by : ℕ) (block : LiesIn tile bx by 8) (sample made : CanvasSample) (old new : List BlockSamples) (has : HasOne tile.count (number_in_tile tile bx by) sample old)
+    (draws : DrawsSample t sample made) (stored : HasOne tile.count (number_in_tile tile bx by) made new) (others : KeepsOtherSamples tile.count (number_in_tile tile bx by) old new) where
+  pub one_painted : TilePaints t tile (IsInSquare tile bx by 8) old new
+  one_painted = record {
+    met = λ row column s h q.
+        let here = in_block tile side bx by row column s h q in
+        let seen = on_screen tile side bx by row column s h in
+        let at = sample_position (8 * tile.bx + column) (8 * tile.by + row) s tile.count in
+        subst (λ (x : CanvasSample). IsCanvasDrawnAt t at x (stored_in_tile tile.count new column row s)) (sym (has column row s h.is_sample here))
+        (subst (λ (y : CanvasSample). IsCanvasDrawnAt t at sample y) (sym (stored column row s h.is_sample here)) (draws tile.count (8 * tile.bx + column) (8 * tile.by + row) s seen.0 seen.1));
+    missed = λ row column s h other. others column row s h.is_sample (λ here. other (square_of tile side bx by block row column s h here));
+  }
 
 module _ (t : Placed) (tile : Tile) (side : tile.side ≡ T64) (bx by : ℕ) (block : LiesIn tile bx by 8) (words : List ℕ) (flat made : FlatBlock) (first second : CanvasSample) (old new : List BlockSamples)
     (has : HasFlat tile.count (number_in_tile tile bx by) flat old) (draws_first : DrawsSample t flat.first first) (draws_second : DrawsSample t flat.second second)

@@ -6,7 +6,9 @@ ghost use Rattle.painting.specs.Parts.{DrawsSample, IsFlatDrawn, IsInBlock, Tile
 
 use crate::covered_block::CoveredBlock;
 use crate::masks::Masks;
-use canvas::{FlatBlock, has_pairs, replaces_colours, writes_beside_colours};
+use canvas::{
+    FlatBlock, has_pairs, make_flat, one_sample, replaces_colours, writes_beside_colours,
+};
 use lanes::BlockSamples;
 use shade::{CanvasSample, Shaded, apply_on_canvas};
 
@@ -83,10 +85,18 @@ impl CoveredBlock<'_> {
         if !has_pairs(count) {
             return false;
         }
+        let row = (self.by - self.tile.by) as usize;
+        // Most blocks are of one sample and covered whole, which needs no masks.
+        if masks.is_full(k, row) {
+            if let Some(sample) = one_sample(count, number, samples) {
+                make_flat(count, number, self.drawn(sample), samples);
+                return true;
+            }
+        }
         let Some(flat) = FlatBlock::of(count, number, samples) else {
             return false;
         };
-        let words = masks.words(k, (self.by - self.tile.by) as usize);
+        let words = masks.words(k, row);
         match self.flat_drawn(&flat, &words) {
             None => false,
             Some(drawn) => {
