@@ -14,31 +14,9 @@ use Rattle.shade.specs.declared.sample.CanvasSample.{CanvasSample}
 use Rattle.canvas.specs.declared.way.Way.{Way}
 use Rattle.canvas.specs.declared.way.Way.TheVariants.{Cleared, Single, Pair, Own, Flat, FlatPair}
 use Rattle.canvas.specs.Layout.{planes_of_tile, block_in_tile, pixel_in_block, way_of, place_by, slot_by, is_plain, mask_of, masks_in, sample_place, in_list, stored_in_tile, way_in_tile, chosen, HasMasks, KeepsOtherSamples, KeepsOtherWays}
+use Rattle.canvas.proofs.Ways.{pair_not_flat, flat_pair_not_flat}
 use Rattle.canvas.proofs.Places.{none, behind_first, within_way, last_sample}
 use Rattle.canvas.proofs.TilePlanes.{cases_eq, KeepsOthers, by_any_way, others_same, way_set, behind_set}
-
--- a sample is that of the second plane where the mask has a bit
-by_bit : (b : Bool) (g : ℕ → CanvasSample) (n m : ℕ) → (if b then g n else g m) ≡ g (if b then n else m)
-by_bit true g n m = refl
-by_bit false g n m = refl
-
--- the first and the second sample of a pair at pixel p, or those of a flat block
-abbrev pub sample_of : SampleCount → Way → (ℕ → BlockSamples) → ℕ → ℕ → ℕ → CanvasSample
-sample_of count way f k p n = stored_at (f (place_by count way k n)) (slot_by way k p)
-
-pub chosen_by : (count : SampleCount) (way : Way) (f : ℕ → BlockSamples) (k p s : ℕ) → is_plain way ≡ false
-    → chosen (mask_of (masks_in count f k) s) p (sample_of count way f k p (count_of count / 2)) (sample_of count way f k p 0) ≡ stored_at (f (sample_place count way f k p s)) (slot_by way k p)
-chosen_by count Cleared f k p s other = absurd (false≢true (sym other))
-chosen_by count Single f k p s other = absurd (false≢true (sym other))
-chosen_by count Pair f k p s other = by_bit (bit_at (mask_of (masks_in count f k) s) p == 1) (sample_of count Pair f k p) (count_of count / 2) 0
-chosen_by count Own f k p s other = absurd (false≢true (sym other))
-chosen_by count Flat f k p s other = by_bit (bit_at (mask_of (masks_in count f k) s) p == 1) (sample_of count Flat f k p) (count_of count / 2) 0
-chosen_by count FlatPair f k p s other = by_bit (bit_at (mask_of (masks_in count f k) s) p == 1) (sample_of count FlatPair f k p) (count_of count / 2) 0
-
-pub chosen_place : (count : SampleCount) (f : ℕ → BlockSamples) (k p s : ℕ)
-    → chosen (mask_of (masks_in count f k) s) p (stored_at (f (place_by count Pair k (count_of count / 2))) p) (stored_at (f (place_by count Pair k 0)) p)
-    ≡ stored_at (f (sample_place count Pair f k p s)) p
-chosen_place count f k p s = chosen_by count Pair f k p s refl
 
 -- ---- one of two samples by a bit of a mask
 pub chosen_set : (mask p : ℕ) (x y : CanvasSample) → bit_at mask p ≡ 1 → chosen mask p x y ≡ x
@@ -61,7 +39,41 @@ chosen_same mask p x y e =
 pub chosen_none : (mask p : ℕ) (x y : CanvasSample) → mask ≡ 0 → chosen mask p x y ≡ y
 chosen_none mask p x y e = chosen_clear mask p x y (λ set. (let zero = ap (λ m. bit_at m p) e ∙ bit_at-zero p in omega (arith, set, zero)))
 
--- in place of samples one is stored where a mask has a bit: all of the second one are in that mask
+-- a sample is that of the second plane where the mask has a bit
+by_bit : (b : Bool) (g : ℕ → CanvasSample) (n m : ℕ) → (if b then g n else g m) ≡ g (if b then n else m)
+by_bit true g n m = refl
+by_bit false g n m = refl
+
+-- the first and the second sample of a pair at pixel p, or those of a flat block
+abbrev pub sample_of : SampleCount → Way → (ℕ → BlockSamples) → ℕ → ℕ → ℕ → CanvasSample
+sample_of count way f k p n = stored_at (f (place_by count way k n)) (slot_by way k p)
+
+pub chosen_by : (count : SampleCount) (way : Way) (f : ℕ → BlockSamples) (k p s : ℕ) → is_plain way ≡ false
+    → chosen (mask_of (masks_in count f k) s) p (sample_of count way f k p (count_of count / 2)) (sample_of count way f k p 0) ≡ stored_at (f (sample_place count way f k p s)) (slot_by way k p)
+chosen_by count Cleared f k p s other = absurd (false≢true (sym other))
+chosen_by count Single f k p s other = absurd (false≢true (sym other))
+chosen_by count Pair f k p s other = by_bit (bit_at (mask_of (masks_in count f k) s) p == 1) (sample_of count Pair f k p) (count_of count / 2) 0
+chosen_by count Own f k p s other = absurd (false≢true (sym other))
+chosen_by count Flat f k p s other = chosen_same (mask_of (masks_in count f k) s) p (sample_of count Flat f k p 0) (sample_of count Flat f k p (count_of count / 2)) refl
+chosen_by count FlatPair f k p s other = by_bit (bit_at (mask_of (masks_in count f k) s) p == 1) (sample_of count FlatPair f k p) (count_of count / 2) 0
+
+-- by these masks, which are any if the block has one sample
+pub chosen_with : (count : SampleCount) (way : Way) (f : ℕ → BlockSamples) (masks : BlockSamples) (k p s : ℕ) → is_plain way ≡ false → (way ≢ Flat → masks ≡ masks_in count f k)
+    → chosen (mask_of masks s) p (sample_of count way f k p (count_of count / 2)) (sample_of count way f k p 0) ≡ stored_at (f (sample_place count way f k p s)) (slot_by way k p)
+chosen_with count Cleared f masks k p s other same = absurd (false≢true (sym other))
+chosen_with count Single f masks k p s other same = absurd (false≢true (sym other))
+chosen_with count Pair f masks k p s other same = ap (λ m. chosen (mask_of m s) p (sample_of count Pair f k p (count_of count / 2)) (sample_of count Pair f k p 0)) (same pair_not_flat) ∙ chosen_by count Pair f k p s refl
+chosen_with count Own f masks k p s other same = absurd (false≢true (sym other))
+chosen_with count Flat f masks k p s other same = chosen_same (mask_of masks s) p (sample_of count Flat f k p 0) (sample_of count Flat f k p (count_of count / 2)) refl
+chosen_with count FlatPair f masks k p s other same =
+    ap (λ m. chosen (mask_of m s) p (sample_of count FlatPair f k p (count_of count / 2)) (sample_of count FlatPair f k p 0)) (same flat_pair_not_flat) ∙ chosen_by count FlatPair f k p s refl
+
+pub chosen_place : (count : SampleCount) (f : ℕ → BlockSamples) (k p s : ℕ)
+    → chosen (mask_of (masks_in count f k) s) p (stored_at (f (place_by count Pair k (count_of count / 2))) p) (stored_at (f (place_by count Pair k 0)) p)
+    ≡ stored_at (f (sample_place count Pair f k p s)) p
+chosen_place count f k p s = chosen_by count Pair f k p s refl
+
+-- ---- in place of samples one is stored where a mask has a bit: all of the second one are in that mask
 pub in_replaced : (mask old p : ℕ) (x a b : CanvasSample) → (bit_at old p ≡ 1 → bit_at mask p ≡ 1) → chosen mask p x a ≡ chosen mask p x (chosen old p b a)
 in_replaced mask old p x a b within =
     elim (cases_eq (bit_at mask p) 1) [

@@ -79,7 +79,7 @@ within_block count Cleared masks p s h = h
 within_block count Single masks p s h = h
 within_block count Pair masks p s h = either_plane count (bit_at (mask_of masks s) p == 1)
 within_block count Own masks p s h = h
-within_block count Flat masks p s h = either_plane count (bit_at (mask_of masks s) p == 1)
+within_block count Flat masks p s h = some_samples count
 within_block count FlatPair masks p s h = either_plane count (bit_at (mask_of masks s) p == 1)
 
 pub behind_first : (count : SampleCount) (way : Way) (k s : ℕ) → place_by count way k s ≢ 0

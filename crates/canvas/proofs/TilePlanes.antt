@@ -75,7 +75,7 @@ same_own_plane count Cleared a b p s same = refl
 same_own_plane count Single a b p s same = refl
 same_own_plane count Pair a b p s same = ap (λ mask. if bit_at mask p == 1 then count_of count / 2 else 0) same
 same_own_plane count Own a b p s same = refl
-same_own_plane count Flat a b p s same = ap (λ mask. if bit_at mask p == 1 then count_of count / 2 else 0) same
+same_own_plane count Flat a b p s same = refl
 same_own_plane count FlatPair a b p s same = ap (λ mask. if bit_at mask p == 1 then count_of count / 2 else 0) same
 
 pub same_mask : (a b : BlockSamples) (s : ℕ) → s < 16 → ((k : ℕ) → k < 64 → slice_index a.z k ≡ slice_index b.z k) → mask_of a s ≡ mask_of b s

@@ -104,3 +104,20 @@ some_of_cleared green red all = some_green green red 0 (all 0 (omega arith))
 pub other_way : (green red : List ℕ) (k byte m : ℕ) → m ≢ k → way_by green (slice_set red k byte) m ≡ way_by green red m
 other_way green red k byte m other =
     ap (λ r. if slice_index green 0 == 0 then Own else by_byte r) (get_or-set_other red k m byte 0 other)
+
+-- ---- flat blocks
+IsNotFlat : Way → Type 0
+IsNotFlat Cleared = Unit {0}
+IsNotFlat Single = Unit {0}
+IsNotFlat Pair = Unit {0}
+IsNotFlat Own = Unit {0}
+IsNotFlat Flat = ⊥
+IsNotFlat FlatPair = Unit {0}
+
+pub pair_not_flat : Pair ≢ Flat
+unfolding IsNotFlat
+pair_not_flat e = subst IsNotFlat e tt
+
+pub flat_pair_not_flat : FlatPair ≢ Flat
+unfolding IsNotFlat
+flat_pair_not_flat e = subst IsNotFlat e tt

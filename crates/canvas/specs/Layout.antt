@@ -127,14 +127,14 @@ abbrev pub mask_of : BlockSamples → ℕ → ℕ
 mask_of masks s =
     slice_index masks.z (4 * s) + 65536 * slice_index masks.z (4 * s + 1) + 4294967296 * slice_index masks.z (4 * s + 2) + 281474976710656 * slice_index masks.z (4 * s + 3)
 
--- Which of the own planes of a block has sample s of pixel p. A pair has two of them, the first and the middle one, and these masks; a
--- flat block too, with one sample in each.
+-- Which of the own planes of a block has sample s of pixel p. A pair has two of them, the first and the middle one, and these masks; so
+-- has a flat block of two samples, with one in each, and one of one sample has the first.
 abbrev pub own_plane : SampleCount → Way → BlockSamples → ℕ → ℕ → ℕ
 own_plane count Cleared masks p s = s
 own_plane count Single masks p s = s
 own_plane count Pair masks p s = if bit_at (mask_of masks s) p == 1 then count_of count / 2 else 0
 own_plane count Own masks p s = s
-own_plane count Flat masks p s = if bit_at (mask_of masks s) p == 1 then count_of count / 2 else 0
+own_plane count Flat masks p s = 0
 own_plane count FlatPair masks p s = if bit_at (mask_of masks s) p == 1 then count_of count / 2 else 0
 
 -- The index of the plane with the masks of block k among those of its tile, if it is a pair: the last of its own planes.

@@ -68,12 +68,7 @@ pub fn one_sample(count: SampleCount, k: usize, samples: &[BlockSamples]) -> Opt
 
 /// Makes a sample all samples of block `k` of a tile.
 #[inline(always)]
-pub fn make_flat(
-    count: SampleCount,
-    k: usize,
-    sample: CanvasSample,
-    samples: &mut [BlockSamples],
-)
+pub fn make_flat(count: SampleCount, k: usize, sample: CanvasSample, samples: &mut [BlockSamples])
     requires some { 4 ≤ count_of count }
     requires block { k < 64 }
     requires samples { length samples.old ≡ planes_of_tile count }

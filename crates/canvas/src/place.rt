@@ -1,7 +1,8 @@
 //! Where a sample is stored.
-ghost use Rattle.std.specs.Prelude.{◌≡◌, ◌↔◌, true, false, ℕ, ◌+◌, ◌*◌, ◌/◌, ◌%◌, ◌<◌, length, IsTrue, IsSome, IfSome};
+ghost use Rattle.std.specs.Prelude.{◌≡◌, ◌≢◌, ◌↔◌, true, false, ℕ, ◌+◌, ◌*◌, ◌/◌, ◌%◌, ◌<◌, length, IsTrue, IsSome, IfSome};
 ghost use Rattle.grid.specs.Samples.{count_of};
 ghost use Rattle.lanes.specs.Block.{stored_at};
+ghost use Rattle.canvas.specs.declared.way.Way.TheVariants.{Flat as AsFlat};
 ghost use Rattle.canvas.specs.Layout.{HasPixel, HasTile, columns_of, planes_of_tile, planes_of_row, block_in_tile, pixel_in_block, block_in_tile as block_of, pixel_in_block as pixel_of_block, place_by as place_of_way, flat_place as the_flat_place, slot_by, is_plain, own_plane, masks_in, place_in_tile, in_list, stored, stored_in_tile, way_in_tile, way_in_row};
 
 use crate::canvas::Canvas;
@@ -87,7 +88,7 @@ fn own_plane(
     ensures within { result < count_of count }
 {
     match way {
-        Way::Pair | Way::Flat | Way::FlatPair => {
+        Way::Pair | Way::FlatPair => {
             let masks = &planes[place_by(count, Way::Own, k, count.count() - 1)];
             if (mask_of(masks, s) >> p) % 2 == 1 {
                 count.count() / 2
@@ -95,6 +96,7 @@ fn own_plane(
                 0
             }
         }
+        Way::Flat => 0,
         Way::Cleared | Way::Single | Way::Own => s,
     }
 }
@@ -136,14 +138,14 @@ pub(crate) fn sample_in_tile(
     planes[place_in_tile(planes, count, i, j, s)].sample(slot)
 }
 
-/// The two planes of block `k` of a tile with these planes, if it is a pair. If it is flat, all samples of the first are its
-/// first sample, and all of the second its second one.
+/// The two planes of block `k` of a tile with these planes and its masks, if it is a pair. If it is flat, all samples of the
+/// first are its first sample, and all of the second its second one. One of one sample has no masks, and any do.
 pub(crate) fn two_planes(
     count: SampleCount,
     way: Way,
     k: usize,
     planes: &[BlockSamples],
-) -> (BlockSamples, BlockSamples)
+) -> (BlockSamples, BlockSamples, BlockSamples)
     requires way { is_plain way ≡ false }
     requires block { k < 64 }
     requires planes { length planes.now ≡ planes_of_tile count }
@@ -151,12 +153,18 @@ pub(crate) fn two_planes(
         stored_at (in_list planes.now (place_of_way count way k 0)) (slot_by way k p) }
     ensures second { (p : ℕ) → p < 64 → stored_at result.1 p ≡
         stored_at (in_list planes.now (place_of_way count way k (count_of count / 2))) (slot_by way k p) }
+    ensures masks { way ≢ AsFlat → result.2 ≡ masks_in count (in_list planes.now) k }
 {
+    let masks = &planes[place_by(count, Way::Own, k, count.count() - 1)];
     let first = &planes[place_by(count, way, k, 0)];
     let second = &planes[place_by(count, way, k, count.count() / 2)];
     match way {
-        Way::Flat | Way::FlatPair => (spread(first.sample(k)), spread(second.sample(k))),
-        Way::Cleared | Way::Single | Way::Pair | Way::Own => (*first, *second),
+        Way::Flat => {
+            let plane = spread(first.sample(k));
+            (plane, plane, plane)
+        }
+        Way::FlatPair => (spread(first.sample(k)), spread(second.sample(k)), *masks),
+        Way::Cleared | Way::Single | Way::Pair | Way::Own => (*first, *second, *masks),
     }
 }
 
@@ -179,9 +187,8 @@ pub(crate) fn merged_in_tile(
     if way.is_plain() {
         return None;
     }
-    let (first, second) = two_planes(count, way, k, planes);
-    let masks = &planes[place_by(count, Way::Own, k, count.count() - 1)];
-    Some(merged(&first, &second, mask_of(masks, s)))
+    let (first, second, masks) = two_planes(count, way, k, planes);
+    Some(merged(&first, &second, mask_of(&masks, s)))
 }
 
 impl Canvas {

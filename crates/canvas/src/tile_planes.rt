@@ -77,8 +77,7 @@ fn fill_pair(count: SampleCount, way: Way, k: usize, samples: &mut [BlockSamples
     ensures own { AreOwnBy count way k samples.old samples.new }
     ensures others { KeepsOtherPlanes count k samples.old samples.new }
 {
-    let (first, second) = two_planes(count, way, k, samples);
-    let masks = samples[place_by(count, Way::Own, k, count.count() - 1)];
+    let (first, second, masks) = two_planes(count, way, k, samples);
     for s in 0..count.count() {
         samples[place_by(count, Way::Own, k, s)] = merged(&first, &second, mask_of(&masks, s));
     }
