@@ -12,10 +12,9 @@ web: web/out/canvas.wasm.gz web/out/examples.json.gz $(PAGE)
 $(PAGE): web/out/%: web/%
 	install -D -m 644 $< $@
 
-# Packed without a name and a time, so that the same module makes the same file.
-web/out/canvas.wasm.gz: lib/wasm64/canvas.wasm
+web/out/canvas.wasm.gz: lib/wasm64/canvas.wasm tools/checks/web/module.py
 	@mkdir -p $(@D)
-	gzip -9 -n -c $< > $@
+	$(PYTHON) -m tools.checks.web.module $< $@
 
 lib/wasm64/canvas.wasm: lib/wasm64/canvas_c.a
 	kit="$$(dirname "$$($(RT) doc)")" && "$$kit/bin/rattle-link" --target wasm64-unknown-unknown \
