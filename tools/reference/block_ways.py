@@ -393,7 +393,7 @@ class SecondPlaneShrunk(Blocks):
 
 
 class SecondSampleLeft(Blocks):
-    """The second sample of a block that has two is left as it was where a polygon covers the block."""
+    """A polygon that covers a block of two samples is drawn at the first of them alone."""
 
     def drawn(self, flat: Flat, shape: renderer.Triangle) -> tuple[Any, Any]:
         first, second = super().drawn(flat, shape)

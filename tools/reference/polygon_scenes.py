@@ -277,7 +277,8 @@ def a_triangles_call(pick: random.Random, size: Size, palette: Palette) -> Trian
 
 
 def a_picture(pick: random.Random, size: Size, palette: Palette, samples: int, whole: float = 0.4) -> Picture:
-    """A picture of the scene's colours: spots of some pixels over one of them, of all samples in so many of 1."""
+    """A picture of random colours of the scene. A third of the rows have one pixel of another colour. With probability
+    `whole` it has a value for each pixel, else for one sample of each pixel."""
     channels = pick.choice((3, 4))
     colours = [colour[:channels] for colour in palette.colours]
     pixels = [[pick.choice(colours)] * size[0] for _ in range(size[1])]

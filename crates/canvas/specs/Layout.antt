@@ -27,8 +27,8 @@ abbrev pub rows_of : Canvas → ℕ
 rows_of c = (c.height + 63) / 64
 
 -- How many planes a tile has. One says in which way each of its blocks keeps its samples. Each of 65 blocks of 8 by 8 pixels has one
--- for each sample of a pixel: the first is that to which the tile was cleared, which uses one of them, and leaves two for the samples of
--- flat blocks, if there are so many; the others are its own.
+-- for each sample of a pixel. The first of these blocks is that to which the tile was cleared, which uses one of its planes; with four
+-- samples or more, two others of them have the samples of flat blocks. The other 64 are the tile's own.
 abbrev pub planes_of_tile : SampleCount → ℕ
 planes_of_tile count = 1 + 65 * count_of count
 
