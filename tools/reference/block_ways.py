@@ -1,16 +1,17 @@
-"""A canvas that keeps its blocks in one sample or two, in one plane, as pairs or in planes of their own, as
+"""A canvas that keeps its blocks in up to four samples, in one plane, as pairs or in planes of their own, as
 docs/polygons.md says, and mutants of it: by these the tests show that the scenes of tools/reference/polygon_scenes.py
 find mistakes of ways.
 
 It is no second library: it has the samples of tools/reference/polygon_samples.py, and of each pair the two planes and
-the masks, or the two samples. It is drawn on canvases of whole tiles, so that all blocks are whole. Needs numpy.
+the masks, or the few samples of a block and which of them each sample is. It is drawn on canvases of whole tiles, so
+that all blocks are whole. Needs numpy.
 """
 
 from __future__ import annotations
 
 from collections import Counter
 from dataclasses import replace
-from typing import Any, NamedTuple
+from typing import Any, Iterator, NamedTuple
 
 import numpy as np
 
@@ -19,6 +20,8 @@ from tools.reference.polygon_samples import DEPTH_SHIFT, Place, Samples
 from tools.reference.polygon_scenes import FEW_CORNERS, Call, Clear, Picture, Polygon, Polygons, Scene
 
 BLOCK, TILE = 8, 64
+# The most samples that a block is kept in.
+FEW = 4
 # A column of blocks and a row.
 At = tuple[int, int]
 # What has to be the same in planes that become one: depth and alpha.
@@ -41,6 +44,13 @@ class Flat(NamedTuple):
     masks: Any
 
 
+class Four(NamedTuple):
+    """Up to four samples, no two of them the same, and of each sample of the block the number of the one that it is."""
+
+    samples: list[int]
+    numbers: Any
+
+
 def replaces_colours(shape: renderer.Triangle, samples: int) -> bool:
     """Whether a shape gives its colour to each sample that it covers in its scissor."""
     state, full = shape.state, (1 << samples) - 1
@@ -55,18 +65,22 @@ class Blocks(Samples):
     def __init__(self, scene: Scene) -> None:
         self.counted: Counter[str] = Counter()
         self.pairs: dict[At, Pair] = {}
-        # Blocks of two samples. A block of one is any that is neither here, nor a pair, nor own, and is all the same.
+        # Blocks of two samples. A block of one is any that is kept in no other way, and is all the same.
         self.flats: dict[At, Flat] = {}
+        # Blocks of three samples or four.
+        self.fours: dict[At, Four] = {}
         # The blocks with planes of their own.
         self.own: set[At] = set()
         # The rows and columns of tiles that are as they were cleared, or were drawn whole since.
         self.cleared: set[At] = set()
+        # The columns of blocks that the polygon can meet which is drawn.
+        self.columns: set[int] = set()
         super().__init__(scene)
 
     # ---- Calls but polygons
 
     def clear(self, call: Clear) -> None:
-        self.pairs, self.flats, self.own = {}, {}, set()
+        self.pairs, self.flats, self.fours, self.own = {}, {}, {}, set()
         self.cleared = set(tiles_of((slice(0, self.frame.height), slice(0, self.frame.width))))
         super().clear(call)
 
@@ -93,6 +107,7 @@ class Blocks(Samples):
     def paint(self, place: Place, where: Any, shape: renderer.Triangle) -> None:
         whole = np.zeros(self.values.shape, bool)
         whole[place] = where
+        self.columns = {column for _row, column in blocks_of(place)}
         for tile in self.cleared & set(tiles_of(place)):
             if whole[square(tile, TILE)].all():
                 self.counted["whole cleared tile"] += 1
@@ -103,16 +118,18 @@ class Blocks(Samples):
                 self.paint_block(at, words, shape)
 
     def paint_block(self, at: At, words: Any, shape: renderer.Triangle) -> None:
-        if self.allows(at, shape) and (self.paint_flat(at, words, shape) or self.paint_planes(at, words, shape)):
+        if self.allows(at, shape) and any(
+            paint(at, words, shape) for paint in (self.paint_flat, self.paint_four, self.paint_planes)
+        ):
             return
-        if at not in self.own:
-            self.counted[f"{self.way(at)} to own"] += 1
+        self.counted[f"{self.way(at)} to own"] += 1
         self.free(at)
         self.own.add(at)
         self.values[square(at)][words] = self.merged(self.values[square(at)][words], shape)
 
     def way(self, at: At) -> str:
-        return "pair" if at in self.pairs else "two samples" if at in self.flats else "single"
+        ways = {"own": self.own, "pair": self.pairs, "two samples": self.flats, "four samples": self.fours}
+        return next((way for way, blocks in ways.items() if at in blocks), "single")
 
     def allows(self, at: At, shape: renderer.Triangle) -> bool:
         """Whether the state lets all samples of the block's tile be drawn."""
@@ -149,7 +166,7 @@ class Blocks(Samples):
         if at in self.flats:
             return self.flats[at]
         found = self.values[square(at)]
-        if at in self.pairs or at in self.own or not self.is_uniform(found):
+        if self.way(at) != "single" or not self.is_uniform(found):
             return None
         return Flat(found[0, 0, 0], found[0, 0, 0], np.zeros(found.shape, bool))
 
@@ -168,10 +185,72 @@ class Blocks(Samples):
         self.values[square(at)] = np.where(self.seen(flat.masks), flat.second, flat.first)
         return True
 
+    def paint_four(self, at: At, words: Any, shape: renderer.Triangle) -> bool:
+        """Whether the block had up to four samples, and has no more now."""
+        four, way = self.four_of(at), self.way(at)
+        if self.frame.samples < 4 or four is None or self.is_of_a_crowd():
+            return False
+        changed = self.gathered(self.groups(four, words, self.drawn_four(four, shape)), four.numbers.shape)
+        if len(changed.samples) > FEW:
+            self.counted["fifth sample"] += 1
+            return False
+        self.put_four(at, changed)
+        self.counted[f"{way} to {self.way(at)}"] += 1
+        return True
+
+    def is_of_a_crowd(self) -> bool:
+        """Whether the polygon is so small that blocks with four samples a pixel are expected to get a fifth sample."""
+        return self.frame.samples == 4 and len(self.columns) < 4
+
+    def four_of(self, at: At) -> Four | None:
+        flat = self.flat_of(at)
+        if flat is None:
+            return self.fours.get(at)
+        return Four([flat.first, flat.second], flat.masks.astype(int))
+
+    def drawn_four(self, four: Four, shape: renderer.Triangle) -> list[int]:
+        """What the shape makes of the samples of a block."""
+        drawn: list[int] = self.merged(np.array(four.samples), shape).tolist()
+        return drawn
+
+    def groups(self, four: Four, words: Any, drawn: list[int]) -> Iterator[tuple[Any, int]]:
+        """Of each number which samples of the block stay, and which are drawn, with what they are then."""
+        for number, sample in enumerate(four.samples):
+            found = four.numbers == number
+            yield found & ~words, sample
+            yield found & words, drawn[number]
+
+    def gathered(self, groups: Iterator[tuple[Any, int]], shape: tuple[int, ...]) -> Four:
+        """The samples of the groups that are not empty, which may be more than four."""
+        four = Four([], np.zeros(shape, int))
+        for found, sample in groups:
+            if found.any():
+                four.numbers[found] = self.number(four.samples, sample)
+        return four
+
+    def number(self, samples: list[int], sample: int) -> int:
+        """The number of a sample among these, to which it is added if it is none of them."""
+        if sample not in samples:
+            samples.append(sample)
+        return samples.index(sample)
+
+    def put_four(self, at: At, four: Four) -> None:
+        if (four.numbers < 2).all():
+            self.put_flat(at, Flat(four.samples[0], four.samples[-1], four.numbers == 1))
+            return
+        self.free(at)
+        self.fours[at] = four
+        self.values[square(at)] = np.array(four.samples)[self.numbered(four.numbers)]
+
+    def numbered(self, numbers: Any) -> Any:
+        """The numbers as they are read."""
+        return numbers
+
     def paint_planes(self, at: At, words: Any, shape: renderer.Triangle) -> bool:
-        """Whether the block was drawn in one plane or two."""
+        """Whether the block was drawn in one plane or two. A block of few samples is not: it is drawn in these wherever
+        it is covered whole."""
         is_full = words.all()
-        if is_full and at not in self.pairs and at not in self.flats and self.has_one_plane(at, shape):
+        if is_full and at not in self.pairs and self.has_one_plane(at, shape):
             plane = self.values[square(at)][..., 0]
             self.put_single(at, self.merged(plane.ravel(), shape).reshape(plane.shape))
             return True
@@ -198,7 +277,7 @@ class Blocks(Samples):
 
     def paint_as_pair(self, at: At, words: Any, shape: renderer.Triangle) -> bool:
         if at not in self.pairs:
-            if at in self.own or at in self.flats:
+            if self.way(at) != "single":
                 return False
             first = self.values[square(at)][..., 0].copy()
             self.counted["single to pair"] += 1
@@ -267,9 +346,10 @@ class Blocks(Samples):
         return masks
 
     def free(self, at: At) -> None:
-        """The block is no pair any more, nor of two samples; its samples are those that were read of it."""
+        """The block is no pair any more, nor of few samples; its samples are those that were read of it."""
         self.pairs.pop(at, None)
         self.flats.pop(at, None)
+        self.fours.pop(at, None)
 
     def is_alike(self, at: At) -> bool:
         found = self.values[square(at)]
@@ -415,6 +495,45 @@ class PixelsAlike(Blocks):
         return bool((found[0, :2] == found[0, 0, 0]).all())
 
 
+class FourthAsFirst(Blocks):
+    """The first sample of a block is read where the fourth is due."""
+
+    def numbered(self, numbers: Any) -> Any:
+        return numbers % (FEW - 1)
+
+
+class HighMasksForgotten(Blocks):
+    """Of the number of a sample the upper bit is not read."""
+
+    def numbered(self, numbers: Any) -> Any:
+        return numbers % 2
+
+
+class ThirdAsSecond(Blocks):
+    """What a polygon makes of the second sample of a block is taken for what it makes of the third."""
+
+    def drawn_four(self, four: Four, shape: renderer.Triangle) -> list[int]:
+        drawn = super().drawn_four(four, shape)
+        return [*drawn[:2], *drawn[1:2], *drawn[3:]]
+
+
+class FifthAsFourth(Blocks):
+    """A fifth sample takes the place of the fourth."""
+
+    def number(self, samples: list[int], sample: int) -> int:
+        if sample not in samples:
+            del samples[FEW - 1 :]
+        return super().number(samples, sample)
+
+
+class FourthKeptAsThird(Blocks):
+    """What is not drawn of the fourth sample of a block becomes the third."""
+
+    def groups(self, four: Four, words: Any, drawn: list[int]) -> Iterator[tuple[Any, int]]:
+        third = [sample for sample in four.samples[2:3] if len(four.samples) == FEW]
+        return super().groups(four._replace(samples=[*four.samples[: FEW - 1], *third]), words, drawn)
+
+
 class SampleOfPair(Blocks):
     """A picture of one sample of a pixel becomes that of all samples of a pair's plane."""
 
@@ -475,8 +594,8 @@ class LargeLeftOut(Samples):
 MUTANTS: tuple[type[Samples], ...] = (
     FirstPlaneAlone, SecondPlaneAlone, MasksTurned, MasksSwapped, MasksOfNextRow, SingleOverDepths,
     SingleOverSecondDepths, SingleOverAlphas, PairOverDepths, PairOverBlending, ThirdColourLost, MasksLeft,
-    SecondPlaneShrunk, SecondSampleLeft, SamplesAlike, PixelsAlike, SampleOfPair, PixelsWhole, MaskOverlooked,
-    RowsReversed, LargeFirst, LargeLeftOut,
+    SecondPlaneShrunk, SecondSampleLeft, SamplesAlike, PixelsAlike, FourthAsFirst, HighMasksForgotten, ThirdAsSecond,
+    FifthAsFourth, FourthKeptAsThird, SampleOfPair, PixelsWhole, MaskOverlooked, RowsReversed, LargeFirst, LargeLeftOut,
 )
 
 

@@ -2,8 +2,9 @@
 
 A scene has few colours and depths, and is drawn in these again and again, mostly as partitions of the canvas: so its
 blocks of 8 by 8 pixels become pairs of two colours, stay so, get a third colour and go back to one. Between them come
-whole blocks and tiles, small polygons of several tile rows in one call and polygons of more than 1,024 corners between
-these, triangles, pictures, the pictures of one sample, and clears.
+whole blocks and tiles, small polygons of several tile rows in one call, crowds of them, by which blocks get more than
+four samples, polygons of more than 1,024 corners between these, triangles, pictures, the pictures of one sample, and
+clears.
 """
 
 from __future__ import annotations
@@ -94,6 +95,11 @@ class Palette:
 
 
 # ---- Polygons of a canvas that begins at (0, 0)
+
+
+def moved_ring(ring: list[Corner], pixels: Corner) -> list[Corner]:
+    """The ring, moved to the right and down by a number of pixels each."""
+    return [(x + 256 * pixels[0], y + 256 * pixels[1]) for x, y in ring]
 
 
 def box(left: int, top: int, right: int, bottom: int) -> list[Corner]:
@@ -209,9 +215,9 @@ def some_shapes(pick: random.Random, size: Size) -> list[Polygon]:
 
 
 def a_palette(pick: random.Random, size: Size, has_alpha: bool) -> Palette:
-    """Three colours, often all opaque, two depths, and states, by the first of which polygons replace colours."""
+    """Three colours or six, often all opaque, two depths, and states, the first of which replaces colours."""
     alphas = (255,) if pick.random() < 0.4 else (0, 90, 128, 255)
-    colours = [(*(pick.randint(0, 255) for _ in "rgb"), pick.choice(alphas)) for _ in range(3)]
+    colours = [(*(pick.randint(0, 255) for _ in "rgb"), pick.choice(alphas)) for _ in range(pick.choice((3, 6)))]
     depths = [pick.choice((0, 1000, 65535)), pick.randint(0, 65535)]
     states: list[Draw] = [{}, a_state(pick, size), a_state(pick, size)]
     if has_alpha and pick.random() < 0.5:
@@ -225,6 +231,7 @@ def a_state(pick: random.Random, size: Size) -> Draw:
     states: list[Draw] = [
         {"blend": "over"}, {"blend": "over"}, {"depth_write": True}, {"depth_write": True},
         {"depth_test": pick.choice(list(renderer.DEPTH_TESTS)), "depth_write": pick.random() < 0.5},
+        {"sample_mask": generated_lists.a_mask(pick, renderer.CANVAS)},
         {"sample_mask": generated_lists.a_mask(pick, renderer.CANVAS)},
         {"scissor": [columns[0], rows[0], columns[1], rows[1]]},
         generated_lists.a_state(pick, *size, renderer.CANVAS),
@@ -265,6 +272,13 @@ def a_shapes_call(pick: random.Random, size: Size, palette: Palette) -> Polygons
     return a_polygons_call(pick, palette, polygons)
 
 
+def a_crowd_call(pick: random.Random, size: Size, palette: Palette) -> Polygons:
+    """Small polygons around one place, where blocks get more samples than four."""
+    polygons = [a_small_polygon(pick, (24, 24)) for _ in range(pick.randint(4, 12))]
+    place = pick.randrange(size[0]), pick.randrange(size[1])
+    return a_polygons_call(pick, palette, [[moved_ring(ring, place) for ring in polygon] for polygon in polygons])
+
+
 def a_triangles_call(pick: random.Random, size: Size, palette: Palette) -> Triangles:
     """Triangles of one colour or of one for each vertex."""
     vertices = []
@@ -294,7 +308,7 @@ def a_call(
     if kind < 0.6:
         return a_partition_call(pick, palette, pick.choice(partitions))
     if kind < 0.8:
-        return a_shapes_call(pick, size, palette)
+        return pick.choice((a_shapes_call, a_crowd_call))(pick, size, palette)
     if kind < 0.87:
         return a_triangles_call(pick, size, palette)
     if kind < 0.95:
@@ -316,7 +330,7 @@ def moved(call: Call, origin: Corner) -> Call:
         state["scissor"] = [min(max(edge + origin[k % 2], low), high) for k, edge in enumerate(state["scissor"])]
     if isinstance(call, Triangles):
         return replace(call, vertices=[[v[0] + x, v[1] + y, *v[2:]] for v in call.vertices], state=state)
-    polygons = [[[(cx + x, cy + y) for cx, cy in ring] for ring in polygon] for polygon in call.polygons]
+    polygons = [[moved_ring(ring, origin) for ring in polygon] for polygon in call.polygons]
     return replace(call, polygons=polygons, state=state)
 
 
@@ -337,11 +351,16 @@ def a_scene(pick: random.Random, samples: int, size: Size | None = None) -> Scen
     partitions = [a_partition(pick, (width, height)) for _ in range(pick.randint(1, 2))]
     origin = (0, 0) if pick.random() < 0.6 else (pick.randint(-99, 99), pick.randint(-99, 99))
     calls: list[Any] = [Clear(palette.colours[0], pick.choice((65535, *palette.depths)))]
-    # Blocks of more colours than two, which are kept in planes, and polygons over them.
+    # Blocks of few samples and of more, and polygons over them.
+    if pick.random() < 0.5:
+        calls += [a_crowd_call(pick, (width, height), palette) for _ in range(4)]
+    # Pictures of more colours than two, which are kept in planes, and polygons over them.
     if pick.random() < 0.5:
         calls.append(a_picture(pick, (width, height), palette, samples, whole=1))
         calls += [a_shapes_call(pick, (width, height), palette) for _ in range(3)]
     calls += [a_call(pick, (width, height), palette, partitions, samples) for _ in range(pick.randint(5, 12))]
+    # One sample of blocks that are kept in any way.
+    calls.append(a_picture(pick, (width, height), palette, samples, whole=0))
     return Scene(
         width, height, samples, has_alpha, origin, pick.randint(1, 3), [moved(it, origin) for it in calls]
     )

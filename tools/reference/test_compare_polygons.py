@@ -54,10 +54,14 @@ def test_ways_of_blocks_change_no_sample_and_each_is_taken_often() -> None:
     for way in (
         "one sample", "both samples", "second sample replaced", "first sample replaced", "first sample extended",
         "two samples to own", "single to pair", "pair to single", "both planes", "single to own", "pair to own",
-        "own to single",
+        "own to single", "two samples to four samples", "four samples to four samples", "four samples to two samples",
+        "four samples to single", "four samples to own",
     ):
         assert taken[way] >= 100, (way, taken)
-    for way in ("second sample extended", "second plane replaced", "first plane replaced", "whole cleared tile"):
+    for way in (
+        "second sample extended", "second plane replaced", "first plane replaced", "whole cleared tile", "fifth sample",
+        "two samples to two samples",
+    ):
         assert taken[way] >= 40, (way, taken)
     assert taken["second plane extended"] >= 10, taken
 

@@ -1,6 +1,6 @@
 -- The means of the samples of pixels.
-use Rattle.std.proofs.Common.{true, false, ◌≡◌, ◌∙◌, inl, inr, refl, ap, sym, subst, ℕ, zero, suc, ◌+◌, ◌-◌, ◌*◌, ◌/◌, ◌<◌, ◌≤◌, ◌^◌, List, length, take, drop, get_or, replicate, slice_index, arith}
-use Rattle.std.specs.Prelude.{if◌then◌else◌}
+use Rattle.std.proofs.Common.{true, false, ◌≡◌, ◌≢◌, ◌∙◌, inl, inr, refl, ap, sym, subst, ℕ, zero, suc, ◌+◌, ◌-◌, ◌*◌, ◌/◌, ◌<◌, ◌≤◌, ◌^◌, List, length, take, drop, get_or, replicate, slice_index, arith}
+use Rattle.std.specs.Prelude.{◌==◌, if◌then◌else◌}
 use Rattle.std.specs.Int.{bit_at}
 use Rattle.std.proofs.lemmas.Bool.Decides.{eqb_tells}
 use Rattle.std.proofs.lemmas.Nat.Bits.{bit_at-lt}
@@ -19,13 +19,16 @@ use Rattle.lanes.specs.Block.{stored_at}
 use Rattle.canvas.specs.declared.block_means.Channel.{Channel}
 use Rattle.canvas.specs.declared.block_means.Channel.TheVariants.{Red, Green, Blue, Alpha}
 use Rattle.canvas.specs.declared.way.Way.{Way}
-use Rattle.canvas.specs.declared.way.Way.TheVariants.{Own, Flat}
+use Rattle.canvas.specs.declared.way.Way.TheVariants.{Own, Flat, FlatFour}
 use Rattle.canvas.specs.Layout.{planes_of_tile, place_by, slot_by, is_plain, mask_of, masks_in, sample_place, chosen, pixel_in_block, in_list, stored_in_tile, way_in_tile}
+use Rattle.canvas.specs.declared.palette.Palette.{Palette}
+use Rattle.canvas.specs.Palettes.{palette_number, sample_numbered, palette_sample, HasPalette, HasNumbers}
 use Rattle.canvas.specs.Lanes.{channel_of}
 use Rattle.canvas.specs.Colours.{IsMeanOf, HasMeansOf}
 use Rattle.canvas.proofs.MaskLanes.{AreLanes, zipped, splat, itself, total_next}
 use Rattle.canvas.proofs.Pairs.{sample_of, chosen_by}
 use Rattle.canvas.proofs.Cut.{part_of}
+use Rattle.canvas.proofs.Palettes.{below_four}
 use Rattle.canvas.proofs.Places.{none, within_way, last_sample}
 use Rattle.canvas.proofs.TilePlanes.{by_any_way, by_way}
 
@@ -69,6 +72,24 @@ module _ (g : CanvasSample → ℕ) (mask : ℕ → ℕ) (p : ℕ) (x y : Canvas
   pub mean_of_chosen : (count : SampleCount) → IsResolved count (λ s. g (chosen (mask s) p y x)) ((g x * (count_of count - bits (count_of count)) + g y * bits (count_of count) + count_of count / 2) / count_of count)
   mean_of_chosen count = by_sum count (λ s. g (chosen (mask s) p y x)) (g x * (count_of count - bits (count_of count)) + g y * bits (count_of count)) (count_of count) refl (sum_of_chosen (count_of count))
 
+-- one of four numbers
+one_of_four : (f : ℕ → ℕ) (n : ℕ) → n < 4
+    → (if n == 0 then 1 else 0) * f 0 + (if n == 1 then 1 else 0) * f 1 + (if n == 2 then 1 else 0) * f 2 + (if n == 3 then 1 else 0) * f 3 ≡ f n
+one_of_four f zero l = omega arith
+one_of_four f (suc zero) l = omega arith
+one_of_four f (suc (suc zero)) l = omega arith
+one_of_four f (suc (suc (suc zero))) l = omega arith
+one_of_four f (suc (suc (suc (suc n)))) l = absurd (omega (arith, l))
+
+-- the same sums of the same
+pub total_same : (n : ℕ) (f g : ℕ → ℕ) → ((s : ℕ) → s < n → f s ≡ g s) → total n f ≡ total n g
+total_same zero f g same = refl
+total_same (suc n) f g same = let before = total_same n f g (λ s l. same s (omega (arith, l))) in let here = same n (omega arith) in omega (arith, before, here)
+
+total_of_ones : (n : ℕ) → total n (λ s. 1) ≡ n
+total_of_ones zero = refl
+total_of_ones (suc n) = let before = total_of_ones n in omega (arith, before)
+
 -- ---- in lanes
 -- of n samples as many as `bits` have b, and the others a
 pub weighted_lane : (a b bits n : ℕ) → a ≤ 255 → b ≤ 255 → bits ≤ n → n ≤ 16 → (plus (times a (minus n bits)) (times b bits) ≡ a * (n - bits) + b * bits) × (a * (n - bits) + b * bits ≤ 255 * n)
@@ -79,6 +100,66 @@ weighted_lane a b bits n small_a small_b few most =
     let sum : a * (n - bits) + b * bits ≤ 255 * n = omega (arith, most_a, most_b, few) in
     let exact : plus (times a (n - bits)) (times b bits) ≡ a * (n - bits) + b * bits = omega (arith, sum, most) in
     (ap (λ r. plus (times a r) (times b bits)) rest ∙ exact, sum)
+
+-- 64 sums with `many` samples more that have this byte
+pub record AreMore (sums many : List ℕ) (byte : ℕ) (more : List ℕ) : Type 0 where
+  pub long : length more ≡ 64
+  pub each : (p : ℕ) → p < 64 → slice_index more p ≡ slice_index sums p + slice_index many p * byte
+  pub most : (p : ℕ) → p < 64 → slice_index more p ≤ slice_index sums p + 255 * slice_index many p
+
+pub more_of_byte : (sums many : List ℕ) (byte : ℕ) → length sums ≡ 64 → length many ≡ 64 → ((p : ℕ) → p < 64 → slice_index sums p ≤ 12240) → ((p : ℕ) → p < 64 → slice_index many p ≤ 16) → byte ≤ 255
+    → AreMore sums many byte (zip2 plus sums (zip2 times many (replicate 64 byte)))
+more_of_byte sums many byte long wide room few small =
+    let lanes = zipped plus sums _ _ _ (itself sums long) (zipped times many (replicate 64 byte) _ _ (itself many wide) (splat byte)) in
+    let product : (p : ℕ) → p < 64 → slice_index many p * byte ≤ 255 * slice_index many p = λ p l. (let most : byte * slice_index many p ≤ 255 * slice_index many p = mul-le-mul_right (slice_index many p) small in let turned : byte * slice_index many p ≡ slice_index many p * byte = grind arith in omega (arith, most, turned)) in
+    let sum : (p : ℕ) → p < 64 → slice_index (zip2 plus sums (zip2 times many (replicate 64 byte))) p ≡ slice_index sums p + slice_index many p * byte =
+    λ p l. lanes.each p l ∙ omega (arith, room p l, few p l, product p l) in
+    record {
+      long = lanes.long;
+      each = sum;
+      most = λ p l. omega (arith, sum p l, product p l);
+    }
+
+-- how many of the first k samples of pixel p have a number
+module _ (palette : Palette) (p : ℕ) where
+  abbrev is_number : ℕ → ℕ → ℕ
+  is_number n s = if palette_number palette s p == n then 1 else 0
+
+  abbrev pub numbered : ℕ → ℕ → ℕ
+  numbered k n = total k (is_number n)
+
+  number_low : (n s : ℕ) → is_number n s ≤ 1
+  number_low n s =
+      elim (eqb_tells (palette_number palette s p) n) [
+        | inl same ↦ (let is : is_number n s ≡ 1 = ap (λ b. if b then 1 else 0) same.0 in omega (arith, is))
+        | inr other ↦ (let is : is_number n s ≡ 0 = ap (λ b. if b then 1 else 0) other.0 in omega (arith, is))
+      ]
+
+  pub bit_of_number : (n s mask : ℕ) → HasNumbers palette n s p mask → bit_at mask p ≡ is_number n s
+  bit_of_number n s mask has =
+      elim (eqb_tells (palette_number palette s p) n) [
+        | inl same ↦ has.1 same.1 ∙ sym (ap (λ b. if b then 1 else 0) same.0)
+        | inr other ↦
+            let low = bit_at-lt mask p in
+            let none : bit_at mask p ≢ 1 = λ one. other.1 (has.0 one) in
+            let clear : bit_at mask p ≡ 0 = omega (arith, low, none) in
+            clear ∙ sym (ap (λ b. if b then 1 else 0) other.0)
+      ]
+
+  pub few_numbered : (n k : ℕ) → numbered k n ≤ k
+  few_numbered n zero = omega arith
+  few_numbered n (suc k) = let before = few_numbered n k in let low = number_low n k in omega arith
+
+  -- the sum of what f is of the first m numbers, as often as samples have them
+  abbrev pub by_numbers : (ℕ → ℕ) → ℕ → ℕ → ℕ
+  by_numbers f k m = total m (λ n. numbered k n * f n)
+
+  pub of_four : (f : ℕ → ℕ) (k : ℕ) → by_numbers f k 4 ≡ total k (λ s. f (palette_number palette s p))
+  of_four f zero = omega arith
+  of_four f (suc k) =
+      let before = of_four f k in
+      let here : is_number 0 k * f 0 + is_number 1 k * f 1 + is_number 2 k * f 2 + is_number 3 k * f 3 ≡ f (palette_number palette k p) = one_of_four f (palette_number palette k p) (below_four palette k p) in
+      grind arith
 
 -- 64 sums with a channel of one sample more
 pub record AreSums (n : ℕ) (f : ℕ → ℕ → ℕ) (sums : List ℕ) : Type 0 where
@@ -188,6 +269,11 @@ means_of_planes count known xs k a n mean is many small long at was means i j he
     ∙ sym (by_any_way count xs Own i j s (ap (way_in_tile xs) here ∙ was)))
     (subst (λ m. IsMeanOf m (λ s. stored_at (in_list part s) p) (stored_at mean p)) (sym is) (means p (omega arith)))
 
+-- how many masks of a plane have a bit, by these masks
+pub bits_in_plane : (count : SampleCount) (bits masks : List ℕ) (plane : BlockSamples) → ((s : ℕ) → s < count_of count → slice_index masks s ≡ mask_of plane s)
+    → ((p : ℕ) → p < 64 → slice_index bits p ≡ total (count_of count) (λ s. bit_at (slice_index masks s) p)) → (p : ℕ) → p < 64 → slice_index bits p ≡ total (count_of count) (λ s. bit_at (mask_of plane s) p)
+bits_in_plane count bits masks plane same is p l = is p l ∙ total_same (count_of count) _ _ (λ s h. ap (λ m. bit_at m p) (same s h))
+
 -- two planes and masks: each mean by the number of samples that are those of the second plane
 abbrev pub mean_of_both : SampleCount → ℕ → ℕ → ℕ → ℕ
 mean_of_both count bits x y = (x * (count_of count - bits) + y * bits + count_of count / 2) / count_of count
@@ -202,12 +288,12 @@ each_channel P red green blue alpha Green = green
 each_channel P red green blue alpha Blue = blue
 each_channel P red green blue alpha Alpha = alpha
 
-pub means_of_both : (count : SampleCount) (way : Way) (xs : List BlockSamples) (k m : ℕ) (first second : ℕ → CanvasSample) (bits : List ℕ) (mean : BlockSamples) → way_in_tile xs k ≡ way → is_plain way ≡ false
+pub means_of_both : (count : SampleCount) (way : Way) (xs : List BlockSamples) (k m : ℕ) (first second : ℕ → CanvasSample) (bits : List ℕ) (mean : BlockSamples) → way_in_tile xs k ≡ way → is_plain way ≡ false → way ≢ FlatFour
     → ((p : ℕ) → p < 64 → first p ≡ sample_of count way (in_list xs) k p 0) → ((p : ℕ) → p < 64 → second p ≡ sample_of count way (in_list xs) k p (count_of count / 2))
     → m ≡ place_by count Own k (count_of count - 1)
     → ((p : ℕ) → p < 64 → slice_index bits p ≡ total (count_of count) (λ s. bit_at (mask_of (in_list xs m) s) p))
     → ((channel : Channel) → AreMeansBy count bits first second mean channel) → HasMeansOf count xs k mean
-means_of_both count way xs k m first second bits mean was pair is_first is_second is_m is_bits is i j here =
+means_of_both count way xs k m first second bits mean was pair few is_first is_second is_m is_bits is i j here =
     let p : ℕ = pixel_in_block i j in
     let l : p < 64 = omega arith in
     let x : CanvasSample = sample_of count way (in_list xs) k p 0 in
@@ -216,7 +302,7 @@ means_of_both count way xs k m first second bits mean was pair is_first is_secon
     let many : slice_index bits p ≡ total (count_of count) (λ s. bit_at (mask s) p) = is_bits p l ∙ ap (λ q. total (count_of count) (λ s. bit_at (mask_of (in_list xs q) s) p)) is_m in
     mean_same count (λ s. chosen (mask s) p y x) (λ s. stored_in_tile count xs i j s) (stored_at mean p)
     (λ s h.
-    chosen_by count way (in_list xs) k p s pair
+    chosen_by count way (in_list xs) k p s pair few
     ∙ ap (λ q. stored_at (in_list xs (sample_place count way (in_list xs) q p s)) (slot_by way q p)) (sym here)
     ∙ sym (by_any_way count xs way i j s (ap (way_in_tile xs) here ∙ was)))
     (mean_by count (λ s. chosen (mask s) p y x) (stored_at mean p)
@@ -244,3 +330,63 @@ means_of_one count xs way k was other same i j here =
     let p : ℕ = pixel_in_block i j in
     mean_alike count (λ s. stored_in_tile count xs i j s) (stored_at (in_list xs (place_by count way k 0)) p)
     (λ s l. sym (by_way count xs way i j s other (ap (way_in_tile xs) here ∙ was) ∙ ap (λ m. stored_at (in_list xs (place_by count way m s)) p) here ∙ ap (λ q. stored_at (in_list xs q) p) (same s l)))
+
+-- up to four samples
+pub means_of_four : (count : SampleCount) (k : ℕ) (xs : List BlockSamples) (palette : Palette) (mean : BlockSamples) → HasPalette count k palette xs
+    → ((p : ℕ) → p < 64 → IsMeanOf count (λ s. palette_sample palette s p) (stored_at mean p)) → HasMeansOf count xs k mean
+means_of_four count k xs palette mean has means i j here =
+    let p : ℕ = pixel_in_block i j in
+    mean_same count (λ s. palette_sample palette s p) (λ s. stored_in_tile count xs i j s) (stored_at mean p) (λ s l. sym (has i j s l here)) (means p (omega arith))
+
+-- the sums of a channel of the first m numbers of a palette
+pub record ArePartSums (count : SampleCount) (palette : Palette) (channel : Channel) (m : ℕ) (sums : List ℕ) : Type 0 where
+  pub long : length sums ≡ 64
+  pub each : (p : ℕ) → p < 64 → slice_index sums p ≡ by_numbers palette p (λ n. channel_of channel (sample_numbered palette.samples n)) (count_of count) m
+  pub most : (p : ℕ) → p < 64 → slice_index sums p ≤ 255 * by_numbers palette p (λ n. 1) (count_of count) m
+
+pub no_part : (count : SampleCount) (palette : Palette) (channel : Channel) → ArePartSums count palette channel 0 (replicate 64 0)
+no_part count palette channel = record { long = (splat 0).long; each = (splat 0).each; most = λ p l. omega (arith, (splat 0).each p l) }
+
+part_low : (count : SampleCount) (palette : Palette) (p m : ℕ) → m < 4 → by_numbers palette p (λ n. 1) (count_of count) m ≤ 48
+part_low count palette p m l =
+    let most = few_samples count in
+    let few = λ (n : ℕ). few_numbered palette p n (count_of count) in
+    by_cases m l
+  where
+    by_cases : (m : ℕ) → m < 4 → by_numbers palette p (λ n. 1) (count_of count) m ≤ 48
+    by_cases zero l = omega arith
+    by_cases (suc zero) l = omega (arith, few_numbered palette p 0 (count_of count), few_samples count)
+    by_cases (suc (suc zero)) l = omega (arith, few_numbered palette p 0 (count_of count), few_numbered palette p 1 (count_of count), few_samples count)
+    by_cases (suc (suc (suc zero))) l = omega (arith, few_numbered palette p 0 (count_of count), few_numbered palette p 1 (count_of count), few_numbered palette p 2 (count_of count), few_samples count)
+    by_cases (suc (suc (suc (suc m)))) l = absurd (omega (arith, l))
+
+pub part_room : (count : SampleCount) (palette : Palette) (channel : Channel) (m : ℕ) (sums : List ℕ) → m < 4 → ArePartSums count palette channel m sums → (p : ℕ) → p < 64 → slice_index sums p ≤ 12240
+part_room count palette channel m sums l is p h = (let low = part_low count palette p m l in omega (arith, low, is.most p h))
+
+-- with those of one number more
+pub part_more : (count : SampleCount) (palette : Palette) (channel : Channel) (m byte : ℕ) (sums many more : List ℕ) → ((p : ℕ) → p < 64 → slice_index many p ≡ numbered palette p (count_of count) m)
+    → byte ≡ channel_of channel (sample_numbered palette.samples m) → AreMore sums many byte more → ArePartSums count palette channel m sums → ArePartSums count palette channel (m + 1) more
+part_more count palette channel m byte sums many more is_many is_byte is before =
+    let g : ℕ → ℕ = λ n. channel_of channel (sample_numbered palette.samples n) in
+    record {
+      long = is.long;
+      each = λ p l.
+          is.each p l
+          ∙ (λ i. before.each p l i + is_many p l i * is_byte i)
+          ∙ total_next m (λ n. numbered palette p (count_of count) n * g n);
+      most = λ p l.
+          let next : by_numbers palette p (λ n. 1) (count_of count) m + numbered palette p (count_of count) m * 1 ≡ by_numbers palette p (λ n. 1) (count_of count) (m + 1) = total_next m (λ n. numbered palette p (count_of count) n * 1) in
+          omega (arith, is.most p l, before.most p l, is_many p l, next);
+    }
+
+-- how many samples of pixels have the number of which these are the masks
+pub many_numbered : (count : SampleCount) (palette : Palette) (n : ℕ) (pixels many : List ℕ) → ((s p : ℕ) → s < count_of count → p < 64 → HasNumbers palette n s p (slice_index pixels s))
+    → ((p : ℕ) → p < 64 → slice_index many p ≡ total (count_of count) (λ s. bit_at (slice_index pixels s) p)) → (p : ℕ) → p < 64 → slice_index many p ≡ numbered palette p (count_of count) n
+many_numbered count palette n pixels many has is p l = is p l ∙ total_same (count_of count) _ _ (λ s h. bit_of_number palette p n s (slice_index pixels s) (has s p h l))
+
+-- of all four numbers
+pub part_all : (count : SampleCount) (palette : Palette) (channel : Channel) (sums : List ℕ) → ArePartSums count palette channel 4 sums → (p : ℕ) → p < 64
+    → (slice_index sums p ≡ total (count_of count) (λ s. channel_of channel (palette_sample palette s p))) × (slice_index sums p ≤ 255 * count_of count)
+part_all count palette channel sums is p l =
+    let all : by_numbers palette p (λ n. 1) (count_of count) 4 ≡ count_of count = of_four palette p (λ n. 1) (count_of count) ∙ total_of_ones (count_of count) in
+    (is.each p l ∙ of_four palette p (λ n. channel_of channel (sample_numbered palette.samples n)) (count_of count), omega (arith, is.most p l, all))

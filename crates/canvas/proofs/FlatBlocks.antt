@@ -11,10 +11,12 @@ use Rattle.lanes.specs.declared.block_samples.BlockSamples.{BlockSamples}
 use Rattle.lanes.specs.Block.{stored_at}
 use Rattle.canvas.specs.declared.flat_block.FlatBlock.{FlatBlock}
 use Rattle.canvas.specs.declared.way.Way.{Way}
-use Rattle.canvas.specs.declared.way.Way.TheVariants.{Cleared, Single, Pair, Own, Flat, FlatPair}
+use Rattle.canvas.specs.declared.way.Way.TheVariants.{Cleared, Single, Pair, Own, Flat, FlatPair, FlatFour}
 use Rattle.canvas.specs.Layout.{planes_of_tile, block_in_tile, pixel_in_block, way_of, place_by, flat_place, slot_by, is_plain, mask_of, masks_in, sample_place, in_list, way_in_tile, chosen, KeepsOtherSamples, KeepsOtherWays}
 use Rattle.canvas.specs.FlatBlocks.{flat_sample, HasFlat, IsFlatReplaced}
-use Rattle.canvas.proofs.Places.{none, behind_first, last_sample, middle_sample, within_way}
+use Rattle.canvas.specs.Palettes.{KeepsOtherPlaces}
+use Rattle.canvas.proofs.Places.{none, four_place, behind_first, last_sample, middle_sample, within_way}
+use Rattle.canvas.proofs.Ways.{flat_pair_not_four}
 use Rattle.canvas.proofs.Pairs.{chosen_by, chosen_set, chosen_clear, chosen_same, chosen_none}
 use Rattle.canvas.proofs.TilePlanes.{cases_eq, by_any_way, by_way, same_by_way, same_mask, one_place, own_apart, way_set, behind_set}
 
@@ -45,34 +47,33 @@ pair_block count k xs flat was first second masks i j s h here =
     let p : ℕ = pixel_in_block i j in
     by_any_way count xs FlatPair i j s (ap (way_in_tile xs) here ∙ was)
     ∙ ap (λ m. stored_at (in_list xs (sample_place count FlatPair (in_list xs) m p s)) m) here
-    ∙ sym (chosen_by count FlatPair (in_list xs) k p s refl)
+    ∙ sym (chosen_by count FlatPair (in_list xs) k p s refl flat_pair_not_four)
     ∙ (λ t. chosen (sym (masks s h) t) p (sym second t) (sym first t))
 
 -- ---- the samples of all blocks but block k are unchanged
-abbrev KeepsOthers : SampleCount → ℕ → List BlockSamples → List BlockSamples → Type 0
-KeepsOthers count k old new =
-    (way : Way) (m n p : ℕ) → m ≢ k → m < 64 → n < count_of count → p < 64
-    → stored_at (in_list new (place_by count way m n)) (slot_by way m p) ≡ stored_at (in_list old (place_by count way m n)) (slot_by way m p)
-
-others_kept : (count : SampleCount) (k : ℕ) (old new : List BlockSamples) → KeepsOtherWays k old new → KeepsOthers count k old new → KeepsOtherSamples count k old new
+pub others_kept : (count : SampleCount) (k : ℕ) (old new : List BlockSamples) → KeepsOtherWays k old new → KeepsOtherPlaces count k old new → KeepsOtherSamples count k old new
 others_kept count k old new ways keeps i j s h other =
     let m : ℕ = block_in_tile i j in
+    let depths : (n : ℕ) → 1 ≤ n → mask_of (in_list new (place_by count Own m (count_of count - n))) s ≡ mask_of (in_list old (place_by count Own m (count_of count - n))) s =
+    λ n some.
+    same_mask (in_list new (place_by count Own m (count_of count - n))) (in_list old (place_by count Own m (count_of count - n))) s (omega (arith, h, few_samples count))
+    (λ p l. ap (λ (x : CanvasSample). x.z) (keeps Own m (count_of count - n) p other (omega arith) (omega (arith, some, some_samples count)) l)) in
     same_by_way count old new i j s h (ways m (omega arith) other)
-    (λ _. same_mask (masks_in count (in_list new) m) (masks_in count (in_list old) m) s (omega (arith, h, few_samples count)) (λ p l. ap (λ (x : CanvasSample). x.z) (keeps Own m (count_of count - 1) p other (omega arith) (last_sample count) l)))
+    ((λ _. depths 1 (omega arith)), (λ _. depths 2 (omega arith)))
     (λ n small. keeps (way_in_tile old m) m n (pixel_in_block i j) other (omega arith) small (omega arith))
 
 -- a plane with samples of flat blocks is no other block's
-flat_elsewhere : (count : SampleCount) (k n m q : ℕ) → 4 ≤ count_of count → n < count_of count → flat_place count k n ≢ 1 + (m + 1) * count_of count + q
-flat_elsewhere One k n m q some l e = omega (arith, some)
-flat_elsewhere Two k n m q some l e = omega (arith, some)
-flat_elsewhere Four k n m q some l e = omega (arith, l, e)
-flat_elsewhere Eight k n m q some l e = omega (arith, l, e)
-flat_elsewhere Sixteen k n m q some l e = omega (arith, l, e)
+pub flat_elsewhere : (count : SampleCount) (k n m q : ℕ) → 4 ≤ count_of count → n < count_of count → q < count_of count → (m ≡ k → q ≢ 0) → flat_place count k n ≢ 1 + (m + 1) * count_of count + q
+flat_elsewhere One k n m q some l r behind e = omega (arith, some)
+flat_elsewhere Two k n m q some l r behind e = omega (arith, some)
+flat_elsewhere Four k n m q some l r behind e = elim (four_place k n) [ inl last ↦ behind (omega (arith, r, e, last.1)) (omega (arith, r, e, last.1)) | inr other ↦ omega (arith, l, e, other.0, other.1) ]
+flat_elsewhere Eight k n m q some l r behind e = omega (arith, l, e)
+flat_elsewhere Sixteen k n m q some l r behind e = omega (arith, l, e)
 
 flat_not_cleared : (count : SampleCount) (k n : ℕ) → flat_place count k n ≢ 1
 flat_not_cleared One k n e = omega (arith, e)
 flat_not_cleared Two k n e = omega (arith, e)
-flat_not_cleared Four k n e = omega (arith, e)
+flat_not_cleared Four k n e = elim (four_place k n) [ inl last ↦ omega (arith, e, last.1) | inr other ↦ omega (arith, e, other.1) ]
 flat_not_cleared Eight k n e = omega (arith, e)
 flat_not_cleared Sixteen k n e = omega (arith, e)
 
@@ -89,7 +90,7 @@ module _ (count : SampleCount) (k n a : ℕ) (plane : BlockSamples) (old : List 
   abbrev put : List BlockSamples
   put = slice_set old a plane
 
-  elsewhere : (q : ℕ) → q ≢ flat_place count k n → in_list put q ≡ in_list old q
+  pub elsewhere : (q : ℕ) → q ≢ flat_place count k n → in_list put q ≡ in_list old q
   elsewhere q apart = get_or-set_other old a q plane none (λ e. apart (e ∙ is_a))
 
   shared : (way : Way) (m q : ℕ) → m ≢ k → m < 64 → stored_at (in_list put q) m ≡ stored_at (in_list old q) m
@@ -99,28 +100,29 @@ module _ (count : SampleCount) (k n a : ℕ) (plane : BlockSamples) (old : List 
         | inl here ↦ ap (λ r. stored_at (in_list put r) m) here ∙ ap (λ p. stored_at p m) (get_or-set_same old a plane none room) ∙ kept m small other ∙ ap (λ r. stored_at (in_list old r) m) (sym here)
       ]
 
-  sample_kept : KeepsOthers count k old put
+  pub sample_kept : KeepsOtherPlaces count k old put
   sample_kept Cleared m q p other small l below = ap (λ x. stored_at x p) (elsewhere 1 (λ e. flat_not_cleared count k n (sym e)))
-  sample_kept Single m q p other small l below = ap (λ x. stored_at x p) (elsewhere (place_by count Single m q) (λ e. flat_elsewhere count k n m 0 some own (omega (arith, e))))
-  sample_kept Pair m q p other small l below = ap (λ x. stored_at x p) (elsewhere (place_by count Pair m q) (λ e. flat_elsewhere count k n m q some own (sym e)))
-  sample_kept Own m q p other small l below = ap (λ x. stored_at x p) (elsewhere (place_by count Own m q) (λ e. flat_elsewhere count k n m q some own (sym e)))
+  sample_kept Single m q p other small l below = ap (λ x. stored_at x p) (elsewhere (place_by count Single m q) (λ e. flat_elsewhere count k n m 0 some own (some_samples count) (λ same. absurd (other same)) (omega (arith, e))))
+  sample_kept Pair m q p other small l below = ap (λ x. stored_at x p) (elsewhere (place_by count Pair m q) (λ e. flat_elsewhere count k n m q some own l (λ same. absurd (other same)) (sym e)))
+  sample_kept Own m q p other small l below = ap (λ x. stored_at x p) (elsewhere (place_by count Own m q) (λ e. flat_elsewhere count k n m q some own l (λ same. absurd (other same)) (sym e)))
   sample_kept Flat m q p other small l below = shared Flat m (place_by count Flat m q) other small
   sample_kept FlatPair m q p other small l below = shared FlatPair m (place_by count FlatPair m q) other small
+  sample_kept FlatFour m q p other small l below = shared FlatFour m (place_by count FlatFour m q) other small
 
-  put_first : in_list put 0 ≡ in_list old 0
+  pub put_first : in_list put 0 ≡ in_list old 0
   put_first = elsewhere 0 (λ e. behind_first count FlatPair k n (sym e))
 
-  put_here : in_list put (flat_place count k n) ≡ plane
+  pub put_here : in_list put (flat_place count k n) ≡ plane
   put_here = ap (in_list put) (sym is_a) ∙ get_or-set_same old a plane none room
 
 -- its masks are stored
-module _ (count : SampleCount) (k a : ℕ) (plane : BlockSamples) (old : List BlockSamples) (is_a : a ≡ place_by count Own k (count_of count - 1)) where
-  masks_kept : KeepsOthers count k old (slice_set old a plane)
+module _ (count : SampleCount) (k q a : ℕ) (plane : BlockSamples) (old : List BlockSamples) (is_a : a ≡ place_by count Own k q) (own : q < count_of count) where
+  pub masks_kept : KeepsOtherPlaces count k old (slice_set old a plane)
   masks_kept way m n p other small l below =
-      ap (λ x. stored_at x (slot_by way m p)) (get_or-set_other old a (place_by count way m n) plane none (λ e. own_apart count way m k n (count_of count - 1) other l (last_sample count) (e ∙ is_a)))
+      ap (λ x. stored_at x (slot_by way m p)) (get_or-set_other old a (place_by count way m n) plane none (λ e. own_apart count way m k n q other l own (e ∙ is_a)))
 
 -- and its way
-state_kept : (count : SampleCount) (k : ℕ) (state : BlockSamples) (old : List BlockSamples) → KeepsOthers count k old (slice_set old 0 state)
+pub state_kept : (count : SampleCount) (k : ℕ) (state : BlockSamples) (old : List BlockSamples) → KeepsOtherPlaces count k old (slice_set old 0 state)
 state_kept count k state old way m n p other small l below = ap (λ x. stored_at x (slot_by way m p)) (behind_set old state (place_by count way m n) (behind_first count way m n))
 
 -- ---- a block that is made flat
@@ -138,7 +140,7 @@ module _ (count : SampleCount) (k : ℕ) (flat : FlatBlock) (first state : Block
   same_state : in_list with_first 0 ≡ in_list old 0
   same_state = put_first count k 0 a first old is_a (some_samples count) some room kept
 
-  first_others : KeepsOthers count k old with_first
+  first_others : KeepsOtherPlaces count k old with_first
   first_others = sample_kept count k 0 a first old is_a (some_samples count) some room kept
 
   length_first : length with_first ≡ length old
@@ -190,7 +192,7 @@ module _ (count : SampleCount) (k : ℕ) (flat : FlatBlock) (first state : Block
 
     -- the planes with its samples are not that of its masks
     unmarked : (n : ℕ) → n < count_of count → in_list marked (flat_place count k n) ≡ in_list with_second (flat_place count k n)
-    unmarked n l = get_or-set_other with_second c (flat_place count k n) marks none (λ e. flat_elsewhere count k n k (count_of count - 1) some l (e ∙ is_c))
+    unmarked n l = get_or-set_other with_second c (flat_place count k n) marks none (λ e. flat_elsewhere count k n k (count_of count - 1) some l (last_sample count) (λ _ none. omega (arith, some, none)) (e ∙ is_c))
 
     module _ (is_pair : way_of state k ≡ FlatPair) (others : (m : ℕ) → m < 64 → m ≢ k → way_of state m ≡ way_of (in_list marked 0) m) where
       abbrev two : List BlockSamples
@@ -227,7 +229,7 @@ module _ (count : SampleCount) (k : ℕ) (flat : FlatBlock) (first state : Block
           others_kept count k old two two_ways
           (λ way m n p other l h below.
           state_kept count k state marked way m n p other l h below
-          ∙ masks_kept count k c marks with_second is_c way m n p other l h below
+          ∙ masks_kept count k (count_of count - 1) c marks with_second is_c (last_sample count) way m n p other l h below
           ∙ sample_kept count k (count_of count / 2) b second with_first is_b (middle_sample count) some room_b kept_second way m n p other l h below
           ∙ first_others way m n p other l h below)
 

@@ -12,6 +12,7 @@ pub mod PixelRows
 pub mod Arranged
 pub mod Pairs
 pub mod FlatBlocks
+pub mod Palettes
 pub mod MaskLanes
 pub mod MaskBits
 pub mod BlockMeans

@@ -1,5 +1,5 @@
 -- The bits of masks of 64 pixels.
-use Rattle.std.proofs.Common.{replicate, ◌≡◌, ◌≢◌, ◌∙◌, inl, inr, sym, ap, subst, ℕ, ◌+◌, ◌-◌, ◌%◌, ◌<◌, ◌^◌, min, max, List, length, slice_index, slice_set, bit_and, bit_or, w64, arith, ◌≤◌}
+use Rattle.std.proofs.Common.{replicate, ◌↔◌, ◌≡◌, ◌≢◌, ◌∙◌, inl, inr, sym, ap, subst, ℕ, ◌+◌, ◌-◌, ◌%◌, ◌<◌, ◌^◌, min, max, List, length, slice_index, slice_set, bit_and, bit_or, w64, arith, ◌≤◌}
 use Rattle.std.specs.Int.{bit_at}
 use Rattle.std.proofs.lemmas.Bool.{cases_lt}
 use Rattle.std.proofs.lemmas.List.{get_or-set_same, get_or-set_other}
@@ -14,7 +14,7 @@ full = 18446744073709551615
 pub bit_of_full : (mask p : ℕ) → mask ≡ full → p < 64 → bit_at mask p ≡ 1
 bit_of_full mask p e l = ap (λ m. bit_at m p) e ∙ bit_at_ones 64 p l
 
-bit_of_rest : (mask p : ℕ) → mask < 2 ^ 64 → p < 64 → bit_at (full - mask) p ≡ 1 - bit_at mask p
+pub bit_of_rest : (mask p : ℕ) → mask < 2 ^ 64 → p < 64 → bit_at (full - mask) p ≡ 1 - bit_at mask p
 bit_of_rest mask p fits l = bit_at_not w64 mask p fits l
 
 -- all bits of one mask are in another
@@ -46,6 +46,14 @@ bit_without_clear a b p fits l clear =
     let low = bit_at-lt b p in
     let one = bit_at-lt a p in
     omega (arith, both, rest, clear, low, one)
+
+-- the bits of both
+pub bit_shared : (a b p : ℕ) → (bit_at (bit_and a b) p ≡ 1) ↔ ((bit_at a p ≡ 1) × (bit_at b p ≡ 1))
+bit_shared a b p =
+    let both = bit_at_and a b p in
+    let one = bit_at-lt a p in
+    let other = bit_at-lt b p in
+    (λ set. (omega (arith, both, set, one, other), omega (arith, both, set, one, other)), λ sets. omega (arith, both, sets.0, sets.1))
 
 -- the bits of either mask
 pub bit_united_set : (a b p : ℕ) → bit_at b p ≡ 1 → bit_at (bit_or a b) p ≡ 1

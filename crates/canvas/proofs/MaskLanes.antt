@@ -1,13 +1,16 @@
 -- Bits of masks in lanes.
-use Rattle.std.proofs.Common.{◌≡◌, ◌≢◌, ◌∙◌, refl, sym, ap, subst, ℕ, zero, suc, ◌+◌, ◌*◌, ◌/◌, ◌%◌, ◌^◌, ◌<◌, List, Bool, false, not, eqb, cond, length, get_or, replicate, bit_and, w64, arith}
-use Rattle.std.specs.Int.{bit_at, to_le_bytes}
-use Rattle.std.specs.Simd.Lanes.{zip2, sel_l}
+use Rattle.std.proofs.Common.{◌≡◌, ◌≢◌, ◌∙◌, inl, inr, refl, sym, ap, subst, ℕ, zero, suc, ◌+◌, ◌-◌, ◌*◌, ◌/◌, ◌%◌, ◌^◌, ◌<◌, ◌≤◌, List, map, take, Bool, false, not, eqb, cond, length, get_or, replicate, bit_and, w64, arith}
+use Rattle.std.specs.Int.{Width, bit_at, to_le_bytes}
+use mir.Val.{bits, hbits}
+use Rattle.std.specs.Simd.Lanes.{zip2, sel_l, top, mask_l}
+use Rattle.std.proofs.lemmas.Bool.Decides.{eqb_tells}
+use Rattle.std.proofs.lemmas.List.{get_or-take, length-take-le, get_or-map}
 use Rattle.std.proofs.Math.Nat.{zero-mul}
 use Rattle.shade.specs.Resolve.{total}
-use Rattle.std.proofs.lemmas.Simd.{length-zip2, get_or-zip2, length-replicate, get_or-replicate, get_or-sel_l}
+use Rattle.std.proofs.lemmas.Simd.{length-zip2, get_or-zip2, length-replicate, get_or-replicate, get_or-sel_l, bitmask_splat, bit_mask_l}
 use Rattle.std.proofs.lemmas.Bool.{ne_eqb}
 use Rattle.std.proofs.lemmas.Nat.{pow_pos, shr-shr, shr_split}
-use Rattle.std.proofs.lemmas.Nat.Bits.{and_pow, bit_at-lt, bit_at_cat_low}
+use Rattle.std.proofs.lemmas.Nat.Bits.{and_pow, bit_at-lt, bit_at-zero, bit_at_cat_low}
 
 -- ---- lanes of 64 pixels
 pub record AreLanes (v : List ℕ) (f : ℕ → ℕ) : Type 0 where
@@ -42,6 +45,24 @@ chosen t n x lanes ys ns long p q k l =
     let tests : length (zip2 t lanes (replicate n x)) ≡ n = length-zip2 t lanes (replicate n x) (long ∙ sym all) ∙ long in
     get_or-sel_l (zip2 t lanes (replicate n x)) ys ns k 0 (omega (arith, tests, l)) (omega (arith, p, l)) (omega (arith, q, l))
     ∙ ap (λ m. cond m (get_or ys k 0) (get_or ns k 0)) (get_or-zip2 t lanes (replicate n x) k 0 0 false (omega (arith, long, l)) (omega (arith, all, l)) ∙ ap (t (get_or lanes k 0)) (get_or-replicate n k x 0 l))
+
+-- ---- lanes none of which is another value
+pub none_other : (w : Width) (xs : List ℕ) (n x : ℕ) → length xs ≡ n → n ≤ 64 → mask_l (map (top (hbits w)) (zip2 (λ a b. cond (not (eqb a b)) (2 ^ bits w - 1) 0) xs (replicate n x))) % 2 ^ 64 ≡ 0 → (i : ℕ) → i < n → get_or xs i 0 ≡ x
+none_other w xs n x long few none i l =
+    let zero : mask_l (map (λ a. not (eqb a x)) xs) ≡ 0 = sym (bitmask_splat w (λ a b. not (eqb a b)) xs n x long few) ∙ none in
+    let clear : bit_at (mask_l (map (λ a. not (eqb a x)) xs)) i ≡ 0 = ap (λ m. bit_at m i) zero ∙ bit_at-zero i in
+    let bit : bit_at (mask_l (map (λ a. not (eqb a x)) xs)) i ≡ cond (get_or (map (λ a. not (eqb a x)) xs) i false) 1 0 = bit_mask_l (map (λ a. not (eqb a x)) xs) i in
+    elim (eqb_tells (get_or xs i 0) x) [
+      | inl same ↦ same.1
+      | inr other ↦
+          let set : cond {A = ℕ} (get_or (map (λ a. not (eqb a x)) xs) i false) 1 0 ≡ 1 = ap (λ b. cond {A = ℕ} b 1 0) (get_or-map (λ a. not (eqb a x)) xs i 0 false (omega (arith, long, l)) ∙ ap not other.0) in
+          absurd (omega (arith, clear, bit, set))
+    ]
+
+-- the values of a part of an array, of which none is other than the first
+pub none_other_of : (w : Width) (xs : List ℕ) → length xs ≡ 64 → mask_l (map (top (hbits w)) (zip2 (λ a b. cond (not (eqb a b)) (2 ^ bits w - 1) 0) (take 64 xs) (replicate 64 (get_or xs 0 0)))) % 2 ^ 64 ≡ 0 → (p : ℕ) → p < 64 → get_or xs p 0 ≡ get_or xs 0 0
+none_other_of w xs long none p l =
+    sym (get_or-take 64 xs p 0 l) ∙ none_other w (take 64 xs) 64 (get_or xs 0 0) (length-take-le 64 xs (omega (arith, long))) (omega arith) none p l
 
 -- ---- bits
 -- those of a part of a number

@@ -1,5 +1,5 @@
 -- The two planes and the masks of a pair.
-use Rattle.std.proofs.Common.{inl, inr, ◌≡◌, ◌≢◌, ◌∙◌, refl, ap, sym, ℕ, ◌-◌, ◌/◌, ◌<◌, ◌≤◌, Bool, true, false, List, length, slice_index, slice_set, arith}
+use Rattle.std.proofs.Common.{inl, inr, ◌≡◌, ◌≢◌, ◌∙◌, refl, ap, sym, ℕ, ◌+◌, ◌-◌, ◌/◌, ◌<◌, ◌≤◌, Bool, true, false, List, length, slice_index, slice_set, arith}
 use Rattle.std.specs.Prelude.{◌==◌, if◌then◌else◌}
 use Rattle.std.specs.Int.{bit_at}
 use Rattle.std.proofs.lemmas.Bool.Decides.{eqb_tells}
@@ -12,9 +12,9 @@ use Rattle.lanes.specs.declared.block_samples.BlockSamples.{BlockSamples}
 use Rattle.lanes.specs.Block.{stored_at}
 use Rattle.shade.specs.declared.sample.CanvasSample.{CanvasSample}
 use Rattle.canvas.specs.declared.way.Way.{Way}
-use Rattle.canvas.specs.declared.way.Way.TheVariants.{Cleared, Single, Pair, Own, Flat, FlatPair}
-use Rattle.canvas.specs.Layout.{planes_of_tile, block_in_tile, pixel_in_block, way_of, place_by, slot_by, is_plain, mask_of, masks_in, sample_place, in_list, stored_in_tile, way_in_tile, chosen, HasMasks, KeepsOtherSamples, KeepsOtherWays}
-use Rattle.canvas.proofs.Ways.{pair_not_flat, flat_pair_not_flat}
+use Rattle.canvas.specs.declared.way.Way.TheVariants.{Cleared, Single, Pair, Own, Flat, FlatPair, FlatFour}
+use Rattle.canvas.specs.Layout.{more_in, planes_of_tile, block_in_tile, pixel_in_block, way_of, place_by, slot_by, is_plain, mask_of, masks_in, sample_place, in_list, stored_in_tile, way_in_tile, chosen, HasMasks, KeepsOtherSamples, KeepsOtherWays}
+use Rattle.canvas.proofs.Ways.{pair_not_flat, flat_pair_not_flat, pair_not_four, flat_pair_not_four}
 use Rattle.canvas.proofs.Places.{none, behind_first, within_way, last_sample}
 use Rattle.canvas.proofs.TilePlanes.{cases_eq, KeepsOthers, by_any_way, others_same, way_set, behind_set}
 
@@ -48,30 +48,47 @@ by_bit false g n m = refl
 abbrev pub sample_of : SampleCount → Way → (ℕ → BlockSamples) → ℕ → ℕ → ℕ → CanvasSample
 sample_of count way f k p n = stored_at (f (place_by count way k n)) (slot_by way k p)
 
-pub chosen_by : (count : SampleCount) (way : Way) (f : ℕ → BlockSamples) (k p s : ℕ) → is_plain way ≡ false
+pub chosen_by : (count : SampleCount) (way : Way) (f : ℕ → BlockSamples) (k p s : ℕ) → is_plain way ≡ false → way ≢ FlatFour
     → chosen (mask_of (masks_in count f k) s) p (sample_of count way f k p (count_of count / 2)) (sample_of count way f k p 0) ≡ stored_at (f (sample_place count way f k p s)) (slot_by way k p)
-chosen_by count Cleared f k p s other = absurd (false≢true (sym other))
-chosen_by count Single f k p s other = absurd (false≢true (sym other))
-chosen_by count Pair f k p s other = by_bit (bit_at (mask_of (masks_in count f k) s) p == 1) (sample_of count Pair f k p) (count_of count / 2) 0
-chosen_by count Own f k p s other = absurd (false≢true (sym other))
-chosen_by count Flat f k p s other = chosen_same (mask_of (masks_in count f k) s) p (sample_of count Flat f k p 0) (sample_of count Flat f k p (count_of count / 2)) refl
-chosen_by count FlatPair f k p s other = by_bit (bit_at (mask_of (masks_in count f k) s) p == 1) (sample_of count FlatPair f k p) (count_of count / 2) 0
+chosen_by count Cleared f k p s other few = absurd (false≢true (sym other))
+chosen_by count Single f k p s other few = absurd (false≢true (sym other))
+chosen_by count Pair f k p s other few = by_bit (bit_at (mask_of (masks_in count f k) s) p == 1) (sample_of count Pair f k p) (count_of count / 2) 0
+chosen_by count Own f k p s other few = absurd (false≢true (sym other))
+chosen_by count Flat f k p s other few = chosen_same (mask_of (masks_in count f k) s) p (sample_of count Flat f k p 0) (sample_of count Flat f k p (count_of count / 2)) refl
+chosen_by count FlatPair f k p s other few = by_bit (bit_at (mask_of (masks_in count f k) s) p == 1) (sample_of count FlatPair f k p) (count_of count / 2) 0
+chosen_by count FlatFour f k p s other few = absurd (few refl)
 
 -- by these masks, which are any if the block has one sample
-pub chosen_with : (count : SampleCount) (way : Way) (f : ℕ → BlockSamples) (masks : BlockSamples) (k p s : ℕ) → is_plain way ≡ false → (way ≢ Flat → masks ≡ masks_in count f k)
+pub chosen_with : (count : SampleCount) (way : Way) (f : ℕ → BlockSamples) (masks : BlockSamples) (k p s : ℕ) → is_plain way ≡ false → way ≢ FlatFour → (way ≢ Flat → masks ≡ masks_in count f k)
     → chosen (mask_of masks s) p (sample_of count way f k p (count_of count / 2)) (sample_of count way f k p 0) ≡ stored_at (f (sample_place count way f k p s)) (slot_by way k p)
-chosen_with count Cleared f masks k p s other same = absurd (false≢true (sym other))
-chosen_with count Single f masks k p s other same = absurd (false≢true (sym other))
-chosen_with count Pair f masks k p s other same = ap (λ m. chosen (mask_of m s) p (sample_of count Pair f k p (count_of count / 2)) (sample_of count Pair f k p 0)) (same pair_not_flat) ∙ chosen_by count Pair f k p s refl
-chosen_with count Own f masks k p s other same = absurd (false≢true (sym other))
-chosen_with count Flat f masks k p s other same = chosen_same (mask_of masks s) p (sample_of count Flat f k p 0) (sample_of count Flat f k p (count_of count / 2)) refl
-chosen_with count FlatPair f masks k p s other same =
-    ap (λ m. chosen (mask_of m s) p (sample_of count FlatPair f k p (count_of count / 2)) (sample_of count FlatPair f k p 0)) (same flat_pair_not_flat) ∙ chosen_by count FlatPair f k p s refl
+chosen_with count Cleared f masks k p s other few same = absurd (false≢true (sym other))
+chosen_with count Single f masks k p s other few same = absurd (false≢true (sym other))
+chosen_with count Pair f masks k p s other few same = ap (λ m. chosen (mask_of m s) p (sample_of count Pair f k p (count_of count / 2)) (sample_of count Pair f k p 0)) (same pair_not_flat) ∙ chosen_by count Pair f k p s refl pair_not_four
+chosen_with count Own f masks k p s other few same = absurd (false≢true (sym other))
+chosen_with count Flat f masks k p s other few same = chosen_same (mask_of masks s) p (sample_of count Flat f k p 0) (sample_of count Flat f k p (count_of count / 2)) refl
+chosen_with count FlatPair f masks k p s other few same =
+    ap (λ m. chosen (mask_of m s) p (sample_of count FlatPair f k p (count_of count / 2)) (sample_of count FlatPair f k p 0)) (same flat_pair_not_flat) ∙ chosen_by count FlatPair f k p s refl flat_pair_not_four
+chosen_with count FlatFour f masks k p s other few same = absurd (few refl)
+
+-- one of four samples by two masks: without a bit in both masks the first
+pub four_chosen : (b c : Bool) (g : ℕ → CanvasSample) (n m : ℕ)
+    → (if c then (if b then g (n + m) else g m) else (if b then g n else g 0)) ≡ g ((if b then n else 0) + (if c then m else 0))
+four_chosen true true g n m = refl
+four_chosen true false g n m = ap g (omega arith)
+four_chosen false true g n m = ap g (omega arith)
+four_chosen false false g n m = ap g (omega arith)
+
+pub four_by : (count : SampleCount) (f : ℕ → BlockSamples) (k p s : ℕ)
+    → chosen (mask_of (more_in count f k) s) p (chosen (mask_of (masks_in count f k) s) p (sample_of count FlatFour f k p (count_of count / 2 + count_of count / 4)) (sample_of count FlatFour f k p (count_of count / 4)))
+    (chosen (mask_of (masks_in count f k) s) p (sample_of count FlatFour f k p (count_of count / 2)) (sample_of count FlatFour f k p 0))
+    ≡ stored_at (f (sample_place count FlatFour f k p s)) k
+four_by count f k p s =
+    four_chosen (bit_at (mask_of (masks_in count f k) s) p == 1) (bit_at (mask_of (more_in count f k) s) p == 1) (sample_of count FlatFour f k p) (count_of count / 2) (count_of count / 4)
 
 pub chosen_place : (count : SampleCount) (f : ℕ → BlockSamples) (k p s : ℕ)
     → chosen (mask_of (masks_in count f k) s) p (stored_at (f (place_by count Pair k (count_of count / 2))) p) (stored_at (f (place_by count Pair k 0)) p)
     ≡ stored_at (f (sample_place count Pair f k p s)) p
-chosen_place count f k p s = chosen_by count Pair f k p s refl
+chosen_place count f k p s = chosen_by count Pair f k p s refl pair_not_four
 
 -- ---- in place of samples one is stored where a mask has a bit: all of the second one are in that mask
 pub in_replaced : (mask old p : ℕ) (x a b : CanvasSample) → (bit_at old p ≡ 1 → bit_at mask p ≡ 1) → chosen mask p x a ≡ chosen mask p x (chosen old p b a)

@@ -1,8 +1,9 @@
 -- Each tile has planes of its own.
-use Rattle.std.proofs.Common.{◌≡◌, ◌≢◌, ◌⊎◌, ◌∙◌, inl, inr, ap, sym, ℕ, Bool, true, false, ◌+◌, ◌-◌, ◌*◌, ◌/◌, ◌<◌, ◌≤◌, List, [], ◌++◌, length, take, drop, get_or-append-add, arith}
+use Rattle.std.proofs.Common.{◌≡◌, ◌≢◌, ◌⊎◌, ◌∙◌, inl, inr, ap, sym, ℕ, Bool, true, false, ◌+◌, ◌-◌, ◌*◌, ◌/◌, ◌%◌, ◌<◌, ◌≤◌, List, [], ◌++◌, length, take, drop, get_or-append-add, arith}
 use Rattle.std.specs.Prelude.{◌==◌, if◌then◌else◌, slice_index_or}
 use Rattle.std.specs.Int.{bit_at}
 use Rattle.std.proofs.Math.Nat.{mul_comm, add-mul}
+use Rattle.std.proofs.lemmas.Bool.Decides.{eqb_tells}
 use Rattle.std.proofs.lemmas.List.{get_or_append_left}
 use Rattle.std.proofs.lemmas.Nat.{mul-add-lt, same_from_place}
 use Rattle.grid.specs.Samples.{count_of}
@@ -14,13 +15,21 @@ use Rattle.lanes.specs.Block.{stored_at}
 use Rattle.canvas.proofs.Cut.{put, put_here, put_elsewhere, part_of}
 use Rattle.canvas.specs.declared.canvas.Canvas.{Canvas}
 use Rattle.canvas.specs.declared.way.Way.{Way}
-use Rattle.canvas.specs.declared.way.Way.TheVariants.{Cleared, Single, Pair, Own, Flat, FlatPair}
-use Rattle.canvas.specs.Layout.{columns_of, planes_of_tile, planes_of_row, block_in_tile, pixel_in_block, way_of, mask_of, own_plane, place_by, flat_place, slot_by, masks_in, sample_place, place_in_tile, sample_in, plane_of, in_list, stored, stored_in_tile}
+use Rattle.canvas.specs.declared.way.Way.TheVariants.{Cleared, Single, Pair, Own, Flat, FlatPair, FlatFour}
+use Rattle.canvas.specs.Layout.{more_in, columns_of, planes_of_tile, planes_of_row, block_in_tile, pixel_in_block, way_of, mask_of, own_plane, place_by, flat_place, slot_by, masks_in, sample_place, place_in_tile, sample_in, plane_of, in_list, stored, stored_in_tile}
 
 abbrev pub none : BlockSamples
 none = record { z = []; r = []; g = []; b = []; alpha = [] }
 
 -- ---- places
+-- with four samples a pixel
+pub four_place : (k n : ℕ) → ((n ≡ 3) × (flat_place Four k n ≡ 5 + 4 * k)) ⊎ ((n ≢ 3) × (flat_place Four k n ≡ 2 + n / 2 + 2 * (n % 2)))
+four_place k n =
+    elim (eqb_tells n 3) [
+      | inl last ↦ inl (last.1, ap (λ b. if b then 5 + 4 * k else 2 + n / 2 + 2 * (n % 2)) last.0)
+      | inr other ↦ inr (other.1, ap (λ b. if b then 5 + 4 * k else 2 + n / 2 + 2 * (n % 2)) other.0)
+    ]
+
 within_planes : (count : SampleCount) (q s : ℕ) → q ≤ 64 → s < count_of count → 1 + q * count_of count + s < planes_of_tile count
 within_planes One q s h k = omega arith
 within_planes Two q s h k = omega arith
@@ -31,22 +40,22 @@ within_planes Sixteen q s h k = omega arith
 within_flat : (count : SampleCount) (k n : ℕ) → k < 64 → n < count_of count → flat_place count k n < planes_of_tile count
 within_flat One k n l h = omega (arith, l, h)
 within_flat Two k n l h = omega (arith, l, h)
-within_flat Four k n l h = omega (arith, h)
+within_flat Four k n l h = elim (four_place k n) [ inl last ↦ omega (arith, l, last.1) | inr other ↦ omega (arith, h, other.0, other.1) ]
 within_flat Eight k n l h = omega (arith, h)
 within_flat Sixteen k n l h = omega (arith, h)
 
 behind_flat : (count : SampleCount) (k n : ℕ) → flat_place count k n ≢ 0
 behind_flat One k n e = omega (arith, e)
 behind_flat Two k n e = omega (arith, e)
-behind_flat Four k n e = omega (arith, e)
+behind_flat Four k n e = elim (four_place k n) [ inl last ↦ omega (arith, e, last.1) | inr other ↦ omega (arith, e, other.1) ]
 behind_flat Eight k n e = omega (arith, e)
 behind_flat Sixteen k n e = omega (arith, e)
 
 -- a plane with samples of flat blocks lies before the own blocks, or is an own plane of the block
-pub flat_where : (count : SampleCount) (k n : ℕ) → n < count_of count → (flat_place count k n < 1 + count_of count) ⊎ (flat_place count k n ≡ 1 + (k + 1) * count_of count + n)
-flat_where One k n l = inr (omega arith)
-flat_where Two k n l = inr (omega arith)
-flat_where Four k n l = inl (omega (arith, l))
+pub flat_where : (count : SampleCount) (k n : ℕ) → n < count_of count → (flat_place count k n < 1 + count_of count) ⊎ ((m : ℕ) × (m < count_of count) × (flat_place count k n ≡ 1 + (k + 1) * count_of count + m))
+flat_where One k n l = inr (n, l, omega arith)
+flat_where Two k n l = inr (n, l, omega arith)
+flat_where Four k n l = elim (four_place k n) [ inl last ↦ inr (0, omega arith, omega (arith, last.1)) | inr other ↦ inl (omega (arith, l, other.0, other.1)) ]
 flat_where Eight k n l = inl (omega (arith, l))
 flat_where Sixteen k n l = inl (omega (arith, l))
 
@@ -58,6 +67,7 @@ within_way count Pair k s l h = within_planes count (k + 1) s (omega (arith, l))
 within_way count Own k s l h = within_planes count (k + 1) s (omega (arith, l)) h
 within_way count Flat k s l h = within_flat count k 0 l (some_samples count)
 within_way count FlatPair k s l h = within_flat count k s l h
+within_way count FlatFour k s l h = within_flat count k s l h
 
 -- the masks of a pair too
 pub last_sample : (count : SampleCount) → count_of count - 1 < count_of count
@@ -69,18 +79,32 @@ middle_sample count = omega (arith, some_samples count)
 pub within_masks : (count : SampleCount) (k : ℕ) → k < 64 → 1 + (k + 1) * count_of count + (count_of count - 1) < planes_of_tile count
 within_masks count k l = within_way count Own k (count_of count - 1) l (last_sample count)
 
+-- further masks
+pub before_last : (count : SampleCount) → count_of count - 2 < count_of count
+before_last count = omega (arith, some_samples count)
+
+pub within_more : (count : SampleCount) (k : ℕ) → k < 64 → 1 + (k + 1) * count_of count + (count_of count - 2) < planes_of_tile count
+within_more count k l = within_way count Own k (count_of count - 2) l (before_last count)
+
 either_plane : (count : SampleCount) (b : Bool) → (if b then count_of count / 2 else 0) < count_of count
 either_plane count true = middle_sample count
 either_plane count false = some_samples count
 
+one_of_four : (count : SampleCount) (b c : Bool) → (if b then count_of count / 2 else 0) + (if c then count_of count / 4 else 0) < count_of count
+one_of_four count true true = omega (arith, some_samples count)
+one_of_four count true false = omega (arith, some_samples count)
+one_of_four count false true = omega (arith, some_samples count)
+one_of_four count false false = some_samples count
+
 -- one of its own planes has a sample
-pub within_block : (count : SampleCount) (way : Way) (masks : BlockSamples) (p s : ℕ) → s < count_of count → own_plane count way masks p s < count_of count
-within_block count Cleared masks p s h = h
-within_block count Single masks p s h = h
-within_block count Pair masks p s h = either_plane count (bit_at (mask_of masks s) p == 1)
-within_block count Own masks p s h = h
-within_block count Flat masks p s h = some_samples count
-within_block count FlatPair masks p s h = either_plane count (bit_at (mask_of masks s) p == 1)
+pub within_block : (count : SampleCount) (way : Way) (masks more : BlockSamples) (p s : ℕ) → s < count_of count → own_plane count way masks more p s < count_of count
+within_block count Cleared masks more p s h = h
+within_block count Single masks more p s h = h
+within_block count Pair masks more p s h = either_plane count (bit_at (mask_of masks s) p == 1)
+within_block count Own masks more p s h = h
+within_block count Flat masks more p s h = some_samples count
+within_block count FlatPair masks more p s h = either_plane count (bit_at (mask_of masks s) p == 1)
+within_block count FlatFour masks more p s h = one_of_four count (bit_at (mask_of masks s) p == 1) (bit_at (mask_of more s) p == 1)
 
 pub behind_first : (count : SampleCount) (way : Way) (k s : ℕ) → place_by count way k s ≢ 0
 behind_first count Cleared k s e = omega (arith, e)
@@ -89,6 +113,7 @@ behind_first count Pair k s e = omega (arith, e)
 behind_first count Own k s e = omega (arith, e)
 behind_first count Flat k s e = behind_flat count k 0 e
 behind_first count FlatPair k s e = behind_flat count k s e
+behind_first count FlatFour k s e = behind_flat count k s e
 
 -- the number of a sample in its plane
 pub slot_below : (way : Way) (k p : ℕ) → k < 64 → p < 64 → slot_by way k p < 64
@@ -98,12 +123,13 @@ slot_below Pair k p l h = h
 slot_below Own k p l h = h
 slot_below Flat k p l h = l
 slot_below FlatPair k p l h = l
+slot_below FlatFour k p l h = l
 
 pub within_tile : (count : SampleCount) (f : ℕ → BlockSamples) (i j s : ℕ) → s < count_of count → place_in_tile count f i j s < planes_of_tile count
 within_tile count f i j s h =
     let k : ℕ = block_in_tile i j in
     let way = way_of (f 0) k in
-    within_way count way k (own_plane count way (masks_in count f k) (pixel_in_block i j) s) (omega arith) (within_block count way (masks_in count f k) (pixel_in_block i j) s h)
+    within_way count way k (own_plane count way (masks_in count f k) (more_in count f k) (pixel_in_block i j) s) (omega arith) (within_block count way (masks_in count f k) (more_in count f k) (pixel_in_block i j) s h)
 
 some_planes : (count : SampleCount) → 0 < planes_of_tile count
 some_planes count = omega arith
@@ -129,7 +155,8 @@ same_in count f g i j s h same =
     let k : ℕ = block_in_tile i j in
     let p : ℕ = pixel_in_block i j in
     ap (λ state. stored_at (f (sample_place count (way_of state k) f k p s)) (slot_by (way_of state k) k p)) (same 0 (some_planes count))
-    ∙ ap (λ masks. stored_at (f (place_by count (way_of (g 0) k) k (own_plane count (way_of (g 0) k) masks p s))) (slot_by (way_of (g 0) k) k p)) (same (1 + (k + 1) * count_of count + (count_of count - 1)) (within_masks count k (omega arith)))
+    ∙ ap (λ masks. stored_at (f (place_by count (way_of (g 0) k) k (own_plane count (way_of (g 0) k) masks (more_in count f k) p s))) (slot_by (way_of (g 0) k) k p)) (same (1 + (k + 1) * count_of count + (count_of count - 1)) (within_masks count k (omega arith)))
+    ∙ ap (λ more. stored_at (f (place_by count (way_of (g 0) k) k (own_plane count (way_of (g 0) k) (masks_in count g k) more p s))) (slot_by (way_of (g 0) k) k p)) (same (1 + (k + 1) * count_of count + (count_of count - 2)) (within_more count k (omega arith)))
     ∙ ap (λ plane. stored_at plane (slot_by (way_of (g 0) k) k p)) (same (place_in_tile count g i j s) (within_tile count g i j s h))
 
 -- ---- a tile row among tile rows

@@ -177,9 +177,13 @@ sample_recoloured count from place colour f old new i j s index behind h l is al
     let p : ℕ = pixel_in_block i j in
     let slot : ℕ = slot_by way k p in
     let masks : ℕ = 1 + (k + 1) * count_of count + (count_of count - 1) in
+    let more : ℕ = 1 + (k + 1) * count_of count + (count_of count - 2) in
     by_any_way count new way i j s (ap (λ (state : BlockSamples). way_of state k) first)
     ∙ ap (λ n. stored_at (in_list new (place_by count way k n)) slot)
-    (same_own_plane count way (in_list new masks) (in_list old masks) p s (same_mask (in_list new masks) (in_list old masks) s (omega (arith, index, few_samples count)) (λ n small. same_depths from place f old new masks n small all)))
+    (same_own_plane count way (in_list new masks) (in_list old masks) (in_list new more) (in_list old more) p s (
+      (λ _. same_mask (in_list new masks) (in_list old masks) s (omega (arith, index, few_samples count)) (λ n small. same_depths from place f old new masks n small all)),
+      (λ _. same_mask (in_list new more) (in_list old more) s (omega (arith, index, few_samples count)) (λ n small. same_depths from place f old new more n small all)),
+    ))
     ∙ all.changed at slot h l (slot_below way k p (omega arith) (omega arith))
     ∙ ap (λ n. with_colour n (stored_at (in_list old at) slot)) is
 

@@ -1,7 +1,6 @@
 -- The planes of one tile.
-use Rattle.std.specs.Int.{bit_at}
 use Rattle.std.proofs.Common.{Bool, true, false, ◌≡◌, ◌≢◌, ◌⊎◌, ◌∙◌, inl, inr, refl, ap, sym, ℕ, ◌+◌, ◌-◌, ◌*◌, ◌<◌, List, length, slice_set, arith, ◌/◌, slice_index}
-use Rattle.std.specs.Prelude.{slice_index_or, ◌==◌, if◌then◌else◌}
+use Rattle.std.specs.Prelude.{slice_index_or}
 use Rattle.std.proofs.lemmas.Bool.{cases_lt, false≢true}
 use Rattle.std.proofs.lemmas.List.{get_or-set_same, get_or-set_other}
 use Rattle.std.proofs.Math.Nat.{add-mul}
@@ -14,9 +13,9 @@ use Rattle.shade.specs.declared.sample.CanvasSample.{CanvasSample}
 use Rattle.lanes.specs.declared.block_samples.BlockSamples.{BlockSamples}
 use Rattle.lanes.specs.Block.{stored_at}
 use Rattle.canvas.specs.declared.way.Way.{Way}
-use Rattle.canvas.specs.declared.way.Way.TheVariants.{Cleared, Single, Pair, Own, Flat, FlatPair}
-use Rattle.canvas.specs.Layout.{planes_of_tile, block_in_tile, pixel_in_block, way_of, place_by, flat_place, slot_by, is_plain, mask_of, own_plane, masks_in, sample_place, in_list, stored_in_tile, way_in_tile, IsSameTile, KeepsOtherWays, AreOwnBy, KeepsOtherPlanes, place_in_tile}
-use Rattle.canvas.proofs.Places.{none, behind_first, within_block, last_sample}
+use Rattle.canvas.specs.declared.way.Way.TheVariants.{Cleared, Single, Pair, Own, Flat, FlatPair, FlatFour}
+use Rattle.canvas.specs.Layout.{if_bit, more_in, planes_of_tile, block_in_tile, pixel_in_block, way_of, place_by, flat_place, slot_by, is_plain, mask_of, own_plane, masks_in, sample_place, in_list, stored_in_tile, way_in_tile, IsSameTile, KeepsOtherWays, AreOwnBy, KeepsOtherPlanes, place_in_tile}
+use Rattle.canvas.proofs.Places.{none, four_place, behind_first, within_block, last_sample, before_last}
 
 pub cases_eq : (a b : ℕ) → (a ≡ b) ⊎ (a ≢ b)
 cases_eq a b =
@@ -36,22 +35,15 @@ pub by_any_way : (count : SampleCount) (xs : List BlockSamples) (way : Way) (i j
     ≡ stored_at (in_list xs (sample_place count way (in_list xs) (block_in_tile i j) (pixel_in_block i j) s)) (slot_by way (block_in_tile i j) (pixel_in_block i j))
 by_any_way count xs way i j s e = ap (λ w. stored_at (in_list xs (sample_place count w (in_list xs) (block_in_tile i j) (pixel_in_block i j) s)) (slot_by w (block_in_tile i j) (pixel_in_block i j))) e
 
-pub plain_else : (way : Way) → way ≢ Pair → way ≢ Flat → way ≢ FlatPair → is_plain way ≡ true
-plain_else Cleared pair flat flat_pair = refl
-plain_else Single pair flat flat_pair = refl
-plain_else Pair pair flat flat_pair = absurd (pair refl)
-plain_else Own pair flat flat_pair = refl
-plain_else Flat pair flat flat_pair = absurd (flat refl)
-plain_else FlatPair pair flat flat_pair = absurd (flat_pair refl)
-
 -- the own plane of a sample, in a block that is neither a pair nor flat
-pub plane_is : (count : SampleCount) (way : Way) (masks : BlockSamples) (p s : ℕ) → is_plain way ≡ true → own_plane count way masks p s ≡ s
-plane_is count Cleared masks p s plain = refl
-plane_is count Single masks p s plain = refl
-plane_is count Pair masks p s plain = absurd (false≢true plain)
-plane_is count Own masks p s plain = refl
-plane_is count Flat masks p s plain = absurd (false≢true plain)
-plane_is count FlatPair masks p s plain = absurd (false≢true plain)
+pub plane_is : (count : SampleCount) (way : Way) (masks more : BlockSamples) (p s : ℕ) → is_plain way ≡ true → own_plane count way masks more p s ≡ s
+plane_is count Cleared masks more p s plain = refl
+plane_is count Single masks more p s plain = refl
+plane_is count Pair masks more p s plain = absurd (false≢true plain)
+plane_is count Own masks more p s plain = refl
+plane_is count Flat masks more p s plain = absurd (false≢true plain)
+plane_is count FlatPair masks more p s plain = absurd (false≢true plain)
+plane_is count FlatFour masks more p s plain = absurd (false≢true plain)
 
 -- and its number there
 pub slot_is : (way : Way) (k p : ℕ) → is_plain way ≡ true → slot_by way k p ≡ p
@@ -61,22 +53,27 @@ slot_is Pair k p plain = absurd (false≢true plain)
 slot_is Own k p plain = refl
 slot_is Flat k p plain = absurd (false≢true plain)
 slot_is FlatPair k p plain = absurd (false≢true plain)
+slot_is FlatFour k p plain = absurd (false≢true plain)
 
 pub by_way : (count : SampleCount) (xs : List BlockSamples) (way : Way) (i j s : ℕ) → is_plain way ≡ true → way_in_tile xs (block_in_tile i j) ≡ way
     → stored_in_tile count xs i j s ≡ stored_at (slice_index_or xs (place_by count way (block_in_tile i j) s) none) (pixel_in_block i j)
 by_way count xs way i j s plain e =
     by_any_way count xs way i j s e
-    ∙ ap (λ n. stored_at (slice_index_or xs (place_by count way (block_in_tile i j) n) none) (slot_by way (block_in_tile i j) (pixel_in_block i j))) (plane_is count way (masks_in count (in_list xs) (block_in_tile i j)) (pixel_in_block i j) s plain)
+    ∙ ap (λ n. stored_at (slice_index_or xs (place_by count way (block_in_tile i j) n) none) (slot_by way (block_in_tile i j) (pixel_in_block i j))) (plane_is count way (masks_in count (in_list xs) (block_in_tile i j)) (more_in count (in_list xs) (block_in_tile i j)) (pixel_in_block i j) s plain)
     ∙ ap (λ p. stored_at (slice_index_or xs (place_by count way (block_in_tile i j) s) none) p) (slot_is way (block_in_tile i j) (pixel_in_block i j) plain)
 
 -- the same masks
-pub same_own_plane : (count : SampleCount) (way : Way) (a b : BlockSamples) (p s : ℕ) → mask_of a s ≡ mask_of b s → own_plane count way a p s ≡ own_plane count way b p s
-same_own_plane count Cleared a b p s same = refl
-same_own_plane count Single a b p s same = refl
-same_own_plane count Pair a b p s same = ap (λ mask. if bit_at mask p == 1 then count_of count / 2 else 0) same
-same_own_plane count Own a b p s same = refl
-same_own_plane count Flat a b p s same = refl
-same_own_plane count FlatPair a b p s same = ap (λ mask. if bit_at mask p == 1 then count_of count / 2 else 0) same
+abbrev SameMasks : Way → ℕ → ℕ → ℕ → ℕ → Type 0
+SameMasks way new_masks new_more old_masks old_more = (is_plain way ≡ false → new_masks ≡ old_masks) × (way ≡ FlatFour → new_more ≡ old_more)
+
+pub same_own_plane : (count : SampleCount) (way : Way) (a b c d : BlockSamples) (p s : ℕ) → SameMasks way (mask_of a s) (mask_of c s) (mask_of b s) (mask_of d s) → own_plane count way a c p s ≡ own_plane count way b d p s
+same_own_plane count Cleared a b c d p s same = refl
+same_own_plane count Single a b c d p s same = refl
+same_own_plane count Pair a b c d p s same = ap (λ mask. if_bit mask p (count_of count / 2)) (same.0 refl)
+same_own_plane count Own a b c d p s same = refl
+same_own_plane count Flat a b c d p s same = refl
+same_own_plane count FlatPair a b c d p s same = ap (λ mask. if_bit mask p (count_of count / 2)) (same.0 refl)
+same_own_plane count FlatFour a b c d p s same = (λ i. if_bit (same.0 refl i) p (count_of count / 2) + if_bit (same.1 refl i) p (count_of count / 4))
 
 pub same_mask : (a b : BlockSamples) (s : ℕ) → s < 16 → ((k : ℕ) → k < 64 → slice_index a.z k ≡ slice_index b.z k) → mask_of a s ≡ mask_of b s
 same_mask a b s l same =
@@ -88,23 +85,23 @@ pub in_block : (count : SampleCount) (xs : List BlockSamples) (a b i j s : ℕ) 
 in_block count xs a b i j s same plain =
     let block : ℕ = block_in_tile a b in
     let way = way_in_tile xs block in
-    ap (λ n. stored_at (in_list xs (place_by count way block n)) (pixel_in_block i j)) (plane_is count way (masks_in count (in_list xs) block) (pixel_in_block a b) s plain)
+    ap (λ n. stored_at (in_list xs (place_by count way block n)) (pixel_in_block i j)) (plane_is count way (masks_in count (in_list xs) block) (more_in count (in_list xs) block) (pixel_in_block a b) s plain)
     ∙ ap (λ m. stored_at (in_list xs (place_by count way m s)) (pixel_in_block i j)) (sym same)
     ∙ sym (by_way count xs way i j s plain (ap (way_in_tile xs) same))
 
--- the same place, if the masks of a pair are the same
-pub same_place_by : (count : SampleCount) (way : Way) (old new : List BlockSamples) (k p s : ℕ) → (is_plain way ≡ false → mask_of (masks_in count (in_list new) k) s ≡ mask_of (masks_in count (in_list old) k) s)
+-- the same place, if the masks of a block are the same
+abbrev pub HasSameMasks : SampleCount → Way → List BlockSamples → List BlockSamples → ℕ → ℕ → Type 0
+HasSameMasks count way old new k s =
+    SameMasks way (mask_of (masks_in count (in_list new) k) s) (mask_of (more_in count (in_list new) k) s) (mask_of (masks_in count (in_list old) k) s) (mask_of (more_in count (in_list old) k) s)
+
+pub same_place_by : (count : SampleCount) (way : Way) (old new : List BlockSamples) (k p s : ℕ) → HasSameMasks count way old new k s
     → sample_place count way (in_list new) k p s ≡ sample_place count way (in_list old) k p s
-same_place_by count Cleared old new k p s same = refl
-same_place_by count Single old new k p s same = refl
-same_place_by count Pair old new k p s same = ap (place_by count Pair k) (same_own_plane count Pair (masks_in count (in_list new) k) (masks_in count (in_list old) k) p s (same refl))
-same_place_by count Own old new k p s same = refl
-same_place_by count Flat old new k p s same = refl
-same_place_by count FlatPair old new k p s same = ap (place_by count FlatPair k) (same_own_plane count FlatPair (masks_in count (in_list new) k) (masks_in count (in_list old) k) p s (same refl))
+same_place_by count way old new k p s same =
+    ap (place_by count way k) (same_own_plane count way (masks_in count (in_list new) k) (masks_in count (in_list old) k) (more_in count (in_list new) k) (more_in count (in_list old) k) p s same)
 
 -- the same way, the same masks and the same samples in its planes: the same sample
 pub same_by_way : (count : SampleCount) (old new : List BlockSamples) (i j s : ℕ) → s < count_of count → way_in_tile new (block_in_tile i j) ≡ way_in_tile old (block_in_tile i j)
-    → (is_plain (way_in_tile old (block_in_tile i j)) ≡ false → mask_of (masks_in count (in_list new) (block_in_tile i j)) s ≡ mask_of (masks_in count (in_list old) (block_in_tile i j)) s)
+    → HasSameMasks count (way_in_tile old (block_in_tile i j)) old new (block_in_tile i j) s
     → ((t : ℕ) → t < count_of count
     → stored_at (in_list new (place_by count (way_in_tile old (block_in_tile i j)) (block_in_tile i j) t)) (slot_by (way_in_tile old (block_in_tile i j)) (block_in_tile i j) (pixel_in_block i j))
     ≡ stored_at (in_list old (place_by count (way_in_tile old (block_in_tile i j)) (block_in_tile i j) t)) (slot_by (way_in_tile old (block_in_tile i j)) (block_in_tile i j) (pixel_in_block i j)))
@@ -115,14 +112,14 @@ same_by_way count old new i j s h way masks planes =
     let w = way_in_tile old k in
     by_any_way count new w i j s way
     ∙ ap (λ n. stored_at (in_list new n) (slot_by w k p)) (same_place_by count w old new k p s masks)
-    ∙ planes (own_plane count w (masks_in count (in_list old) k) p s) (within_block count w (masks_in count (in_list old) k) p s h)
+    ∙ planes (own_plane count w (masks_in count (in_list old) k) (more_in count (in_list old) k) p s) (within_block count w (masks_in count (in_list old) k) (more_in count (in_list old) k) p s h)
 
 -- ---- the own planes of a block
 -- no other block has them
 flat_apart : (count : SampleCount) (m k n t : ℕ) → m ≢ k → n < count_of count → t < count_of count → flat_place count m n ≢ 1 + (k + 1) * count_of count + t
 flat_apart One m k n t other h l e = other (omega (arith, h, l, e))
 flat_apart Two m k n t other h l e = other (omega (arith, h, l, e))
-flat_apart Four m k n t other h l e = omega (arith, h, e)
+flat_apart Four m k n t other h l e = elim (four_place m n) [ inl last ↦ other (omega (arith, l, e, last.1)) | inr less ↦ omega (arith, h, e, less.0, less.1) ]
 flat_apart Eight m k n t other h l e = omega (arith, h, e)
 flat_apart Sixteen m k n t other h l e = omega (arith, h, e)
 
@@ -133,6 +130,7 @@ own_apart count Pair m k s t other h l e = other (omega (arith, (same_from_place
 own_apart count Own m k s t other h l e = other (omega (arith, (same_from_place (m + 1) s (k + 1) t (count_of count) h l (omega (arith, e))).0))
 own_apart count Flat m k s t other h l e = flat_apart count m k 0 t other (some_samples count) l e
 own_apart count FlatPair m k s t other h l e = flat_apart count m k s t other h l e
+own_apart count FlatFour m k s t other h l e = flat_apart count m k s t other h l e
 
 -- no other block changes where those of a block that is kept in such a way are
 abbrev pub has_own : Way → Bool
@@ -142,6 +140,7 @@ has_own Pair = true
 has_own Own = true
 has_own Flat = false
 has_own FlatPair = false
+has_own FlatFour = false
 
 pub apart : (count : SampleCount) (way way' : Way) (m k s t : ℕ) → m ≢ k → s < count_of count → t < count_of count → has_own way' ≡ true → place_by count way m s ≢ place_by count way' k t
 apart count way Cleared m k s t other h l own = absurd (false≢true own)
@@ -150,6 +149,7 @@ apart count way Pair m k s t other h l own = own_apart count way m k s t other h
 apart count way Own m k s t other h l own = own_apart count way m k s t other h l
 apart count way Flat m k s t other h l own = absurd (false≢true own)
 apart count way FlatPair m k s t other h l own = absurd (false≢true own)
+apart count way FlatFour m k s t other h l own = absurd (false≢true own)
 
 -- the planes behind the first are unchanged but those of block k
 abbrev pub KeepsOthers : SampleCount → ℕ → List BlockSamples → List BlockSamples → Type 0
@@ -162,7 +162,7 @@ others_same count k old new ways planes i j s h other =
     let way = way_in_tile old m in
     let behind : (w : Way) (n : ℕ) → n < count_of count → in_list new (place_by count w m n) ≡ in_list old (place_by count w m n) =
     λ w n small. planes (place_by count w m n) (behind_first count w m n) (λ t l. own_apart count w m k n t other small l) in
-    same_by_way count old new i j s h (ways m (omega arith) other) (λ _. ap (λ plane. mask_of plane s) (behind Own (count_of count - 1) (last_sample count)))
+    same_by_way count old new i j s h (ways m (omega arith) other) ((λ _. ap (λ plane. mask_of plane s) (behind Own (count_of count - 1) (last_sample count))), (λ _. ap (λ plane. mask_of plane s) (behind Own (count_of count - 2) (before_last count))))
     (λ n small. ap (λ plane. stored_at plane (slot_by way m (pixel_in_block i j))) (behind way n small))
 
 -- the first plane, changed
@@ -202,10 +202,11 @@ one_place count Pair k n plain own = absurd (false≢true plain)
 one_place count Own k n plain own = absurd (own refl)
 one_place count Flat k n plain own = absurd (false≢true plain)
 one_place count FlatPair k n plain own = absurd (false≢true plain)
+one_place count FlatFour k n plain own = absurd (false≢true plain)
 
 -- the plane that stands for all samples
 pub alike_place : (count : SampleCount) (way : Way) (k p s : ℕ) (f : ℕ → BlockSamples) → is_plain way ≡ true → way ≢ Own → sample_place count way f k p s ≡ place_by count way k 0
-alike_place count way k p s f plain own = one_place count way k (own_plane count way (masks_in count f k) p s) plain own
+alike_place count way k p s f plain own = one_place count way k (own_plane count way (masks_in count f k) (more_in count f k) p s) plain own
 
 -- block k has its own planes, and its samples are unchanged
 module _ (count : SampleCount) (k : ℕ) (way : Way) (old filled : List BlockSamples) (state : BlockSamples) (some : 0 < length filled) (was : way_in_tile old k ≡ way)

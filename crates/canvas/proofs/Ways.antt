@@ -5,7 +5,7 @@ use Rattle.std.proofs.lemmas.Bool.Decides.{eqb_tells}
 use Rattle.std.proofs.lemmas.List.{get_or-set_other, get_or-replicate, length-replicate}
 use Rattle.std.proofs.lemmas.Grind.{same_number_lists}
 use Rattle.canvas.specs.declared.way.Way.{Way}
-use Rattle.canvas.specs.declared.way.Way.TheVariants.{Cleared, Single, Pair, Own, Flat, FlatPair}
+use Rattle.canvas.specs.declared.way.Way.TheVariants.{Cleared, Single, Pair, Own, Flat, FlatPair, FlatFour}
 use Rattle.canvas.specs.Layout.{by_byte}
 
 abbrev pub way_by : List ℕ → List ℕ → ℕ → Way
@@ -34,6 +34,7 @@ IsNotCleared Pair = Unit {0}
 IsNotCleared Own = Unit {0}
 IsNotCleared Flat = Unit {0}
 IsNotCleared FlatPair = Unit {0}
+IsNotCleared FlatFour = Unit {0}
 
 pub own_not_cleared : Own ≢ Cleared
 unfolding IsNotCleared
@@ -55,6 +56,10 @@ flat_pair_not_cleared : FlatPair ≢ Cleared
 unfolding IsNotCleared
 flat_pair_not_cleared e = subst IsNotCleared e tt
 
+flat_four_not_cleared : FlatFour ≢ Cleared
+unfolding IsNotCleared
+flat_four_not_cleared e = subst IsNotCleared e tt
+
 pub cleared_by : (green red : List ℕ) (m : ℕ) → slice_index green 0 ≢ 0 → slice_index red m ≡ 1 → way_by green red m ≡ Cleared
 cleared_by green red m some e =
     ap (λ r. if slice_index green 0 == 0 then Own else by_byte r) e
@@ -66,15 +71,16 @@ cleared_by green red m some e =
 some_green : (green red : List ℕ) (m : ℕ) → way_by green red m ≡ Cleared → slice_index green 0 ≢ 0
 some_green green red m e none = own_not_cleared (sym (own_by_green green red m none) ∙ e)
 
-abbrev another : Bool → Bool → Bool → Bool → Way
-another b c d e = if b then Single else (if c then Pair else (if d then Flat else (if e then FlatPair else Own)))
+abbrev another : Bool → Bool → Bool → Bool → Bool → Way
+another b c d e f = if b then Single else (if c then Pair else (if d then Flat else (if e then FlatPair else (if f then FlatFour else Own))))
 
-not_any : (b c d e : Bool) → another b c d e ≢ Cleared
-not_any true c d e = single_not_cleared
-not_any false true d e = pair_not_cleared
-not_any false false true e = flat_not_cleared
-not_any false false false true = flat_pair_not_cleared
-not_any false false false false = own_not_cleared
+not_any : (b c d e f : Bool) → another b c d e f ≢ Cleared
+not_any true c d e f = single_not_cleared
+not_any false true d e f = pair_not_cleared
+not_any false false true e f = flat_not_cleared
+not_any false false false true f = flat_pair_not_cleared
+not_any false false false false true = flat_four_not_cleared
+not_any false false false false false = own_not_cleared
 
 red_one : (green red : List ℕ) (m : ℕ) → way_by green red m ≡ Cleared → slice_index red m ≡ 1
 red_one green red m e =
@@ -85,7 +91,7 @@ red_one green red m e =
           sym (ap (λ b. if b then Own else by_byte (slice_index red m)) other.0) ∙ e in
           elim (eqb_tells (slice_index red m) 1) [
             | inl one ↦ one.1
-            | inr not_one ↦ absurd (not_any (slice_index red m == 2) (slice_index red m == 3) (slice_index red m == 4) (slice_index red m == 5) (sym (ap (λ b. if b then Cleared else another (slice_index red m == 2) (slice_index red m == 3) (slice_index red m == 4) (slice_index red m == 5)) not_one.0) ∙ by_red))
+            | inr not_one ↦ absurd (not_any (slice_index red m == 2) (slice_index red m == 3) (slice_index red m == 4) (slice_index red m == 5) (slice_index red m == 6) (sym (ap (λ b. if b then Cleared else another (slice_index red m == 2) (slice_index red m == 3) (slice_index red m == 4) (slice_index red m == 5) (slice_index red m == 6)) not_one.0) ∙ by_red))
           ]
     ]
 
@@ -113,6 +119,7 @@ IsNotFlat Pair = Unit {0}
 IsNotFlat Own = Unit {0}
 IsNotFlat Flat = ⊥
 IsNotFlat FlatPair = Unit {0}
+IsNotFlat FlatFour = Unit {0}
 
 pub pair_not_flat : Pair ≢ Flat
 unfolding IsNotFlat
@@ -121,3 +128,21 @@ pair_not_flat e = subst IsNotFlat e tt
 pub flat_pair_not_flat : FlatPair ≢ Flat
 unfolding IsNotFlat
 flat_pair_not_flat e = subst IsNotFlat e tt
+
+-- ---- blocks of up to four samples
+IsNotFour : Way → Type 0
+IsNotFour Cleared = Unit {0}
+IsNotFour Single = Unit {0}
+IsNotFour Pair = Unit {0}
+IsNotFour Own = Unit {0}
+IsNotFour Flat = Unit {0}
+IsNotFour FlatPair = Unit {0}
+IsNotFour FlatFour = ⊥
+
+pub pair_not_four : Pair ≢ FlatFour
+unfolding IsNotFour
+pair_not_four e = subst IsNotFour e tt
+
+pub flat_pair_not_four : FlatPair ≢ FlatFour
+unfolding IsNotFour
+flat_pair_not_four e = subst IsNotFour e tt

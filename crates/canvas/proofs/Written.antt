@@ -5,7 +5,13 @@ use Rattle.std.proofs.lemmas.Bool.{cases_lt}
 use Rattle.std.proofs.lemmas.Nat.{same_from_place}
 use Rattle.canvas.specs.declared.canvas.Canvas.{Canvas}
 use Rattle.canvas.specs.declared.pixel_rows.PixelRow.{PixelRow}
-use Rattle.canvas.specs.Layout.{HasPixel}
+use Rattle.grid.specs.declared.sample_count.SampleCount.{SampleCount}
+use Rattle.lanes.specs.declared.block_samples.BlockSamples.{BlockSamples}
+use Rattle.lanes.specs.Block.{stored_at}
+use Rattle.canvas.specs.declared.format.Format.{Format}
+use Rattle.canvas.specs.declared.pixel_rows.PixelRows.{PixelRows}
+use Rattle.canvas.specs.Colours.{HasMeansOf, IsSampleColour, IsPixelWith, LiesInBlock, AreWrittenTo}
+use Rattle.canvas.specs.Layout.{HasPixel, block_in_tile, pixel_in_block, stored_in_tile}
 use Rattle.canvas.specs.Pixels.{entry_of, shown_rows, IsPixelRow, AreWritten, AreWrittenIn}
 use Rattle.canvas.proofs.Cut.{put, put_here, put_elsewhere}
 use Rattle.canvas.proofs.Units.{IsEntryOf, below_unit}
@@ -101,3 +107,14 @@ module _ (c : Canvas) (first end w stride : ℕ) (P : ℕ → ℕ → (ℕ → �
         (λ i j h here. omega (arith, here)) (λ i j h here. omega (arith, here.0)) (λ i j here there. omega (arith, here, there.0)) before
         (run_written same index 0 c.width r.entries.start (r.entries.end - r.entries.start) r middle out is_row (omega arith) (omega arith) (omega (arith, is_row.entries)) long entry
         (λ i l. let here : i ≡ 0 + i = omega arith in subst (λ m. P m r.j (λ k. slice_index out (i * w + k))) here (written i l)))
+
+-- the pixels have the colours of their means
+pub by_means : (rows : PixelRows) (count : SampleCount) (xs : List BlockSamples) (plane : BlockSamples) (across down k : ℕ) (format : Format) (old new : List ℕ) → k ≡ block_in_tile (8 * across) (8 * down) → HasMeansOf count xs k plane
+    → AreWrittenTo rows (LiesInBlock rows.tile_rows.first across down) (λ i j bytes. IsSampleColour format (stored_at plane (pixel_in_block i j)) bytes) old new
+    → AreWrittenTo rows (LiesInBlock rows.tile_rows.first across down) (λ i j bytes. IsPixelWith count (stored_in_tile count xs i j) format bytes) old new
+by_means rows count xs plane across down k format old new is means =
+    written_as rows.tile_rows.canvas rows.tile_rows.first rows.tile_rows.end rows.unit rows.stride (λ i j bytes. IsSampleColour format (stored_at plane (pixel_in_block i j)) bytes)
+    (LiesInBlock rows.tile_rows.first across down) (LiesInBlock rows.tile_rows.first across down) (λ i j bytes. IsPixelWith count (stored_in_tile count xs i j) format bytes) old new (λ i j h here. here) (λ i j h here. here)
+    (λ i j bytes h here order.
+    let block : block_in_tile i j ≡ k = omega (arith, here.column, here.row, is) in
+    record { mean = stored_at plane (pixel_in_block i j); is_mean = means i j block; order = order })

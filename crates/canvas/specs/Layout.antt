@@ -9,7 +9,7 @@ use Rattle.lanes.specs.declared.block_samples.BlockSamples.{BlockSamples}
 use Rattle.lanes.specs.Block.{stored_at}
 use Rattle.canvas.specs.declared.canvas.Canvas.{Canvas}
 use Rattle.canvas.specs.declared.way.Way.{Way}
-use Rattle.canvas.specs.declared.way.Way.TheVariants.{Cleared, Single, Pair, Own, Flat, FlatPair}
+use Rattle.canvas.specs.declared.way.Way.TheVariants.{Cleared, Single, Pair, Own, Flat, FlatPair, FlatFour}
 
 -- A picture is at most 4096 by 4096 pixels, and not empty (this project's limits).
 pub record IsCanvasSize (width height : ℕ) : Type 0 where
@@ -28,7 +28,7 @@ rows_of c = (c.height + 63) / 64
 
 -- How many planes a tile has. One says in which way each of its blocks keeps its samples. Each of 65 blocks of 8 by 8 pixels has one
 -- for each sample of a pixel. The first of these blocks is that to which the tile was cleared, which uses one of its planes; with four
--- samples or more, two others of them have the samples of flat blocks. The other 64 are the tile's own.
+-- samples or more, some others of them have the samples of flat blocks. The other 64 are the tile's own.
 abbrev pub planes_of_tile : SampleCount → ℕ
 planes_of_tile count = 1 + 65 * count_of count
 
@@ -73,7 +73,7 @@ pixel_in_block i j = 8 * (j % 8) + i % 8
 abbrev pub by_byte : ℕ → Way
 by_byte byte =
     if byte == 1 then Cleared
-    else (if byte == 2 then Single else (if byte == 3 then Pair else (if byte == 4 then Flat else (if byte == 5 then FlatPair else Own))))
+    else (if byte == 2 then Single else (if byte == 3 then Pair else (if byte == 4 then Flat else (if byte == 5 then FlatPair else (if byte == 6 then FlatFour else Own)))))
 
 -- The way in which block k of a tile keeps its samples, by the tile's first plane. Its red byte k says so, unless its first green
 -- byte is 0, which stands for 64 own blocks.
@@ -82,19 +82,20 @@ way_of state k =
     if slice_index state.g 0 == 0 then Own
     else by_byte (slice_index state.r k)
 
--- The index of the plane with a sample of flat block k among those of its tile. It has the first sample if n is 0, and the second one if n is
--- half of the samples of a pixel. With four samples or more these are planes 2 and 3, which have those of all flat blocks of the tile. A tile
--- with fewer has no such planes, and they are own planes of the block.
+-- The index of the plane with a sample of flat block k among those of its tile. Its first sample has the number n = 0, the second one half of
+-- the samples of a pixel, the third one a quarter of them, and the fourth one both together. With four samples or more these are planes 2, 3, 4
+-- and 5, which have those of all flat blocks of the tile; but with four, plane 5 is an own one, and the fourth is in the first own plane of the
+-- block. A tile with fewer has no such planes, and they are own planes of the block.
 abbrev pub flat_place : SampleCount → ℕ → ℕ → ℕ
 flat_place One k n = 2 + k + n
 flat_place Two k n = 3 + 2 * k + n
-flat_place Four k n = 2 + n / 2
-flat_place Eight k n = 2 + n / 4
-flat_place Sixteen k n = 2 + n / 8
+flat_place Four k n = if n == 3 then 5 + 4 * k else 2 + n / 2 + 2 * (n % 2)
+flat_place Eight k n = 2 + n / 4 + 2 * (n / 2 % 2)
+flat_place Sixteen k n = 2 + n / 8 + 2 * (n / 4 % 2)
 
 -- The index of own plane n of block k among the planes of its tile, if the block keeps its samples in this way. Plane 1 is that of the
 -- block to which the tile was cleared. The own planes of a block lie together: one for each sample of a pixel. Of a flat block it is the
--- plane with its first or its second sample.
+-- plane with one of its samples.
 abbrev pub place_by : SampleCount → Way → ℕ → ℕ → ℕ
 place_by count Cleared k n = 1
 place_by count Single k n = 1 + (k + 1) * count_of count
@@ -102,6 +103,7 @@ place_by count Pair k n = 1 + (k + 1) * count_of count + n
 place_by count Own k n = 1 + (k + 1) * count_of count + n
 place_by count Flat k n = flat_place count k 0
 place_by count FlatPair k n = flat_place count k n
+place_by count FlatFour k n = flat_place count k n
 
 -- The number in its plane of the sample of pixel p of block k, by the way in which the block keeps its samples. It is that of the pixel, but a
 -- flat block has one sample for all of its pixels in a plane, at the block's number.
@@ -112,6 +114,7 @@ slot_by Pair k p = p
 slot_by Own k p = p
 slot_by Flat k p = k
 slot_by FlatPair k p = k
+slot_by FlatFour k p = k
 
 -- Whether a block that is kept in this way has its samples of an index in one plane, each at the number of its pixel.
 abbrev pub is_plain : Way → Bool
@@ -121,21 +124,28 @@ is_plain Pair = false
 is_plain Own = true
 is_plain Flat = false
 is_plain FlatPair = false
+is_plain FlatFour = false
 
 -- The mask of sample index s, 64 bits in place of depths: bit p says in which plane of a pair pixel p has the sample.
 abbrev pub mask_of : BlockSamples → ℕ → ℕ
 mask_of masks s =
     slice_index masks.z (4 * s) + 65536 * slice_index masks.z (4 * s + 1) + 4294967296 * slice_index masks.z (4 * s + 2) + 281474976710656 * slice_index masks.z (4 * s + 3)
 
--- Which of the own planes of a block has sample s of pixel p. A pair has two of them, the first and the middle one, and these masks; so
--- has a flat block of two samples, with one in each, and one of one sample has the first.
-abbrev pub own_plane : SampleCount → Way → BlockSamples → ℕ → ℕ → ℕ
-own_plane count Cleared masks p s = s
-own_plane count Single masks p s = s
-own_plane count Pair masks p s = if bit_at (mask_of masks s) p == 1 then count_of count / 2 else 0
-own_plane count Own masks p s = s
-own_plane count Flat masks p s = 0
-own_plane count FlatPair masks p s = if bit_at (mask_of masks s) p == 1 then count_of count / 2 else 0
+-- The number, if the mask has bit p, else 0.
+abbrev pub if_bit : ℕ → ℕ → ℕ → ℕ
+if_bit mask p n = if bit_at mask p == 1 then n else 0
+
+-- Which of the own planes of a block has sample s of pixel p. A pair has two of them, the first and the middle one, and masks; so has a flat block
+-- of two samples, with one in each, and one of one sample has the first. A flat block of up to four samples has four, and further masks: with
+-- its bit in both a sample is the fourth, in the first alone the second, and in the further one alone the third.
+abbrev pub own_plane : SampleCount → Way → BlockSamples → BlockSamples → ℕ → ℕ → ℕ
+own_plane count Cleared masks more p s = s
+own_plane count Single masks more p s = s
+own_plane count Pair masks more p s = if_bit (mask_of masks s) p (count_of count / 2)
+own_plane count Own masks more p s = s
+own_plane count Flat masks more p s = 0
+own_plane count FlatPair masks more p s = if_bit (mask_of masks s) p (count_of count / 2)
+own_plane count FlatFour masks more p s = if_bit (mask_of masks s) p (count_of count / 2) + if_bit (mask_of more s) p (count_of count / 4)
 
 -- The index of the plane with the masks of block k among those of its tile, if it is a pair: the last of its own planes.
 abbrev pub masks_place : SampleCount → ℕ → ℕ
@@ -145,17 +155,25 @@ masks_place count k = 1 + (k + 1) * count_of count + (count_of count - 1)
 abbrev pub masks_in : SampleCount → (ℕ → BlockSamples) → ℕ → BlockSamples
 masks_in count planes k = planes (masks_place count k)
 
+-- The index of the plane with the further masks of block k, if it has up to four samples: the last but one of its own planes.
+abbrev pub more_place : SampleCount → ℕ → ℕ
+more_place count k = 1 + (k + 1) * count_of count + (count_of count - 2)
+
+-- The further masks of block k of a tile with these planes.
+abbrev pub more_in : SampleCount → (ℕ → BlockSamples) → ℕ → BlockSamples
+more_in count planes k = planes (more_place count k)
+
 -- The index of the plane of sample s of pixel p of block k among those of its tile, if it keeps its samples in this way.
 abbrev pub sample_place : SampleCount → Way → (ℕ → BlockSamples) → ℕ → ℕ → ℕ → ℕ
-sample_place count way planes k p s = place_by count way k (own_plane count way (masks_in count planes k) p s)
+sample_place count way planes k p s = place_by count way k (own_plane count way (masks_in count planes k) (more_in count planes k) p s)
 
 -- The index of the plane of sample s of pixel (i, j) among those of its tile.
 abbrev pub place_in_tile : SampleCount → (ℕ → BlockSamples) → ℕ → ℕ → ℕ → ℕ
 place_in_tile count planes i j s =
     sample_place count (way_of (planes 0) (block_in_tile i j)) planes (block_in_tile i j) (pixel_in_block i j) s
 
--- Sample s of pixel (i, j), by the planes of its tile. A plane has one sample of each pixel of the block, row by row; planes 2 and 3 have
--- one of each flat block.
+-- Sample s of pixel (i, j), by the planes of its tile. A plane has one sample of each pixel of the block, row by row; of a flat
+-- block it has one at the block's number.
 abbrev pub sample_in : SampleCount → (ℕ → BlockSamples) → ℕ → ℕ → ℕ → CanvasSample
 sample_in count planes i j s =
     stored_at (planes (place_in_tile count planes i j s)) (slot_by (way_of (planes 0) (block_in_tile i j)) (block_in_tile i j) (pixel_in_block i j))

@@ -19,9 +19,12 @@
 --   slot_by: The number in its plane of the sample of pixel p of block k, by the way in which the block keeps its samples.
 --   is_plain: Whether a block that is kept in this way has its samples of an index in one plane, each at the number of its pixel.
 --   mask_of: The mask of sample index s, 64 bits in place of depths: bit p says in which plane of a pair pixel p has the sample.
+--   if_bit: The number, if the mask has bit p, else 0.
 --   own_plane: Which of the own planes of a block has sample s of pixel p.
 --   masks_place: The index of the plane with the masks of block k among those of its tile, if it is a pair: the last of its own planes.
 --   masks_in: The masks of block k of a tile with these planes.
+--   more_place: The index of the plane with the further masks of block k, if it has up to four samples: the last but one of its own planes.
+--   more_in: The further masks of block k of a tile with these planes.
 --   sample_place: The index of the plane of sample s of pixel p of block k among those of its tile, if it keeps its samples in this way.
 --   place_in_tile: The index of the plane of sample s of pixel (i, j) among those of its tile.
 --   sample_in: Sample s of pixel (i, j), by the planes of its tile.
@@ -105,6 +108,19 @@
 --   with_samples: The block once `first` has taken the place of its first sample, and `second` that of its second one.
 --   IsFlatReplaced: Where the masks have a bit, `first` has taken the place of the first sample, and `second` that of the second one.
 --
+-- Palettes.antt
+--   palette_number: The number of sample s of pixel p in the palette: the pixel's bit in the low mask, and twice that in the high one.
+--   sample_numbered: The sample of this number.
+--   palette_sample: Sample s of pixel p of the block.
+--   HasPalette: The samples of block k of a tile are these.
+--   IsPaletteReplaced: Where the masks have a bit, the sample of the same number among `drawn` has taken the place of each sample.
+--   HasNumbers: The mask has the bit of pixel p if its sample s has this number.
+--   place_of_number: The number among those of the samples of a pixel with which sample `number` of a flat block is stored.
+--   IsGathered: Sample s of pixel p has one of the first numbers, and is this one.
+--   AreSamplesStored: Those samples of the palette that are one of flat block k are in the block's places for them.
+--   KeepsOtherPlaces: What stands in a place of another block is unchanged, in whatever way that block is kept.
+--   IsSampleStored: The sample of this number is stored as one of flat block k.
+--
 -- Hidden.antt
 --   ReplacesColours: A triangle in this state gives its colour to each sample that it covers in its scissor.
 --   Hides: The triangle hides the colours that are stored in the tile.
@@ -170,6 +186,7 @@ pub mod Entries
 pub mod Colours
 pub mod Rows
 pub mod FlatBlocks
+pub mod Palettes
 pub mod Hidden
 pub mod Loaded
 pub mod Tiles

@@ -5,15 +5,17 @@ ghost use Rattle.std.specs.Simd.Lanes.{Each1};
 ghost use Rattle.grid.specs.Samples.{count_of};
 ghost use Rattle.shade.specs.Resolve.{total};
 ghost use Rattle.lanes.specs.Block.{stored_at};
-ghost use Rattle.canvas.specs.declared.way.Way.TheVariants.{Pair as AsPair, Own as AsOwn, FlatPair as AsFlatPair};
-ghost use Rattle.canvas.specs.Layout.{planes_of_tile, mask_of as the_mask, in_list, way_in_tile};
+ghost use Rattle.canvas.specs.declared.way.Way.TheVariants.{Pair as AsPair, Own as AsOwn, FlatPair as AsFlatPair, FlatFour as AsFour};
+ghost use Rattle.canvas.specs.Layout.{planes_of_tile, in_list, way_in_tile};
 ghost use Rattle.canvas.specs.Lanes.{channel_of};
 ghost use Rattle.canvas.specs.Colours.{IsMeanOf, HasMeansOf};
 
+use crate::flat_block::spread;
 use crate::mask_lanes::lanes_of_mask;
-use crate::pair::mask_of;
+use crate::pair::masks_of;
+use crate::palette::Palette;
 use crate::place::place_by;
-use crate::way::Way;
+use crate::way::{Way, way_of};
 use grid::SampleCount;
 use lanes::BlockSamples;
 use std::simd::prelude::*;
@@ -108,7 +110,7 @@ fn means(count: SampleCount, planes: &[BlockSamples]) -> BlockSamples
 /// The means of the samples of block `k` of a tile with these planes, if the block has a plane for each sample of a
 /// pixel.
 #[inline(never)]
-pub(crate) fn means_of_own(count: SampleCount, planes: &[BlockSamples], k: usize) -> BlockSamples
+fn means_of_own(count: SampleCount, planes: &[BlockSamples], k: usize) -> BlockSamples
     requires block { k < 64 }
     requires planes { length planes.now ≡ planes_of_tile count }
     requires way { way_in_tile planes.now k ≡ AsOwn }
@@ -127,20 +129,20 @@ pub(crate) fn means_of_own(count: SampleCount, planes: &[BlockSamples], k: usize
 
 /// How many of the masks have the bit of each pixel.
 #[inline(always)]
-fn count_bits(count: SampleCount, masks: &BlockSamples) -> u16x64
+fn count_bits(count: SampleCount, masks: &[u64; 16]) -> u16x64
     ensures whole { length result ≡ 64 }
     ensures each { (p : ℕ) → p < 64 → slice_index result p ≡
-        total (count_of count) (λ s. bit_at (the_mask masks.now s) p) }
+        total (count_of count) (λ s. bit_at (slice_index masks.now s) p) }
 {
     let mut bits = u8x64::splat(0);
     for s in 0..count.count() {
-        bits = bits + lanes_of_mask(mask_of(masks, s));
+        bits = bits + lanes_of_mask(masks[s as usize]);
     }
     bits.cast::<u16>()
 }
 
 /// The means of bytes in lanes: `bits` samples of each pixel have the second, and the others the first.
-#[inline(never)]
+#[inline(always)]
 fn means_of_both(count: SampleCount, bits: u16x64, first: u16x64, second: u16x64) -> [u8; 64]
     requires bits { length bits ≡ 64 }
     requires few { (p : ℕ) → p < 64 → slice_index bits p ≤ count_of count }
@@ -181,7 +183,7 @@ fn channel_of_both(
 
 /// The means of the samples of block `k` of a tile with these planes, if the block is kept as a pair.
 #[inline(never)]
-pub(crate) fn means_of_pair(count: SampleCount, planes: &[BlockSamples], k: usize) -> BlockSamples
+fn means_of_pair(count: SampleCount, planes: &[BlockSamples], k: usize) -> BlockSamples
     requires block { k < 64 }
     requires planes { length planes.now ≡ planes_of_tile count }
     requires way { way_in_tile planes.now k ≡ AsPair }
@@ -191,7 +193,7 @@ pub(crate) fn means_of_pair(count: SampleCount, planes: &[BlockSamples], k: usiz
     let first = &planes[place_by(count, Way::Pair, k, 0)];
     let second = &planes[place_by(count, Way::Pair, k, many / 2)];
     let masks = &planes[place_by(count, Way::Pair, k, many - 1)];
-    let bits = count_bits(count, masks);
+    let bits = count_bits(count, &masks_of(count, masks));
     BlockSamples {
         z: [0; 64],
         r: channel_of_both(count, bits, first, second, Channel::Red),
@@ -217,7 +219,7 @@ fn means_of_bytes(count: SampleCount, bits: u16x64, first: u8, second: u8) -> [u
 
 /// The means of the samples of block `k` of a tile with these planes, if the block is kept in two samples.
 #[inline(never)]
-pub(crate) fn means_of_flat(count: SampleCount, planes: &[BlockSamples], k: usize) -> BlockSamples
+fn means_of_flat(count: SampleCount, planes: &[BlockSamples], k: usize) -> BlockSamples
     requires block { k < 64 }
     requires planes { length planes.now ≡ planes_of_tile count }
     requires way { way_in_tile planes.now k ≡ AsFlatPair }
@@ -227,12 +229,73 @@ pub(crate) fn means_of_flat(count: SampleCount, planes: &[BlockSamples], k: usiz
     let first = planes[place_by(count, Way::FlatPair, k, 0)].sample(k);
     let second = planes[place_by(count, Way::FlatPair, k, many / 2)].sample(k);
     let masks = &planes[place_by(count, Way::Own, k, many - 1)];
-    let bits = count_bits(count, masks);
+    let bits = count_bits(count, &masks_of(count, masks));
     BlockSamples {
         z: [0; 64],
         r: means_of_bytes(count, bits, first.r, second.r),
         g: means_of_bytes(count, bits, first.g, second.g),
         b: means_of_bytes(count, bits, first.b, second.b),
         alpha: means_of_bytes(count, bits, first.alpha, second.alpha),
+    }
+}
+
+/// The sums with `many` samples more of each pixel, all of which have this byte.
+#[inline(always)]
+fn added(sums: u16x64, many: u16x64, byte: u8) -> u16x64
+    requires sums { length sums ≡ 64 }
+    requires room { (p : ℕ) → p < 64 → slice_index sums p ≤ 12240 }
+    requires many { length many ≡ 64 }
+    requires few { (p : ℕ) → p < 64 → slice_index many p ≤ 16 }
+    ensures whole { length result ≡ 64 }
+    ensures each { (p : ℕ) → p < 64 → slice_index result p ≡ slice_index sums p + slice_index many p * byte }
+    ensures most { (p : ℕ) → p < 64 → slice_index result p ≤ slice_index sums p + 255 * slice_index many p }
+{
+    sums + many * u16x64::splat(u16::from(byte))
+}
+
+/// The means of the samples of block `k` of a tile with these planes, if the block is kept in up to four samples.
+#[inline(never)]
+fn means_of_palette(count: SampleCount, planes: &[BlockSamples], k: usize) -> BlockSamples
+    requires block { k < 64 }
+    requires planes { length planes.now ≡ planes_of_tile count }
+    requires way { way_in_tile planes.now k ≡ AsFour }
+    ensures { HasMeansOf count planes.now k result }
+{
+    let palette = Palette::stored(count, k, planes);
+    let mut red = u16x64::splat(0);
+    let mut green = u16x64::splat(0);
+    let mut blue = u16x64::splat(0);
+    let mut alpha = u16x64::splat(0);
+    for number in 0..4 {
+        let many = count_bits(count, &palette.pixels_of(count, number));
+        let sample = palette.samples[number];
+        red = added(red, many, sample.r);
+        green = added(green, many, sample.g);
+        blue = added(blue, many, sample.b);
+        alpha = added(alpha, many, sample.alpha);
+    }
+    BlockSamples {
+        z: [0; 64],
+        r: means_of_sums(count, red),
+        g: means_of_sums(count, green),
+        b: means_of_sums(count, blue),
+        alpha: means_of_sums(count, alpha),
+    }
+}
+
+/// The means of the samples of block `k` of a tile with these planes.
+pub(crate) fn means_of_block(count: SampleCount, planes: &[BlockSamples], k: usize) -> BlockSamples
+    requires block { k < 64 }
+    requires planes { length planes.now ≡ planes_of_tile count }
+    ensures { HasMeansOf count planes.now k result }
+{
+    let way = way_of(&planes[0], k);
+    match way {
+        Way::Cleared | Way::Single => planes[place_by(count, way, k, 0)],
+        Way::Flat => spread(planes[place_by(count, way, k, 0)].sample(k)),
+        Way::FlatPair => means_of_flat(count, planes, k),
+        Way::FlatFour => means_of_palette(count, planes, k),
+        Way::Pair => means_of_pair(count, planes, k),
+        Way::Own => means_of_own(count, planes, k),
     }
 }

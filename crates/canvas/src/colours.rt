@@ -7,9 +7,8 @@ ghost use Rattle.canvas.specs.Pixels.{pixel_bytes, shown_rows, IsLargeEnough};
 ghost use Rattle.canvas.specs.Entries.{FitEntries, IsEntriesMisfit};
 ghost use Rattle.canvas.specs.Colours.{IsPixelOf, IsPixelWith, LiesInBlock, LiesInPart, IsSampleColour, AreBytesOfColour, AreWrittenTo, AreResolved, AreColours};
 
-use crate::block_means::{means_of_flat, means_of_own, means_of_pair};
+use crate::block_means::means_of_block;
 use crate::canvas::Canvas;
-use crate::flat_block::spread;
 use crate::format::{Format, arranged};
 use crate::misfit::Misfit;
 use crate::pixel_rows::PixelRows;
@@ -193,6 +192,31 @@ fn resolve_block_by(
     }
 }
 
+/// What `resolve_block` does, by the means of the block's samples. It is a function of its own, since its plane of means is
+/// made anew in each call.
+#[inline(never)]
+fn resolve_means(
+    rows: &PixelRows,
+    planes: &[BlockSamples],
+    across: u32,
+    down: u32,
+    format: Format,
+    bytes: &mut [u8],
+)
+    requires column { 8 * across < rows.now.tile_rows.canvas.width }
+    requires row { 8 * down < shown_rows rows.now.tile_rows.canvas rows.now.tile_rows.first rows.now.tile_rows.end }
+    requires planes { length planes.now ≡ planes_of_tile rows.now.tile_rows.canvas.count }
+    requires unit { rows.now.unit ≡ pixel_bytes format }
+    requires size { rows.now.size ≡ length bytes.old }
+    ensures { AreWrittenTo rows.now (LiesInBlock rows.now.tile_rows.first across down)
+        (λ i j bytes. IsPixelWith rows.now.tile_rows.canvas.count
+        (stored_in_tile rows.now.tile_rows.canvas.count planes.now i j) format bytes) bytes.old bytes.new }
+{
+    let k = block_in_tile(8 * across, 8 * down);
+    let means = means_of_block(rows.tile_rows.canvas.count, planes, k);
+    resolve_block_by(rows, &means, across, down, format, bytes);
+}
+
 /// Writes the pixels of the picture in a block of these rows, by its column `across` and its row `down`, from the planes
 /// of its tile.
 fn resolve_block(
@@ -215,27 +239,11 @@ fn resolve_block(
     let count = rows.tile_rows.canvas.count;
     let k = block_in_tile(8 * across, 8 * down);
     let way = way_of(&planes[0], k);
-    match way {
-        Way::Own if count != SampleCount::One => {
-            let means = means_of_own(count, planes, k);
-            resolve_block_by(rows, &means, across, down, format, bytes);
-        }
-        Way::Pair => {
-            let means = means_of_pair(count, planes, k);
-            resolve_block_by(rows, &means, across, down, format, bytes);
-        }
-        Way::FlatPair => {
-            let means = means_of_flat(count, planes, k);
-            resolve_block_by(rows, &means, across, down, format, bytes);
-        }
-        Way::Flat => {
-            let plane = spread(planes[place_by(count, way, k, 0)].sample(k));
-            resolve_block_by(rows, &plane, across, down, format, bytes);
-        }
-        _ => {
-            let plane = &planes[place_by(count, way, k, 0)];
-            resolve_block_by(rows, plane, across, down, format, bytes);
-        }
+    if way.is_plain() && (way != Way::Own || count == SampleCount::One) {
+        let plane = &planes[place_by(count, way, k, 0)];
+        resolve_block_by(rows, plane, across, down, format, bytes);
+    } else {
+        resolve_means(rows, planes, across, down, format, bytes);
     }
 }
 

@@ -5,12 +5,13 @@ ghost use Rattle.lanes.specs.Block.{stored_at};
 ghost use Rattle.canvas.specs.Layout.{planes_of_tile, KeepsOtherSamples, KeepsOtherWays};
 ghost use Rattle.canvas.specs.FlatBlocks.{HasFlat, HasOne, IsFlatReplaced};
 
-use crate::pair::{are_all, are_full, are_in, are_same, masks_of, set_masks, united, without};
+use crate::pair::{are_all, are_full, are_in, masks_of, set_masks, united, without};
 use crate::place::place_by;
 use crate::way::{Way, set_way, way_of};
 use grid::SampleCount;
 use lanes::BlockSamples;
 use shade::CanvasSample;
+use std::simd::prelude::*;
 
 /// The samples of a block: sample `s` of a pixel is the second one where `masks[s]` has the pixel's bit, else the first.
 #[derive(Clone, Copy, Debug, PartialEq, Eq)]
@@ -31,15 +32,38 @@ pub(crate) fn spread(sample: CanvasSample) -> BlockSamples
     BlockSamples::filled(sample.colour_and_depth(), sample.alpha)
 }
 
+/// Whether all of these bytes are the first one.
+#[inline(always)]
+fn are_bytes_same(bytes: &[u8; 64]) -> bool
+    ensures { IsTrue result → (p : ℕ) → p < 64 → slice_index bytes.now p ≡ slice_index bytes.now 0 }
+{
+    let others = u8x64::from_slice(bytes).simd_ne(u8x64::splat(bytes[0]));
+    others.to_bitmask() == 0
+}
+
+/// Whether all of these depths are the first one.
+#[inline(always)]
+fn are_depths_same(depths: &[u16; 64]) -> bool
+    ensures { IsTrue result → (p : ℕ) → p < 64 → slice_index depths.now p ≡ slice_index depths.now 0 }
+{
+    let others = u16x64::from_slice(depths).simd_ne(u16x64::splat(depths[0]));
+    others.to_bitmask() == 0
+}
+
 /// Whether all samples of a plane are the same.
 fn is_flat(plane: &BlockSamples) -> bool
     ensures { IsTrue result → (p : ℕ) → p < 64 → stored_at plane.now p ≡ stored_at plane.now 0 }
 {
-    are_same(plane, &spread(plane.sample(0)))
+    are_bytes_same(&plane.r)
+        && are_bytes_same(&plane.g)
+        && are_bytes_same(&plane.b)
+        && are_bytes_same(&plane.alpha)
+        && are_depths_same(&plane.z)
 }
 
 /// Whether some bit of the masks is set.
-fn has_bits(count: SampleCount, masks: &[u64; 16]) -> bool
+#[inline(always)]
+pub(crate) fn has_bits(count: SampleCount, masks: &[u64; 16]) -> bool
     ensures { result ≡ false → (s : ℕ) → s < count_of count → slice_index masks.now s ≡ 0 }
 {
     for s in 0..count.count() as usize {

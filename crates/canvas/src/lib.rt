@@ -20,6 +20,7 @@ mod mask_lanes;
 mod misfit;
 mod pair;
 mod pair_blocks;
+mod palette;
 mod piece;
 mod pixel_rows;
 mod place;
@@ -47,6 +48,7 @@ pub use laws::{joins_batches, keeps_colours, keeps_tiles, moves_by_pixels, tells
 pub use misfit::Misfit;
 pub use pair::has_pairs;
 pub use pair_blocks::{pair_block, replace_samples, second_place};
+pub use palette::Palette;
 pub use piece::Piece;
 pub use place::place_by;
 pub use shade::Triangles;

@@ -1,5 +1,5 @@
 //! Two planes of a block and masks, which say for each sample index in which of the two a pixel has its sample.
-ghost use Rattle.std.specs.Prelude.{◌≡◌, ◌≢◌, ◌⊎◌, ℕ, ◌/◌, ◌<◌, ◌≤◌, slice_index, IsTrue};
+ghost use Rattle.std.specs.Prelude.{◌≡◌, ◌↔◌, ◌≢◌, ◌⊎◌, ℕ, ◌/◌, ◌<◌, ◌≤◌, slice_index, IsTrue};
 ghost use Rattle.std.specs.Int.{bit_at};
 ghost use Rattle.grid.specs.Samples.{count_of};
 ghost use Rattle.lanes.specs.Block.{stored_at};
@@ -19,7 +19,7 @@ pub fn has_pairs(count: SampleCount) -> bool
 }
 
 /// The mask of sample index `s` of those that a plane has in place of depths.
-#[inline]
+#[inline(always)]
 pub(crate) fn mask_of(masks: &BlockSamples, s: u32) -> u64
     requires { s < 16 }
     ensures { result ≡ the_mask masks.now s }
@@ -32,7 +32,7 @@ pub(crate) fn mask_of(masks: &BlockSamples, s: u32) -> u64
 }
 
 /// Has a plane have this mask of sample index `s`.
-#[inline]
+#[inline(always)]
 pub(crate) fn set_mask(masks: &mut BlockSamples, s: u32, mask: u64)
     requires { s < 16 }
     ensures set { the_mask masks.new s ≡ mask }
@@ -46,6 +46,7 @@ pub(crate) fn set_mask(masks: &mut BlockSamples, s: u32, mask: u64)
 }
 
 /// The masks that a plane has in place of depths.
+#[inline(always)]
 pub(crate) fn masks_of(count: SampleCount, plane: &BlockSamples) -> [u64; 16]
     ensures { (s : ℕ) → s < count_of count → slice_index result s ≡ the_mask plane.now s }
 {
@@ -57,6 +58,7 @@ pub(crate) fn masks_of(count: SampleCount, plane: &BlockSamples) -> [u64; 16]
 }
 
 /// Has a plane have these masks.
+#[inline(always)]
 pub(crate) fn set_masks(count: SampleCount, masks: &[u64; 16], plane: &mut BlockSamples)
     ensures { (s : ℕ) → s < count_of count → the_mask plane.new s ≡ slice_index masks.now s }
 {
@@ -66,6 +68,7 @@ pub(crate) fn set_masks(count: SampleCount, masks: &[u64; 16], plane: &mut Block
 }
 
 /// The samples of `second` where the mask has a bit, and those of `first` where it has none.
+#[inline(always)]
 pub(crate) fn merged(first: &BlockSamples, second: &BlockSamples, mask: u64) -> BlockSamples
     ensures { (p : ℕ) → p < 64 → stored_at result p ≡ chosen mask p (stored_at second.now p) (stored_at first.now p) }
 {
@@ -80,6 +83,7 @@ pub(crate) fn merged(first: &BlockSamples, second: &BlockSamples, mask: u64) -> 
 }
 
 /// Whether all samples of all pixels are in these masks.
+#[inline(always)]
 pub(crate) fn are_full(count: SampleCount, masks: &[u64; 16]) -> bool
     ensures { IsTrue result → (s p : ℕ) → s < count_of count → p < 64 → bit_at (slice_index masks.now s) p ≡ 1 }
 {
@@ -92,6 +96,7 @@ pub(crate) fn are_full(count: SampleCount, masks: &[u64; 16]) -> bool
 }
 
 /// Whether all bits of a block's masks are in these.
+#[inline(always)]
 pub(crate) fn are_in(count: SampleCount, stored: &[u64; 16], masks: &[u64; 16]) -> bool
     ensures { IsTrue result → (s p : ℕ) → s < count_of count → p < 64 → bit_at (slice_index stored.now s) p ≡ 1 →
         bit_at (slice_index masks.now s) p ≡ 1 }
@@ -105,6 +110,7 @@ pub(crate) fn are_in(count: SampleCount, stored: &[u64; 16], masks: &[u64; 16]) 
 }
 
 /// Whether each bit is in a block's masks or in these.
+#[inline(always)]
 pub(crate) fn are_all(count: SampleCount, stored: &[u64; 16], masks: &[u64; 16]) -> bool
     ensures { IsTrue result → (s p : ℕ) → s < count_of count → p < 64 → bit_at (slice_index masks.now s) p ≢ 1 →
         bit_at (slice_index stored.now s) p ≡ 1 }
@@ -118,6 +124,7 @@ pub(crate) fn are_all(count: SampleCount, stored: &[u64; 16], masks: &[u64; 16])
 }
 
 /// The bits of a block's masks, and these.
+#[inline(always)]
 pub(crate) fn united(count: SampleCount, stored: &[u64; 16], masks: &[u64; 16]) -> [u64; 16]
     ensures more { (s p : ℕ) → s < count_of count → p < 64 → bit_at (slice_index masks.now s) p ≡ 1 →
         bit_at (slice_index result s) p ≡ 1 }
@@ -131,7 +138,21 @@ pub(crate) fn united(count: SampleCount, stored: &[u64; 16], masks: &[u64; 16]) 
     union
 }
 
+/// The bits that are in both masks.
+#[inline(always)]
+pub(crate) fn shared(count: SampleCount, stored: &[u64; 16], masks: &[u64; 16]) -> [u64; 16]
+    ensures { (s p : ℕ) → s < count_of count → p < 64 → (bit_at (slice_index result s) p ≡ 1) ↔
+        ((bit_at (slice_index stored.now s) p ≡ 1) × (bit_at (slice_index masks.now s) p ≡ 1)) }
+{
+    let mut both = [0; 16];
+    for s in 0..count.count() {
+        both[s as usize] = stored[s as usize] & masks[s as usize];
+    }
+    both
+}
+
 /// The bits of a block's masks that are not in these.
+#[inline(always)]
 pub(crate) fn without(count: SampleCount, stored: &[u64; 16], masks: &[u64; 16]) -> [u64; 16]
     ensures less { (s p : ℕ) → s < count_of count → p < 64 → bit_at (slice_index masks.now s) p ≡ 1 →
         bit_at (slice_index result s) p ≡ 0 }

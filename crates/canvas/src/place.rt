@@ -2,12 +2,13 @@
 ghost use Rattle.std.specs.Prelude.{◌≡◌, ◌≢◌, ◌↔◌, true, false, ℕ, ◌+◌, ◌*◌, ◌/◌, ◌%◌, ◌<◌, length, IsTrue, IsSome, IfSome};
 ghost use Rattle.grid.specs.Samples.{count_of};
 ghost use Rattle.lanes.specs.Block.{stored_at};
-ghost use Rattle.canvas.specs.declared.way.Way.TheVariants.{Flat as AsFlat};
-ghost use Rattle.canvas.specs.Layout.{HasPixel, HasTile, columns_of, planes_of_tile, planes_of_row, block_in_tile, pixel_in_block, block_in_tile as block_of, pixel_in_block as pixel_of_block, place_by as place_of_way, flat_place as the_flat_place, slot_by, is_plain, own_plane, masks_in, place_in_tile, in_list, stored, stored_in_tile, way_in_tile, way_in_row};
+ghost use Rattle.canvas.specs.declared.way.Way.TheVariants.{Flat as AsFlat, FlatFour as AsFour};
+ghost use Rattle.canvas.specs.Layout.{HasPixel, HasTile, columns_of, planes_of_tile, planes_of_row, block_in_tile, pixel_in_block, block_in_tile as block_of, pixel_in_block as pixel_of_block, place_by as place_of_way, flat_place as the_flat_place, slot_by, is_plain, if_bit, own_plane, masks_in, more_in, place_in_tile, in_list, stored, stored_in_tile, way_in_tile, way_in_row};
 
 use crate::canvas::Canvas;
 use crate::flat_block::spread;
 use crate::pair::{mask_of, merged};
+use crate::palette::Palette;
 use crate::tile_rows::TileRows;
 use crate::way::{Way, way_of};
 use grid::SampleCount;
@@ -32,9 +33,10 @@ pub(crate) fn pixel_in_block(i: u32, j: u32) -> usize
     (8 * (j % 8) + i % 8) as usize
 }
 
-/// The index of the plane with a sample of flat block `k` among the planes of its tile: with the first one if `n` is 0, and
-/// with the second one if `n` is half of the samples of a pixel.
-#[inline]
+/// The index of the plane with a sample of flat block `k` among the planes of its tile: with the first one if `n` is 0,
+/// with the second one if `n` is half of the samples of a pixel, with the third one if it is a quarter of them, and with
+/// the fourth one if it is both together.
+#[inline(always)]
 fn flat_place(count: SampleCount, k: usize, n: u32) -> usize
     requires block { k < 64 }
     requires sample { n < count_of count }
@@ -45,15 +47,16 @@ fn flat_place(count: SampleCount, k: usize, n: u32) -> usize
     match count {
         SampleCount::One => 2 + k + n,
         SampleCount::Two => 3 + 2 * k + n,
-        SampleCount::Four => 2 + n / 2,
-        SampleCount::Eight => 2 + n / 4,
-        SampleCount::Sixteen => 2 + n / 8,
+        SampleCount::Four if n == 3 => 5 + 4 * k,
+        SampleCount::Four => 2 + n / 2 + 2 * (n % 2),
+        SampleCount::Eight => 2 + n / 4 + 2 * (n / 2 % 2),
+        SampleCount::Sixteen => 2 + n / 8 + 2 * (n / 4 % 2),
     }
 }
 
 /// The index of own plane `n` of block `k` among the planes of its tile, if it keeps its samples in this way: that of
-/// sample index `n`, unless the block is a pair; of a flat block that with its first or its second sample.
-#[inline]
+/// sample index `n`, unless the block is a pair; of a flat block that with one of its samples.
+#[inline(always)]
 pub fn place_by(count: SampleCount, way: Way, k: usize, n: u32) -> usize
     requires block { k < 64 }
     requires sample { n < count_of count }
@@ -66,8 +69,17 @@ pub fn place_by(count: SampleCount, way: Way, k: usize, n: u32) -> usize
         Way::Single => own,
         Way::Pair | Way::Own => own + n as usize,
         Way::Flat => flat_place(count, k, 0),
-        Way::FlatPair => flat_place(count, k, n),
+        Way::FlatPair | Way::FlatFour => flat_place(count, k, n),
     }
+}
+
+/// The number, if the mask has the bit of pixel `p`, else 0.
+#[inline]
+fn if_bit(mask: u64, p: usize, number: u32) -> u32
+    requires { p < 64 }
+    ensures { result ≡ if_bit mask p number }
+{
+    if (mask >> p) % 2 == 1 { number } else { 0 }
 }
 
 /// Which of the own planes of block `k` of a tile with these planes has sample `s` of pixel `p`.
@@ -84,17 +96,20 @@ fn own_plane(
     requires pixel { p < 64 }
     requires sample { s < count_of count }
     requires planes { length planes.now ≡ planes_of_tile count }
-    ensures value { result ≡ own_plane count way (masks_in count (in_list planes.now) k) p s }
+    ensures value { result ≡
+        own_plane count way (masks_in count (in_list planes.now) k) (more_in count (in_list planes.now) k) p s }
     ensures within { result < count_of count }
 {
+    let many = count.count();
     match way {
         Way::Pair | Way::FlatPair => {
-            let masks = &planes[place_by(count, Way::Own, k, count.count() - 1)];
-            if (mask_of(masks, s) >> p) % 2 == 1 {
-                count.count() / 2
-            } else {
-                0
-            }
+            let masks = &planes[place_by(count, Way::Own, k, many - 1)];
+            if_bit(mask_of(masks, s), p, many / 2)
+        }
+        Way::FlatFour => {
+            let masks = &planes[place_by(count, Way::Own, k, many - 1)];
+            let more = &planes[place_by(count, Way::Own, k, many.saturating_sub(2))];
+            if_bit(mask_of(masks, s), p, many / 2) + if_bit(mask_of(more, s), p, many / 4)
         }
         Way::Flat => 0,
         Way::Cleared | Way::Single | Way::Own => s,
@@ -138,8 +153,9 @@ pub(crate) fn sample_in_tile(
     planes[place_in_tile(planes, count, i, j, s)].sample(slot)
 }
 
-/// The two planes of block `k` of a tile with these planes and its masks, if it is a pair. If it is flat, all samples of the
-/// first are its first sample, and all of the second its second one. One of one sample has no masks, and any do.
+/// The two planes of block `k` of a tile with these planes and its masks, if it is a pair. If it is flat and has at most
+/// two samples, all samples of the first are its first sample, and all of the second its second one. One of one sample
+/// has no masks, and any do.
 pub(crate) fn two_planes(
     count: SampleCount,
     way: Way,
@@ -147,6 +163,7 @@ pub(crate) fn two_planes(
     planes: &[BlockSamples],
 ) -> (BlockSamples, BlockSamples, BlockSamples)
     requires way { is_plain way ≡ false }
+    requires few { way ≢ AsFour }
     requires block { k < 64 }
     requires planes { length planes.now ≡ planes_of_tile count }
     ensures first { (p : ℕ) → p < 64 → stored_at result.0 p ≡
@@ -164,7 +181,7 @@ pub(crate) fn two_planes(
             (plane, plane, plane)
         }
         Way::FlatPair => (spread(first.sample(k)), spread(second.sample(k)), *masks),
-        Way::Cleared | Way::Single | Way::Pair | Way::Own => (*first, *second, *masks),
+        _ => (*first, *second, *masks),
     }
 }
 
@@ -186,6 +203,9 @@ pub(crate) fn merged_in_tile(
     let way = way_of(&planes[0], k);
     if way.is_plain() {
         return None;
+    }
+    if way == Way::FlatFour {
+        return Some(Palette::stored(count, k, planes).plane(s));
     }
     let (first, second, masks) = two_planes(count, way, k, planes);
     Some(merged(&first, &second, mask_of(&masks, s)))

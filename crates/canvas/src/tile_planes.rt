@@ -6,11 +6,12 @@ ghost use Rattle.std.specs.Prelude.{◌≡◌, ◌≢◌, ◌↔◌, ℕ, ◌%�
 ghost use Rattle.grid.specs.Samples.{count_of};
 ghost use Rattle.shade.specs.Canvas.{with_alpha};
 ghost use Rattle.lanes.specs.Block.{stored_at};
-ghost use Rattle.canvas.specs.declared.way.Way.TheVariants.{Cleared as AsCleared, Single as AsSingle, Own as AsOwn};
+ghost use Rattle.canvas.specs.declared.way.Way.TheVariants.{Cleared as AsCleared, Single as AsSingle, Own as AsOwn, FlatFour as AsFour};
 ghost use Rattle.canvas.specs.Layout.{planes_of_tile, block_in_tile, pixel_in_block, stored_in_tile, way_in_tile, IsSameTile, KeepsOtherSamples, KeepsOtherWays, AreOwnBy, KeepsOtherPlanes, in_list, is_plain, place_by as place_of_way};
 
 use crate::flat_block::spread;
 use crate::pair::{mask_of, merged};
+use crate::palette::Palette;
 use crate::place::{place_by, two_planes};
 use crate::way::{Way, all_cleared, says_cleared, says_own, set_all_own, set_way, way_of};
 use grid::SampleCount;
@@ -68,10 +69,11 @@ fn fill_alike(count: SampleCount, way: Way, k: usize, samples: &mut [BlockSample
     }
 }
 
-/// Puts each of the own planes of block `k` of a tile together of the two planes of the pair, or of its two samples if it is
-/// flat.
+/// Puts each of the own planes of block `k` of a tile together of the two planes of the pair, or of its samples if it is flat
+/// and has at most two.
 fn fill_pair(count: SampleCount, way: Way, k: usize, samples: &mut [BlockSamples])
     requires way { is_plain way ≡ false }
+    requires few { way ≢ AsFour }
     requires block { k < 64 }
     requires samples { length samples.old ≡ planes_of_tile count }
     ensures own { AreOwnBy count way k samples.old samples.new }
@@ -80,6 +82,19 @@ fn fill_pair(count: SampleCount, way: Way, k: usize, samples: &mut [BlockSamples
     let (first, second, masks) = two_planes(count, way, k, samples);
     for s in 0..count.count() {
         samples[place_by(count, Way::Own, k, s)] = merged(&first, &second, mask_of(&masks, s));
+    }
+}
+
+/// Puts each of the own planes of block `k` of a tile, which is kept in up to four samples, together of these.
+fn fill_four(count: SampleCount, k: usize, samples: &mut [BlockSamples])
+    requires block { k < 64 }
+    requires samples { length samples.old ≡ planes_of_tile count }
+    ensures own { AreOwnBy count AsFour k samples.old samples.new }
+    ensures others { KeepsOtherPlanes count k samples.old samples.new }
+{
+    let palette = Palette::stored(count, k, samples);
+    for s in 0..count.count() {
+        samples[place_by(count, Way::Own, k, s)] = palette.plane(s);
     }
 }
 
@@ -93,6 +108,8 @@ fn fill_planes(count: SampleCount, way: Way, k: usize, samples: &mut [BlockSampl
 {
     if way.is_plain() {
         fill_alike(count, way, k, samples);
+    } else if way == Way::FlatFour {
+        fill_four(count, k, samples);
     } else {
         fill_pair(count, way, k, samples);
     }
@@ -178,7 +195,7 @@ pub fn single_block(count: SampleCount, k: usize, samples: &mut [BlockSamples]) 
             true
         }
         Way::Single => true,
-        Way::Pair | Way::Own | Way::FlatPair => false,
+        Way::Pair | Way::Own | Way::FlatPair | Way::FlatFour => false,
     }
 }
 

@@ -21,6 +21,8 @@ pub enum Way {
     Flat,
     /// In two samples. Masks in one of its own planes say which of the two a sample of a pixel is.
     FlatPair,
+    /// In up to four samples. Masks in two of its own planes say which of them a sample of a pixel is.
+    FlatFour,
 }
 
 impl Way {
@@ -31,7 +33,7 @@ impl Way {
     {
         match self {
             Way::Cleared | Way::Single | Way::Own => true,
-            Way::Pair | Way::Flat | Way::FlatPair => false,
+            Way::Pair | Way::Flat | Way::FlatPair | Way::FlatFour => false,
         }
     }
 
@@ -46,7 +48,7 @@ impl Way {
     {
         match self {
             Way::Cleared | Way::Single | Way::Pair | Way::Own => p,
-            Way::Flat | Way::FlatPair => k,
+            Way::Flat | Way::FlatPair | Way::FlatFour => k,
         }
     }
 }
@@ -66,6 +68,9 @@ const FLAT: u8 = 4;
 /// The red byte of a block that is kept in two samples.
 const FLAT_PAIR: u8 = 5;
 
+/// The red byte of a block that is kept in up to four samples.
+const FLAT_FOUR: u8 = 6;
+
 /// The red byte of a block that is kept in its own planes. So is one with any other byte.
 const OWN: u8 = 0;
 
@@ -84,6 +89,7 @@ pub(crate) fn way_of(state: &BlockSamples, k: usize) -> Way
         PAIR => Way::Pair,
         FLAT => Way::Flat,
         FLAT_PAIR => Way::FlatPair,
+        FLAT_FOUR => Way::FlatFour,
         _ => Way::Own,
     }
 }
@@ -149,5 +155,6 @@ pub(crate) fn set_way(state: &mut BlockSamples, k: usize, way: Way)
         Way::Own => OWN,
         Way::Flat => FLAT,
         Way::FlatPair => FLAT_PAIR,
+        Way::FlatFour => FLAT_FOUR,
     };
 }

@@ -1,5 +1,5 @@
--- Blocks that have one sample or two, and what is drawn at them.
-use Rattle.std.proofs.Common.{◌≡◌, ◌∙◌, inl, inr, sym, subst, arith, Bool, true, false, ℕ, ◌+◌, ◌*◌, List, slice_index}
+-- Blocks that have up to four samples, and what is drawn at them.
+use Rattle.std.proofs.Common.{◌≡◌, ◌∙◌, inl, inr, sym, subst, arith, Bool, true, false, ℕ, zero, suc, ◌+◌, ◌<◌, ◌*◌, List, slice_index}
 use Rattle.std.specs.Prelude.{◌==◌, if◌then◌else◌}
 use Rattle.std.specs.Int.{bit_at}
 use Rattle.grid.specs.Position.{Position}
@@ -13,11 +13,14 @@ use Rattle.raster.specs.declared.tile.Tile.{Tile}
 use Rattle.raster.specs.Drawing.{IsInSquare, LiesIn}
 use Rattle.raster.specs.Samples.{IsSampleOf}
 use Rattle.canvas.specs.declared.flat_block.FlatBlock.{FlatBlock}
-use Rattle.canvas.specs.Layout.{block_in_tile, pixel_in_block, stored_in_tile, KeepsOtherSamples}
+use Rattle.canvas.specs.declared.palette.Palette.{Palette}
+use Rattle.canvas.specs.Layout.{block_in_tile, pixel_in_block, stored_in_tile, chosen, KeepsOtherSamples}
+use Rattle.canvas.specs.Palettes.{palette_number, sample_numbered, palette_sample, HasPalette}
+use Rattle.canvas.proofs.Palettes.{below_four}
 use Rattle.canvas.specs.FlatBlocks.{flat_sample, with_samples, HasFlat, HasOne, IsFlatReplaced}
 use Rattle.canvas.proofs.Pairs.{chosen_set, chosen_clear}
 use Rattle.canvas.proofs.TilePlanes.{cases_eq}
-use Rattle.painting.specs.Parts.{number_in_tile, DrawsSample, IsInWords, TilePaints}
+use Rattle.painting.specs.Parts.{number_in_tile, DrawsSample, IsInWords, IsPaletteDrawn, TilePaints}
 use Rattle.painting.proofs.PairBlocks.{square_of}
 use Rattle.painting.proofs.Tiles.{on_screen, in_block}
 
@@ -76,3 +79,49 @@ module _ (t : Placed) (tile : Tile) (side : tile.side ≡ T64) (bx by : ℕ) (bl
 
   pub flat_painted : TilePaints t tile (IsInWords tile bx by words) old new
   flat_painted = record { met = λ row column s h p. met row column s h p; missed = λ row column s h other. missed row column s h other }
+
+-- drawn at each of four samples
+pub each_drawn : (t : Placed) (old new : List CanvasSample) → DrawsSample t (sample_numbered old 0) (sample_numbered new 0) → DrawsSample t (sample_numbered old 1) (sample_numbered new 1) → DrawsSample t (sample_numbered old 2) (sample_numbered new 2) → DrawsSample t (sample_numbered old 3) (sample_numbered new 3)
+    → (number : ℕ) → number < 4 → DrawsSample t (sample_numbered old number) (sample_numbered new number)
+each_drawn t old new first second third fourth zero l = first
+each_drawn t old new first second third fourth (suc zero) l = second
+each_drawn t old new first second third fourth (suc (suc zero)) l = third
+each_drawn t old new first second third fourth (suc (suc (suc zero))) l = fourth
+each_drawn t old new first second third fourth (suc (suc (suc (suc number)))) l = absurd (omega (arith, l))
+
+module _ (t : Placed) (tile : Tile) (side : tile.side ≡ T64) (bx by : ℕ) (block : LiesIn tile bx by 8) (words : List ℕ) (palette made : Palette) (old new : List BlockSamples)
+    (has : HasPalette tile.count (number_in_tile tile bx by) palette old) (is : IsPaletteDrawn t tile.count palette words made)
+    (stored : HasPalette tile.count (number_in_tile tile bx by) made new) (others : KeepsOtherSamples tile.count (number_in_tile tile bx by) old new) where
+  module _ (row column s : ℕ) (h : IsSampleOf tile row column s) where
+    abbrev its_pixel : ℕ
+    its_pixel = pixel_in_block column row
+
+    abbrev its_number : ℕ
+    its_number = palette_number palette s its_pixel
+
+    new_sample : block_in_tile column row ≡ number_in_tile tile bx by → stored_in_tile tile.count new column row s ≡ chosen (slice_index words s) its_pixel (sample_numbered is.0 its_number) (palette_sample palette s its_pixel)
+    new_sample here = stored column row s h.is_sample here ∙ is.2 s its_pixel h.is_sample (omega arith)
+
+    palette_met : IsInWords tile bx by words row column s
+        → IsCanvasDrawnAt t (sample_position (8 * tile.bx + column) (8 * tile.by + row) s tile.count) (stored_in_tile tile.count old column row s) (stored_in_tile tile.count new column row s)
+    palette_met p =
+        let here = in_block tile side bx by row column s h p.square in
+        let seen = on_screen tile side bx by row column s h in
+        let at = sample_position (8 * tile.bx + column) (8 * tile.by + row) s tile.count in
+        let drawn = is.1 its_number (below_four palette s its_pixel) tile.count (8 * tile.bx + column) (8 * tile.by + row) s seen.0 seen.1 in
+        subst (λ (x : CanvasSample). IsCanvasDrawnAt t at x (stored_in_tile tile.count new column row s)) (sym (has column row s h.is_sample here))
+        (subst (λ (y : CanvasSample). IsCanvasDrawnAt t at (palette_sample palette s its_pixel) y)
+        (sym (new_sample here ∙ chosen_set (slice_index words s) its_pixel (sample_numbered is.0 its_number) (palette_sample palette s its_pixel) p.in_words)) drawn)
+
+    palette_missed : ¬ IsInWords tile bx by words row column s → stored_in_tile tile.count new column row s ≡ stored_in_tile tile.count old column row s
+    palette_missed other =
+        elim (cases_eq (block_in_tile column row) (number_in_tile tile bx by)) [
+          | inr apart ↦ others column row s h.is_sample apart
+          | inl here ↦
+              new_sample here
+              ∙ chosen_clear (slice_index words s) its_pixel (sample_numbered is.0 its_number) (palette_sample palette s its_pixel) (λ set. other (record { square = square_of tile side bx by block row column s h here; in_words = set }))
+              ∙ sym (has column row s h.is_sample here)
+        ]
+
+  pub palette_painted : TilePaints t tile (IsInWords tile bx by words) old new
+  palette_painted = record { met = λ row column s h p. palette_met row column s h p; missed = λ row column s h other. palette_missed row column s h other }

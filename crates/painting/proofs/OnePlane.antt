@@ -18,10 +18,10 @@ use Rattle.raster.specs.Region.{HoldsTile}
 use Rattle.raster.specs.Samples.{IsSampleOf, place_of as place_in, stored as in_tile}
 use Rattle.raster.proofs.Rows.{word_full}
 use Rattle.canvas.specs.declared.way.Way.{Way}
-use Rattle.canvas.specs.declared.way.Way.TheVariants.{Cleared, Single, Own}
-use Rattle.canvas.specs.Layout.{stored_in_tile, block_in_tile, pixel_in_block, in_list, place_by, place_in_tile, sample_place, masks_place, masks_in, mask_of, own_plane, slot_by, is_plain, way_of, way_in_tile}
+use Rattle.canvas.specs.declared.way.Way.TheVariants.{Cleared, Single, Own, FlatFour}
+use Rattle.canvas.specs.Layout.{stored_in_tile, block_in_tile, pixel_in_block, in_list, place_by, place_in_tile, sample_place, masks_place, more_place, masks_in, more_in, mask_of, own_plane, slot_by, is_plain, way_of, way_in_tile}
 use Rattle.canvas.proofs.Cut.{put, put_here, put_elsewhere, part_of}
-use Rattle.canvas.proofs.Places.{none, last_sample, within_block, slot_below}
+use Rattle.canvas.proofs.Places.{none, last_sample, before_last, within_block, slot_below}
 use Rattle.canvas.proofs.TilePlanes.{cases_eq, has_own, apart, same_place_by}
 use Rattle.grid.specs.declared.sample_count.SampleCount.{SampleCount}
 use Rattle.painting.specs.declared.masks.Masks.{Masks}
@@ -100,7 +100,7 @@ pub same_places : (count : SampleCount) (q : ℕ) (xs after : List BlockSamples)
 same_places count q xs after first others no_masks i j s =
     let k : ℕ = block_in_tile i j in
     ap (λ (state : BlockSamples). sample_place count (way_of state k) (in_list after) k (pixel_in_block i j) s) (others 0 (λ e. omega (arith, e, first)))
-    ∙ same_place_by count (way_in_tile xs k) xs after k (pixel_in_block i j) s (λ masked. ap (λ plane. mask_of plane s) (others (masks_place count k) (no_masks k (omega arith) masked)))
+    ∙ same_place_by count (way_in_tile xs k) xs after k (pixel_in_block i j) s ((λ masked. ap (λ plane. mask_of plane s) (others (masks_place count k) ((no_masks k (omega arith)).0 masked))), (λ four. ap (λ plane. mask_of plane s) (others (more_place count k) ((no_masks k (omega arith)).1 four))))
 
 -- ---- plane q of a tile, put back with the triangle drawn at it
 module _ (t : Placed) (tile : Tile) (side : tile.side ≡ T64) (q : ℕ) (xs part : List BlockSamples) (n : ℕ) (single : n ≡ 1) (first : 1 ≤ q) (fits : q + n ≤ length xs) (long : length part ≡ n)
@@ -163,16 +163,24 @@ pub place_apart : (count : SampleCount) (xs : List BlockSamples) (way : Way) (i 
 place_apart count xs way i j s k n other h l own =
     let m : ℕ = block_in_tile i j in
     let w = way_in_tile xs m in
-    apart count w way m k (own_plane count w (masks_in count (in_list xs) m) (pixel_in_block i j) s) n other (within_block count w (masks_in count (in_list xs) m) (pixel_in_block i j) s h) l own
+    apart count w way m k (own_plane count w (masks_in count (in_list xs) m) (more_in count (in_list xs) m) (pixel_in_block i j) s) n other (within_block count w (masks_in count (in_list xs) m) (more_in count (in_list xs) m) (pixel_in_block i j) s h) l own
 
 -- and so are the masks of another block, and those of this one are not in its other planes
-pub no_masks_at : (count : SampleCount) (xs : List BlockSamples) (way : Way) (k n : ℕ) → n < count_of count → has_own way ≡ true → (is_plain (way_in_tile xs k) ≡ false → masks_place count k ≢ place_by count way k n)
+pub no_masks_at : (count : SampleCount) (xs : List BlockSamples) (way : Way) (k n : ℕ) → n < count_of count → has_own way ≡ true
+    → (is_plain (way_in_tile xs k) ≡ false → masks_place count k ≢ place_by count way k n) → (way_in_tile xs k ≡ FlatFour → more_place count k ≢ place_by count way k n)
     → HasNoMasks count xs (place_by count way k n)
-no_masks_at count xs way k n l own here m small pair e =
-    elim (cases_eq m k) [
-      | inl same ↦ here (ap (λ b. is_plain (way_in_tile xs b)) (sym same) ∙ pair) (ap (masks_place count) (sym same) ∙ e)
-      | inr other ↦ apart count Own way m k (count_of count - 1) n other (last_sample count) l own e
-    ]
+no_masks_at count xs way k n l own here more m small = (
+  (λ pair e.
+      elim (cases_eq m k) [
+        | inl same ↦ here (ap (λ b. is_plain (way_in_tile xs b)) (sym same) ∙ pair) (ap (masks_place count) (sym same) ∙ e)
+        | inr other ↦ apart count Own way m k (count_of count - 1) n other (last_sample count) l own e
+      ]),
+  (λ four e.
+      elim (cases_eq m k) [
+        | inl same ↦ more (ap (way_in_tile xs) (sym same) ∙ four) (ap (more_place count) (sym same) ∙ e)
+        | inr other ↦ apart count Own way m k (count_of count - 2) n other (before_last count) l own e
+      ]),
+)
 
 module _ (t : Placed) (tile : Tile) (side : tile.side ≡ T64) (bx by : ℕ) (block : LiesIn tile bx by 8) (xs after : List BlockSamples) (single : way_in_tile xs (number_in_tile tile bx by) ≡ Single)
     (paints : TilePaints t tile (IsKeptAt tile.count xs (place_by tile.count Single (number_in_tile tile bx by) 0)) xs after) where

@@ -19,10 +19,11 @@ use Rattle.raster.proofs.Bits.{is_one, is_set}
 use Rattle.canvas.specs.declared.way.Way.{Way}
 use Rattle.canvas.specs.declared.way.Way.TheVariants.{Pair}
 use Rattle.canvas.specs.Hidden.{ReplacesColours}
-use Rattle.canvas.specs.Layout.{block_in_tile, pixel_in_block, in_list, place_by, place_in_tile, sample_place, slot_by, mask_of as mask_in, masks_in, own_plane, stored_in_tile, way_in_tile, HasMasks, AreReplaced, KeepsOtherSamples}
+use Rattle.canvas.specs.Layout.{block_in_tile, pixel_in_block, in_list, place_by, place_in_tile, sample_place, slot_by, mask_of as mask_in, masks_in, more_in, own_plane, stored_in_tile, way_in_tile, HasMasks, AreReplaced, KeepsOtherSamples}
 use Rattle.canvas.proofs.Places.{middle_sample}
 use Rattle.canvas.proofs.TilePlanes.{cases_eq}
 use Rattle.painting.specs.declared.masks.Masks.{Masks}
+use Rattle.canvas.proofs.Ways.{pair_not_four}
 use Rattle.painting.specs.Parts.{block_mask, number_in_tile, AllowsTile, IsInWords, IsInBlock, IsKeptAt, HasNoMasks, KeepsPlanesBut, DrawsPlane, TilePaints}
 use Rattle.painting.proofs.BlocksAlike.{drawn_alike}
 use Rattle.painting.proofs.Joined.{tile_same, tile_joined}
@@ -31,22 +32,22 @@ use Rattle.painting.proofs.Tiles.{on_screen, in_block, of_block}
 
 -- ---- the planes of a pair
 pub no_masks_first : (count : SampleCount) (xs : List BlockSamples) (k : ℕ) → 4 ≤ count_of count → HasNoMasks count xs (place_by count Pair k 0)
-no_masks_first count xs k some = no_masks_at count xs Pair k 0 (some_samples count) refl (λ pair e. omega (arith, e, some))
+no_masks_first count xs k some = no_masks_at count xs Pair k 0 (some_samples count) refl (λ pair e. omega (arith, e, some)) (λ four e. omega (arith, e, some))
 
-pub no_masks_second : (count : SampleCount) (xs : List BlockSamples) (k : ℕ) → 4 ≤ count_of count → HasNoMasks count xs (place_by count Pair k (count_of count / 2))
-no_masks_second count xs k some = no_masks_at count xs Pair k (count_of count / 2) (middle_sample count) refl (λ pair e. omega (arith, e, some))
+pub no_masks_second : (count : SampleCount) (xs : List BlockSamples) (k : ℕ) → 4 ≤ count_of count → way_in_tile xs k ≡ Pair → HasNoMasks count xs (place_by count Pair k (count_of count / 2))
+no_masks_second count xs k some was = no_masks_at count xs Pair k (count_of count / 2) (middle_sample count) refl (λ pair e. omega (arith, e, some)) (λ four e. pair_not_four (sym was ∙ four))
 
 pair_place : (count : SampleCount) (xs : List BlockSamples) (i j s k : ℕ) → block_in_tile i j ≡ k → way_in_tile xs k ≡ Pair
-    → place_in_tile count (in_list xs) i j s ≡ place_by count Pair k (own_plane count Pair (masks_in count (in_list xs) k) (pixel_in_block i j) s)
+    → place_in_tile count (in_list xs) i j s ≡ place_by count Pair k (own_plane count Pair (masks_in count (in_list xs) k) (more_in count (in_list xs) k) (pixel_in_block i j) s)
 pair_place count xs i j s k here pair =
     ap (λ m. sample_place count (way_in_tile xs m) (in_list xs) m (pixel_in_block i j) s) here
     ∙ ap (λ (way : Way). sample_place count way (in_list xs) k (pixel_in_block i j) s) pair
 
-with_bit : (count : SampleCount) (masks : BlockSamples) (p s : ℕ) → bit_at (mask_in masks s) p ≡ 1 → own_plane count Pair masks p s ≡ count_of count / 2
-with_bit count masks p s e = ap (λ b. if b == 1 then count_of count / 2 else 0) e
+with_bit : (count : SampleCount) (masks more : BlockSamples) (p s : ℕ) → bit_at (mask_in masks s) p ≡ 1 → own_plane count Pair masks more p s ≡ count_of count / 2
+with_bit count masks more p s e = ap (λ b. if b == 1 then count_of count / 2 else 0) e
 
-without_bit : (count : SampleCount) (masks : BlockSamples) (p s : ℕ) → bit_at (mask_in masks s) p ≢ 1 → own_plane count Pair masks p s ≡ 0
-without_bit count masks p s other = elim (eqb_tells (bit_at (mask_in masks s) p) 1) [
+without_bit : (count : SampleCount) (masks more : BlockSamples) (p s : ℕ) → bit_at (mask_in masks s) p ≢ 1 → own_plane count Pair masks more p s ≡ 0
+without_bit count masks more p s other = elim (eqb_tells (bit_at (mask_in masks s) p) 1) [
   | inl same ↦ absurd (other same.1)
   | inr clear ↦ ap (λ b. if b then count_of count / 2 else 0) clear.0
 ]
@@ -98,7 +99,7 @@ module _ (t : Placed) (tile : Tile) (side : tile.side ≡ T64) (bx by : ℕ) (bl
         in_words = elim (cases_eq (bit_at (slice_index words s) p) 1) [
           | inl set ↦ set
           | inr clear ↦
-              let zero = without_bit tile.count marks p s (λ e. clear (ap (λ w. bit_at w p) (sym (has s h.is_sample)) ∙ e)) in
+              let zero = without_bit tile.count marks (more_in tile.count (in_list mid) number) p s (λ e. clear (ap (λ w. bit_at w p) (sym (has s h.is_sample)) ∙ e)) in
               absurd (omega (arith, place, zero, some))
         ];
       }
@@ -110,7 +111,7 @@ module _ (t : Placed) (tile : Tile) (side : tile.side ≡ T64) (bx by : ℕ) (bl
       let p_in : ℕ = pixel_in_block column row in
       pair_place tile.count mid column row s number (in_block tile side bx by row column s h p.square) pair
       ∙ ap (place_by tile.count Pair number)
-      (with_bit tile.count (masks_in tile.count (in_list mid) number) p_in s (ap (λ w. bit_at w p_in) (has s h.is_sample) ∙ p.in_words)))
+      (with_bit tile.count (masks_in tile.count (in_list mid) number) (more_in tile.count (in_list mid) number) p_in s (ap (λ w. bit_at w p_in) (has s h.is_sample) ∙ p.in_words)))
       (λ row column s h at. elim (cases_eq (block_in_tile column row) number) [
         | inl here ↦ second_in row column s h at here
         | inr other ↦ absurd (place_apart tile.count mid Pair column row s number (count_of tile.count / 2) other h.is_sample (middle_sample tile.count) refl at)
@@ -136,8 +137,8 @@ module _ (t : Placed) (tile : Tile) (side : tile.side ≡ T64) (bx by : ℕ) (bl
       let p : ℕ = pixel_in_block column row in
       let place = pair_place tile.count old column row s its (in_block tile side bx by row column s h q) pair in
       elim (cases_eq (bit_at (mask_in marks s) p) 1) [
-        | inl set ↦ inr (same_mid column row s ∙ place ∙ ap (place_by tile.count Pair its) (with_bit tile.count marks p s set))
-        | inr clear ↦ inl (place ∙ ap (place_by tile.count Pair its) (without_bit tile.count marks p s clear))
+        | inl set ↦ inr (same_mid column row s ∙ place ∙ ap (place_by tile.count Pair its) (with_bit tile.count marks (more_in tile.count (in_list old) its) p s set))
+        | inr clear ↦ inl (place ∙ ap (place_by tile.count Pair its) (without_bit tile.count marks (more_in tile.count (in_list old) its) p s clear))
       ])
       (λ row column s h at. elim (cases_eq (block_in_tile column row) its) [
         | inl here ↦ square_of tile side bx by block row column s h here
@@ -184,8 +185,8 @@ module _ (t : Placed) (tile : Tile) (side : tile.side ≡ T64) (bx by : ℕ) (bl
         ap (λ way. stored_at (in_list old (place_in_tile tile.count (in_list old) column row s)) (slot_by way (block_in_tile column row) pixel)) (ap (way_in_tile old) here ∙ pair) in
         let drawn_at = λ (n : ℕ) (e : place_in_tile tile.count (in_list old) column row s ≡ n). subst (λ (x : CanvasSample). IsCanvasDrawnAt t position x (stored_at plane pixel)) (sym (stored_is ∙ ap (λ n. stored_at (in_list old n) pixel) e)) in
         elim (cases_eq (bit_at (mask_in marks s) pixel) 1) [
-          | inl set ↦ drawn_at _ (place ∙ ap (place_by tile.count Pair this) (with_bit tile.count marks pixel s set)) over_second
-          | inr clear ↦ drawn_at _ (place ∙ ap (place_by tile.count Pair this) (without_bit tile.count marks pixel s clear)) over_first
+          | inl set ↦ drawn_at _ (place ∙ ap (place_by tile.count Pair this) (with_bit tile.count marks (more_in tile.count (in_list old) this) pixel s set)) over_second
+          | inr clear ↦ drawn_at _ (place ∙ ap (place_by tile.count Pair this) (without_bit tile.count marks (more_in tile.count (in_list old) this) pixel s clear)) over_first
         ]
 
     in_words_is : IsInWords tile bx by words row column s

@@ -18,7 +18,7 @@ use Rattle.shade.specs.declared.operands.Channel.TheVariants.{Colour}
 use Rattle.shade.specs.declared.operands.Operands.{Operands}
 use Rattle.shade.specs.declared.placed.Placed.{Placed}
 use Rattle.shade.specs.declared.sample.Merge.{Merge}
-use Rattle.shade.specs.Blend.{factor, IsBlended, IsCombined}
+use Rattle.shade.specs.Blend.{factor, IsBlended, IsCombined, IsOver}
 use Rattle.shade.specs.Merging.{operands_of, Writes, IsWritten, IsChannelMerged}
 use Rattle.shade.specs.declared.sample.CanvasSample.{CanvasSample}
 use Rattle.shade.specs.declared.sample.Shaded.{Shaded}
@@ -27,7 +27,7 @@ use Rattle.shade.specs.Placed.{channel, rgba_of, IsFragmentAt}
 use Rattle.shade.specs.Canvas.{IsCanvasDrawnAt}
 use Rattle.shade.proofs.Drawn.{fragment-unique}
 use Rattle.shade.proofs.Blended.{replace_is}
-use Rattle.shade.specs.Presets.{replace}
+use Rattle.shade.specs.Presets.{replace, over}
 use Rattle.shade.specs.declared.state.State.{State}
 use Rattle.canvas.proofs.Flat.{flat_value, IsFlat}
 use Rattle.canvas.proofs.Shown.{always}
@@ -35,6 +35,7 @@ use Rattle.canvas.specs.Hidden.{ReplacesColours}
 use Rattle.canvas.specs.declared.window.Origin.{Origin}
 use Rattle.polygons.proofs.Samples.{offset_x, offset_y}
 use Rattle.painting.specs.declared.polygon.Polygon.{Polygon}
+use Rattle.painting.specs.Changes.{BlendsAlone}
 use Rattle.painting.specs.Painting.{fragment_of, shape_of}
 use Rattle.painting.specs.Parts.{opaque_factor, factor_by, equation_by, merge_by, over_screen, CoversScreen, FillsScreen, DrawsSample}
 
@@ -138,6 +139,26 @@ colour_replaced s count f old replaces depth alpha red green blue = record {
     depth = ap (λ w. if w then f.z else old.z) (sym depth);
   };
   failed = λ fails. absurd (fails (always s.merge.test f.z old.z replaces.passes));
+}
+
+-- ---- of a triangle that is blended over, and writes neither depth nor alpha
+written_over : (w : Bool) (e : Equation) (o : Operands) (n : ℕ) → IsTrue w → e ≡ over → n ≤ 255 → IsOver o.source o.source_alpha o.stored n → IsWritten w (IsBlended e Colour o) o.stored n
+written_over w e o n is plain most h = rw (is, plain) (record { most = most; low = λ _. omega (arith, ints, h.low); high = λ _. omega (arith, ints, h.high) })
+
+channel_over : (m : Merge) (k source alpha stored_alpha stored n : ℕ) → Writes m k → m.blend.colour ≡ over → n ≤ 255 → IsOver source alpha stored n → IsChannelMerged m k source alpha stored_alpha stored n
+channel_over m k source alpha stored_alpha stored n is plain most h = written_over (slice_index_or m.write k false) m.blend.colour (operands_of m k source alpha stored_alpha stored) n is plain most h
+
+pub colour_over : (s : State) (f : Shaded) (old : CanvasSample) (r g b : ℕ) → BlendsAlone s.merge → r ≤ 255 → g ≤ 255 → b ≤ 255 → IsOver f.r f.a old.r r → IsOver f.g f.a old.g g → IsOver f.b f.a old.b b
+    → IsCanvasApplied s.merge f old (record { r = r; g = g; b = b; alpha = old.alpha; z = old.z })
+colour_over s f old r g b is small_r small_g small_b red green blue = record {
+  passed = λ _. record {
+    red = channel_over s.merge 0 f.r f.a old.alpha old.r r is.red is.over small_r red;
+    green = channel_over s.merge 1 f.g f.a old.alpha old.g g is.green is.over small_g green;
+    blue = channel_over s.merge 2 f.b f.a old.alpha old.b b is.blue is.over small_b blue;
+    alpha = alpha_kept s.merge.blend.write_alpha _ old.alpha is.alpha;
+    depth = ap (λ w. if w then f.z else old.z) (sym is.depth);
+  };
+  failed = λ fails. absurd (fails (always s.merge.test f.z old.z is.passes));
 }
 
 -- ---- by the equation for its alpha

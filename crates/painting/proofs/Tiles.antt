@@ -14,11 +14,11 @@ use Rattle.raster.specs.declared.tile.Tile.{Tile}
 use Rattle.raster.specs.Drawing.{IsChosen, IsInSquare, DrawsMasks}
 use Rattle.raster.specs.Samples.{IsSampleOf, place_of as place_in, stored as in_tile}
 use Rattle.canvas.specs.declared.way.Way.{Way}
-use Rattle.canvas.specs.declared.way.Way.TheVariants.{Cleared, Single, Pair, Own, Flat, FlatPair}
-use Rattle.canvas.specs.Layout.{planes_of_tile, stored_in_tile, way_of, way_in_tile, block_in_tile, pixel_in_block, in_list, is_plain, place_by, flat_place, slot_by, masks_place, masks_in, own_plane}
+use Rattle.canvas.specs.declared.way.Way.TheVariants.{Cleared, Single, Pair, Own, Flat, FlatPair, FlatFour}
+use Rattle.canvas.specs.Layout.{planes_of_tile, stored_in_tile, way_of, way_in_tile, block_in_tile, pixel_in_block, in_list, is_plain, place_by, flat_place, slot_by, masks_place, more_place, masks_in, more_in, own_plane}
 use Rattle.canvas.proofs.Cut.{put, put_elsewhere, part_of}
 use Rattle.canvas.proofs.DrawnTiles.{own_put, mark_put}
-use Rattle.canvas.proofs.Places.{none, last_sample, within_block, flat_where}
+use Rattle.canvas.proofs.Places.{none, last_sample, before_last, within_block, flat_where}
 use Rattle.canvas.proofs.TilePlanes.{by_way, by_any_way, own_place, within_own, same_own_plane, same_mask}
 use Rattle.painting.specs.Parts.{number_in_tile, TilePaints}
 
@@ -56,14 +56,15 @@ single_own e = cc
 plain_own : (way : Way) → is_plain way ≡ false → way ≢ Own
 plain_own way other own = false≢true (sym other ∙ ap is_plain own)
 
--- a block is kept in one of six ways
-way_cases : (P : Way → Type 0) → P Cleared → P Single → P Pair → P Own → P Flat → P FlatPair → (way : Way) → P way
-way_cases P a b c d e f Cleared = a
-way_cases P a b c d e f Single = b
-way_cases P a b c d e f Pair = c
-way_cases P a b c d e f Own = d
-way_cases P a b c d e f Flat = e
-way_cases P a b c d e f FlatPair = f
+-- a block is kept in one of seven ways
+way_cases : (P : Way → Type 0) → P Cleared → P Single → P Pair → P Own → P Flat → P FlatPair → P FlatFour → (way : Way) → P way
+way_cases P a b c d e f g Cleared = a
+way_cases P a b c d e f g Single = b
+way_cases P a b c d e f g Pair = c
+way_cases P a b c d e f g Own = d
+way_cases P a b c d e f g Flat = e
+way_cases P a b c d e f g FlatPair = f
+way_cases P a b c d e f g FlatFour = g
 
 -- ---- drawn in the planes of a block
 module _ (t : Placed) (tile : Tile) (side : tile.side ≡ T64) (bx by from : ℕ) (masks : List ℕ) (old part : List BlockSamples) (n a : ℕ) (many : a + n ≡ planes_of_tile tile.count) (at : a ≡ 1 + count_of tile.count)
@@ -175,12 +176,16 @@ module _ (t : Placed) (tile : Tile) (side : tile.side ≡ T64) (bx by from : ℕ
     missed_masked way masked planes e other =
         let not_own = λ (f : way_in_tile old here_block ≡ Own). plain_own way masked (sym e ∙ f) in
         let place : ℕ = masks_place tile.count here_block in
+        let more : ℕ = more_place tile.count here_block in
         let depths = λ (k : ℕ) (l : k < 64). ap (λ (x : CanvasSample). x.z) (same_in_block row column s h not_own k (count_of tile.count - 1) l (last_sample tile.count)) in
-        let masks_same = same_mask (in_list new place) (in_list old place) s (omega (arith, h.is_sample, few_samples tile.count)) depths in
-        let plane : ℕ = own_plane tile.count way (masks_in tile.count (in_list old) here_block) here_pixel s in
+        let depths_before = λ (k : ℕ) (l : k < 64). ap (λ (x : CanvasSample). x.z) (same_in_block row column s h not_own k (count_of tile.count - 2) l (before_last tile.count)) in
+        let few : s < 16 = omega (arith, h.is_sample, few_samples tile.count) in
+        let masks_same = same_mask (in_list new place) (in_list old place) s few depths in
+        let more_same = same_mask (in_list new more) (in_list old more) s few depths_before in
+        let plane : ℕ = own_plane tile.count way (masks_in tile.count (in_list old) here_block) (more_in tile.count (in_list old) here_block) here_pixel s in
         by_any_way tile.count new way column row s (ap (λ (state : BlockSamples). way_of state here_block) same_state ∙ e)
-        ∙ ap (λ k. stored_at (in_list new (place_by tile.count way here_block k)) (slot_by way here_block here_pixel)) (same_own_plane tile.count way (in_list new place) (in_list old place) here_pixel s masks_same)
-        ∙ planes plane (within_block tile.count way (masks_in tile.count (in_list old) here_block) here_pixel s h.is_sample)
+        ∙ ap (λ k. stored_at (in_list new (place_by tile.count way here_block k)) (slot_by way here_block here_pixel)) (same_own_plane tile.count way (in_list new place) (in_list old place) (in_list new more) (in_list old more) here_pixel s ((λ _. masks_same), (λ _. more_same)))
+        ∙ planes plane (within_block tile.count way (masks_in tile.count (in_list old) here_block) (more_in tile.count (in_list old) here_block) here_pixel s h.is_sample)
         ∙ sym (by_any_way tile.count old way column row s e)
 
     missed_pair : Missed Pair
@@ -193,9 +198,9 @@ module _ (t : Placed) (tile : Tile) (side : tile.side ≡ T64) (bx by from : ℕ
         elim (flat_where tile.count here_block r l) [
           | inl before ↦ ap (λ (p : BlockSamples). stored_at p here_block) (put_elsewhere old part a n none fits whole (flat_place tile.count here_block r) (λ m small d. omega (arith, d, at, before)))
           | inr own_one ↦
-              ap (λ q. stored_at (in_list new q) here_block) own_one
-              ∙ same_in_block row column s h not_own here_block r (omega arith) l
-              ∙ ap (λ q. stored_at (in_list old q) here_block) (sym own_one)
+              ap (λ q. stored_at (in_list new q) here_block) own_one.2
+              ∙ same_in_block row column s h not_own here_block own_one.0 (omega arith) own_one.1
+              ∙ ap (λ q. stored_at (in_list old q) here_block) (sym own_one.2)
         ]
 
     missed_flat : Missed Flat
@@ -204,11 +209,14 @@ module _ (t : Placed) (tile : Tile) (side : tile.side ≡ T64) (bx by from : ℕ
     missed_flat_pair : Missed FlatPair
     missed_flat_pair e other = missed_masked FlatPair refl (λ n l. same_flat (λ f. plain_own FlatPair refl (sym e ∙ f)) n l) e other
 
+    missed_flat_four : Missed FlatFour
+    missed_flat_four e other = missed_masked FlatFour refl (λ n l. same_flat (λ f. plain_own FlatFour refl (sym e ∙ f)) n l) e other
+
     missed_own : Missed Own
     missed_own e other = at_way new Own refl same_state e ∙ same_own row column s h s h.is_sample other ∙ sym (at_way old Own refl refl e)
 
     missed : ¬ IsChosen t.state tile bx by from masks row column s → stored_in_tile tile.count new column row s ≡ stored_in_tile tile.count old column row s
-    missed = way_cases Missed missed_cleared missed_single missed_pair missed_own missed_flat missed_flat_pair (way_in_tile old here_block) refl
+    missed = way_cases Missed missed_cleared missed_single missed_pair missed_own missed_flat missed_flat_pair missed_flat_four (way_in_tile old here_block) refl
 
   pub tile_painted : TilePaints t tile (IsChosen t.state tile bx by from masks) old new
   tile_painted = record { met = λ row column s h chosen. met row column s h chosen; missed = λ row column s h other. missed row column s h other }

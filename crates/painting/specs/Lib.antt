@@ -11,6 +11,10 @@
 --   IsOriginInBand: Each pixel of a canvas of any size with this origin lies in the guard band.
 --   shape_of: The polygon as it is drawn, by its corners.
 --
+-- Changes.antt
+--   ReplacesAlone: A triangle in this state gives its colour to each sample that it covers, and changes neither depth nor alpha.
+--   BlendsAlone: A triangle with this merge blends its colour over that of each sample, and changes neither depth nor alpha.
+--
 -- Parts.antt
 --   opaque_factor: A factor of colours that are opaque, without alpha: what is multiplied by alpha stays, and nothing is left beside it.
 --   factor_by: A factor of colours with this alpha, without alpha if it is opaque.
@@ -30,11 +34,12 @@
 --   AllowsTile: The state lets each sample of the tile be drawn.
 --   number_in_tile: The number of block (bx, by) among the 64 of its tile, row by row.
 --   IsKeptAt: The sample is kept in the plane of this index among those of the tile.
---   HasNoMasks: The plane of this index among those of the tile is not that of the masks of a pair or a flat block.
+--   HasNoMasks: The plane of this index among those of the tile has neither the masks of a block nor its further masks.
 --   KeepsPlanesBut: All planes of the tile but the one of this index are unchanged.
 --   DrawsPlane: The triangle is drawn at each sample of the plane, wherever on the screen the sample lies, and however many a pixel has.
 --   DrawsSample: The triangle is drawn at the sample, wherever on the screen it lies, and however many a pixel has.
 --   IsFlatDrawn: The triangle is drawn at those samples of a block that are in the masks.
+--   IsPaletteDrawn: The triangle is drawn at those samples of a block that are in the masks.
 --   IsInBlock: The sample is in block (bx, by) and is drawn there.
 --   IsInWords: The sample is in block (bx, by), and its bit is set in the mask of its index.
 --   IsInColumn: The sample is in the first n rows of blocks of column `bx` of blocks and is drawn there.
@@ -59,6 +64,7 @@
 --   CanBeDrawn: The polygons of the group can be drawn on a canvas of this size.
 
 pub mod Painting
+pub mod Changes
 pub mod Parts
 pub mod Batches
 pub mod Groups

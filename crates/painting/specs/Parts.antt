@@ -28,10 +28,13 @@ use Rattle.raster.specs.Region.{HoldsTile}
 use Rattle.raster.specs.Samples.{IsSampleOf}
 use Rattle.canvas.specs.declared.canvas.Canvas.{Canvas}
 use Rattle.canvas.specs.declared.flat_block.FlatBlock.{FlatBlock}
+use Rattle.canvas.specs.declared.palette.Palette.{Palette}
+use Rattle.canvas.specs.declared.way.Way.TheVariants.{FlatFour}
 use Rattle.canvas.specs.declared.window.Origin.{Origin}
-use Rattle.canvas.specs.Layout.{IsStoredIn, block_in_tile, columns_of, in_list, is_plain, masks_place, pixel_in_block, place_in_tile, rows_of, stored, stored_in_tile, way_in_tile}
+use Rattle.canvas.specs.Layout.{IsStoredIn, block_in_tile, columns_of, in_list, is_plain, masks_place, more_place, pixel_in_block, place_in_tile, rows_of, stored, stored_in_tile, way_in_tile}
 use Rattle.lanes.specs.Block.{stored_at}
 use Rattle.canvas.specs.FlatBlocks.{IsFlatReplaced}
+use Rattle.canvas.specs.Palettes.{sample_numbered, IsPaletteReplaced}
 use Rattle.canvas.specs.Window.{moved_state}
 use Rattle.painting.specs.declared.masks.Masks.{Masks}
 use Rattle.painting.specs.declared.polygon.Polygon.{Polygon}
@@ -138,9 +141,11 @@ number_in_tile tile bx by = (by - tile.by) * 8 + (bx - tile.bx)
 abbrev pub IsKeptAt : SampleCount → List BlockSamples → ℕ → ℕ → ℕ → ℕ → Type 0
 IsKeptAt count samples place row column s = place_in_tile count (in_list samples) column row s ≡ place
 
--- The plane of this index among those of the tile is not that of the masks of a pair or a flat block.
+-- The plane of this index among those of the tile has neither the masks of a block nor its further masks.
 abbrev pub HasNoMasks : SampleCount → List BlockSamples → ℕ → Type 0
-HasNoMasks count samples place = (k : ℕ) → k < 64 → is_plain (way_in_tile samples k) ≡ false → masks_place count k ≢ place
+HasNoMasks count samples place =
+    (k : ℕ) → k < 64
+    → (is_plain (way_in_tile samples k) ≡ false → masks_place count k ≢ place) × (way_in_tile samples k ≡ FlatFour → more_place count k ≢ place)
 
 -- All planes of the tile but the one of this index are unchanged.
 abbrev pub KeepsPlanesBut : ℕ → List BlockSamples → List BlockSamples → Type 0
@@ -159,6 +164,11 @@ DrawsSample t old new = (count : SampleCount) (i j s : ℕ) → i < 4096 → j <
 abbrev pub IsFlatDrawn : Placed → SampleCount → FlatBlock → List ℕ → FlatBlock → Type 0
 IsFlatDrawn t count old words new =
     (first second : CanvasSample) × DrawsSample t old.first first × DrawsSample t old.second second × IsFlatReplaced count old words first second new
+
+-- The triangle is drawn at those samples of a block that are in the masks. The block has up to four samples before and afterwards.
+abbrev pub IsPaletteDrawn : Placed → SampleCount → Palette → List ℕ → Palette → Type 0
+IsPaletteDrawn t count old words new =
+    (drawn : List CanvasSample) × ((number : ℕ) → number < 4 → DrawsSample t (sample_numbered old.samples number) (sample_numbered drawn number)) × IsPaletteReplaced count old words drawn new
 
 -- The sample is in block (bx, by) and is drawn there. Its bit is set in column k of the masks, and the state lets it be drawn.
 pub record IsInBlock (state : State) (tile : Tile) (bx by : ℕ) (masks : Masks) (k : ℕ) (row column s : ℕ) : Type 0 where

@@ -83,14 +83,14 @@ impl CoveredBlock<'_> {
         ensures unchanged { result ≡ false → samples.new ≡ samples.old }
     {
         let row = (self.by - self.tile.by) as usize;
-        let full = masks.is_full(k, row);
+        let full = masks.is_full(self.tile.count, k, row);
         if full && self.has_one_plane(samples) {
             self.paint_single(samples);
             return true;
         }
         if has_pairs(self.tile.count)
             && block_way(self.number(), samples) != Way::Own
-            && self.paint_as_pair(&masks.words(k, row), samples)
+            && self.paint_as_pair(&masks.words(self.tile.count, k, row), samples)
         {
             return true;
         }

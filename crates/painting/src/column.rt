@@ -2,22 +2,27 @@
 ghost use Rattle.std.specs.Prelude.{◌≡◌, ◌+◌, ◌<◌, ◌≤◌, length};
 ghost use Rattle.grid.specs.declared.pixels.TileSide.TheVariants.{T64};
 ghost use Rattle.canvas.specs.Layout.{planes_of_tile};
+ghost use Rattle.painting.specs.declared.change.Change.TheVariants.{Replaces as AsReplaces, BlendsOver as AsBlendsOver};
+ghost use Rattle.painting.specs.Changes.{BlendsAlone, ReplacesAlone};
 ghost use Rattle.painting.specs.Parts.{FillsScreen, IsInColumn, TilePaints};
 
 use crate::allowed::allows_tile;
+use crate::change::Change;
 use crate::covered_block::CoveredBlock;
 use crate::masks::Masks;
 use lanes::{BlockSamples, Interpolants};
 use raster::Tile;
 
 /// Draws a triangle that covers the screen, in one colour and at one depth, at those samples of a column of blocks of the
-/// tile whose bits are set, in column `k` of the masks. A block without any is not touched.
+/// tile whose bits are set, in column `k` of the masks. A block without any is not touched. It is known how the triangle
+/// changes samples.
 pub(crate) fn paint_column(
     triangle: &Interpolants,
     tile: &Tile,
     bx: u32,
     masks: &Masks<'_>,
     k: usize,
+    change: Change,
     samples: &mut [BlockSamples],
 )
     requires side { tile.now.side ≡ T64 }
@@ -26,19 +31,23 @@ pub(crate) fn paint_column(
     requires right { bx + 1 ≤ tile.now.bx + 8 }
     requires column { k < masks.now.columns }
     requires fills { FillsScreen triangle.now }
+    requires replaces { change ≡ AsReplaces → ReplacesAlone triangle.now.state tile.now.count }
+    requires blends { change ≡ AsBlendsOver → BlendsAlone triangle.now.state.merge }
     requires samples { length samples.old ≡ planes_of_tile tile.now.count }
     ensures { TilePaints triangle.now tile.now (IsInColumn triangle.now.state tile.now bx 8 masks.now k) samples.old
         samples.new }
 {
     let whole = allows_tile(&triangle.placed().state, tile);
+    let some = masks.some_rows(k);
     for row in 0..8u32 {
-        if masks.has_some(k, row as usize) {
+        if some[row as usize] {
             let block = CoveredBlock {
                 triangle,
                 tile,
                 bx,
                 by: tile.by + row,
                 whole,
+                change,
             };
             block.paint_block(masks, k, samples);
         }

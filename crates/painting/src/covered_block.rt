@@ -2,8 +2,11 @@
 ghost use Rattle.std.specs.Prelude.{◌≡◌, ◌<◌, IsTrue};
 ghost use Rattle.grid.specs.declared.pixels.TileSide.TheVariants.{T64};
 ghost use Rattle.raster.specs.Drawing.{LiesIn};
+ghost use Rattle.painting.specs.declared.change.Change.TheVariants.{Replaces, BlendsOver};
+ghost use Rattle.painting.specs.Changes.{BlendsAlone, ReplacesAlone};
 ghost use Rattle.painting.specs.Parts.{AllowsTile, FillsScreen};
 
+use crate::change::Change;
 use lanes::Interpolants;
 use raster::Tile;
 
@@ -20,10 +23,14 @@ pub(crate) struct CoveredBlock<'a> {
     pub by: u32,
     /// Whether it is known that the triangle's state lets all samples of the tile be drawn.
     pub whole: bool,
+    /// How the triangle changes samples.
+    pub change: Change,
     pub ghost side: { tile.now.side ≡ T64 },
     pub ghost block: { LiesIn tile.now bx by 8 },
     pub ghost fills: { FillsScreen triangle.now },
     pub ghost allows: { IsTrue whole → AllowsTile triangle.now.state tile.now },
+    pub ghost replaces: { change ≡ Replaces → ReplacesAlone triangle.now.state tile.now.count },
+    pub ghost blends: { change ≡ BlendsOver → BlendsAlone triangle.now.state.merge },
 }
 
 impl CoveredBlock<'_> {

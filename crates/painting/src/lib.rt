@@ -4,12 +4,14 @@
 mod allowed;
 mod batch;
 mod block;
+mod change;
 mod column;
 mod covered_block;
 mod flat;
 mod group;
 mod masks;
 mod pair;
+mod palette;
 mod plane;
 mod polygon;
 mod replaced;

@@ -1,5 +1,5 @@
 //! The masks of the blocks of a tile row.
-ghost use Rattle.std.specs.Prelude.{◌≡◌, ℕ, ◌+◌, ◌*◌, ◌<◌, ◌≤◌, false, length, slice_index, IsBitSet, IsTrue};
+ghost use Rattle.std.specs.Prelude.{◌≡◌, ℕ, ◌+◌, ◌*◌, ◌<◌, ◌≤◌, false, length, slice_index, slice_index_or, IsBitSet, IsTrue};
 ghost use Rattle.grid.specs.Samples.{count_of, parts_of};
 
 use grid::SampleCount;
@@ -63,13 +63,14 @@ impl Masks<'_> {
     }
 
     /// Whether a bit of the block in a column and a row of blocks is set.
-    #[inline]
-    pub(crate) fn has_some(&self, column: usize, row: usize) -> bool
+    #[inline(always)]
+    fn has_some(&self, count: SampleCount, column: usize, row: usize) -> bool
+        requires count { count ≡ self.now.count }
         requires column { column < self.now.columns }
         requires row { row < 8 }
         ensures { result ≡ false → (s : ℕ) → s < count_of self.now.count → block_mask self.now column row s ≡ 0 }
     {
-        for part in 0..self.count.parts() {
+        for part in 0..count.parts() {
             if has_some(&self.part(column, row, part)) {
                 return true;
             }
@@ -77,30 +78,64 @@ impl Masks<'_> {
         false
     }
 
+    /// Of each row of blocks whether a bit of the block in this column is set, with the number of samples known if this
+    /// is inlined.
+    #[inline(always)]
+    fn rows_with_some(&self, count: SampleCount, column: usize) -> [bool; 8]
+        requires count { count ≡ self.now.count }
+        requires column { column < self.now.columns }
+        ensures { (row : ℕ) → row < 8 → slice_index_or result row false ≡ false → (s : ℕ) → s < count_of self.now.count →
+            block_mask self.now column row s ≡ 0 }
+    {
+        let mut rows = [true; 8];
+        for row in 0..8 {
+            rows[row] = self.has_some(count, column, row);
+        }
+        rows
+    }
+
+    /// Of each row of blocks whether a bit of the block in this column is set.
+    pub(crate) fn some_rows(&self, column: usize) -> [bool; 8]
+        requires column { column < self.now.columns }
+        ensures { (row : ℕ) → row < 8 → slice_index_or result row false ≡ false → (s : ℕ) → s < count_of self.now.count →
+            block_mask self.now column row s ≡ 0 }
+    {
+        match self.count {
+            SampleCount::One => self.rows_with_some(SampleCount::One, column),
+            SampleCount::Two => self.rows_with_some(SampleCount::Two, column),
+            SampleCount::Four => self.rows_with_some(SampleCount::Four, column),
+            SampleCount::Eight => self.rows_with_some(SampleCount::Eight, column),
+            SampleCount::Sixteen => self.rows_with_some(SampleCount::Sixteen, column),
+        }
+    }
+
     /// Whether all bits of the block in a column and a row of blocks are set.
-    #[inline]
-    pub(crate) fn is_full(&self, column: usize, row: usize) -> bool
+    #[inline(always)]
+    pub(crate) fn is_full(&self, count: SampleCount, column: usize, row: usize) -> bool
+        requires count { count ≡ self.now.count }
         requires column { column < self.now.columns }
         requires row { row < 8 }
         ensures { IsTrue result → (s k : ℕ) → s < count_of self.now.count → k < 64 →
             IsBitSet (block_mask self.now column row s) k }
     {
-        for part in 0..self.count.parts() {
-            if !are_full(&self.part(column, row, part), self.count.part_size()) {
+        for part in 0..count.parts() {
+            if !are_full(&self.part(column, row, part), count.part_size()) {
                 return false;
             }
         }
         true
     }
+
     /// The masks of all samples of the block in a column and a row of blocks.
-    #[inline]
-    pub(crate) fn words(&self, column: usize, row: usize) -> [u64; 16]
+    #[inline(always)]
+    pub(crate) fn words(&self, count: SampleCount, column: usize, row: usize) -> [u64; 16]
+        requires count { count ≡ self.now.count }
         requires column { column < self.now.columns }
         requires row { row < 8 }
         ensures { (s : ℕ) → s < count_of self.now.count → slice_index result s ≡ block_mask self.now column row s }
     {
         let mut words = [0; 16];
-        for s in 0..self.count.count() {
+        for s in 0..count.count() {
             let of_part = &self.flags[(s / 4) as usize * self.each + column];
             words[s as usize] = of_part[4 * row + (s % 4) as usize];
         }

@@ -3,6 +3,7 @@ ghost use Rattle.std.specs.Prelude.{◌≡◌, ◌+◌, ◌*◌, ◌<◌, ◌≤
 ghost use Rattle.canvas.specs.Layout.{columns_of, rows_of, planes_of_row};
 ghost use Rattle.painting.specs.Parts.{FillsScreen, IsFlagged, RowsPaint};
 
+use crate::change::Change;
 use crate::column::paint_column;
 use crate::masks::Masks;
 use crate::whole::{is_whole, paint_whole};
@@ -29,6 +30,7 @@ pub(crate) fn paint_strip(
         (IsFlagged triangle.now.state first masks.now.columns masks.now) samples.old samples.new }
 {
     let each = canvas.planes_of_tile();
+    let change = Change::of(&triangle.placed().state, canvas.count);
     let mut k = 0;
     while k < masks.columns {
         let bx = first + k as u32;
@@ -38,7 +40,15 @@ pub(crate) fn paint_strip(
             paint_whole(triangle, &tile, &mut samples[at..at + each]);
             k += 8;
         } else {
-            paint_column(triangle, &tile, bx, masks, k, &mut samples[at..at + each]);
+            paint_column(
+                triangle,
+                &tile,
+                bx,
+                masks,
+                k,
+                change,
+                &mut samples[at..at + each],
+            );
             k += 1;
         }
     }

@@ -8,6 +8,7 @@ ghost use Rattle.canvas.specs.Layout.{planes_of_tile, way_in_tile};
 ghost use Rattle.painting.specs.Parts.{block_mask, FillsScreen, AllowsTile, IsAllowed, TilePaints};
 
 use crate::allowed::allows_tile;
+use crate::change::Change;
 use crate::covered_block::CoveredBlock;
 use crate::masks::Masks;
 use canvas::{Way, is_cleared, place_by};
@@ -22,7 +23,7 @@ fn are_full_columns(masks: &Masks<'_>, k: usize) -> bool
 {
     for column in k..k + 8 {
         for row in 0..8 {
-            if !masks.is_full(column, row) {
+            if !masks.is_full(masks.count, column, row) {
                 return false;
             }
         }
@@ -76,6 +77,7 @@ pub(crate) fn paint_whole(triangle: &Interpolants, tile: &Tile, samples: &mut [B
         bx: tile.bx,
         by: tile.by,
         whole: true,
+        change: Change::Merges,
     };
     first.paint_plane(place, samples);
 }

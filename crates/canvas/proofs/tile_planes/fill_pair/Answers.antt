@@ -1,4 +1,4 @@
-use Rattle.std.proofs.Common.{◌∙◌, ap, ℕ, arith}
+use Rattle.std.proofs.Common.{◌∙◌, ap, arith}
 use Rattle.lanes.specs.Block.{stored_at}
 use Rattle.canvas.specs.Layout.{in_list, mask_of, chosen}
 use Rattle.canvas.proofs.TilePlanes.{none_filled, one_filled}
@@ -22,7 +22,7 @@ returns-clause-own c s p h small =
     let masks = c.two_planes.result.2 in
     c.loop-s.invariant.filled s p (omega (arith, h, c.loop-s-test.false, c.count-s-end.ensures)) small
     ∙ (λ i. chosen (mask_of masks s) p (c.two_planes.ensures.second p small i) (c.two_planes.ensures.first p small i))
-    ∙ chosen_with c.args.count c.args.way (in_list c.args.samples.now) masks c.args.k p s c.requires.way c.two_planes.ensures.masks
+    ∙ chosen_with c.args.count c.args.way (in_list c.args.samples.now) masks c.args.k p s c.requires.way c.requires.few c.two_planes.ensures.masks
 
 pub returns-clause-others : goal.returns-clause-others
 returns-clause-others c = c.loop-s.invariant.kept

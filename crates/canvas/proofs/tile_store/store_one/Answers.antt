@@ -1,5 +1,5 @@
 use Rattle.std.proofs.Common.{ℕ, refl, arith}
-use Rattle.canvas.specs.Layout.{block_in_tile, pixel_in_block, own_plane, masks_in, in_list, way_in_tile}
+use Rattle.canvas.specs.Layout.{block_in_tile, pixel_in_block, own_plane, masks_in, more_in, in_list, way_in_tile}
 use Rattle.canvas.proofs.Places.{behind_first}
 use Rattle.canvas.proofs.TileEntries.{none_recoloured, one_recoloured, sample_recoloured}
 use Rattle.canvas.proofs.tile_store.store_one.Goals as goal
@@ -17,7 +17,7 @@ returns-clause-stored c i j s h =
     let old = c.args.samples.now in
     let k : ℕ = block_in_tile i j in
     let way = way_in_tile old k in
-    let behind = behind_first c.args.count way k (own_plane c.args.count way (masks_in c.args.count (in_list old) k) (pixel_in_block i j) s) in
+    let behind = behind_first c.args.count way k (own_plane c.args.count way (masks_in c.args.count (in_list old) k) (more_in c.args.count (in_list old) k) (pixel_in_block i j) s) in
     sample_recoloured c.args.count 1 c.loop-place.place c.args.colour (λ p k. c.args.colour) old c.loop-place.samples i j s h (omega arith) (omega (arith, behind))
     (let below = c.end_of_planes-place-end.ensures.read i j s h in omega (arith, below, c.loop-place-test.false)) refl c.loop-place.invariant
 

@@ -4,7 +4,7 @@ use Rattle.painting.specs.Parts.{IsInColumn, TilePaints}
 use Rattle.painting.proofs.Columns.{one_block_more, one_block_skipped}
 use Rattle.painting.proofs.Joined.{tile_none}
 use Rattle.painting.proofs.column.paint_column.Goals as goal
-use Rattle.painting.proofs.column.paint_column.Goals.{then-has_some, else-has_some}
+use Rattle.painting.proofs.column.paint_column.Goals.{then-some-row, else-some-row}
 
 pub loop-row-init : goal.loop-row-init
 loop-row-init c =
@@ -19,11 +19,11 @@ loop-row-preserved c =
     let row = c.loop-row.row in
     let masks = c.args.masks.now in
     let After = λ (xs : List BlockSamples). TilePaints t tile (IsInColumn t.state tile c.args.bx (row + 1) masks c.args.k) c.args.samples.now xs in
-    elim c.if-has_some.branch [
-      | then-has_some w ↦
+    elim c.if-some-row.branch [
+      | then-some-row w ↦
           subst After (sym w.samples-is)
           (one_block_more t tile c.args.bx row masks c.args.k c.args.samples.now c.loop-row.samples w.paint_block.new.samples c.loop-row.invariant w.paint_block.ensures)
-      | else-has_some w ↦
+      | else-some-row w ↦
           subst After (sym w.samples-is)
-          (one_block_skipped t tile c.args.bx row masks c.args.k c.args.samples.now c.loop-row.samples (λ s h. c.has_some.ensures w.if-has_some.false s (rw c.requires.count h)) c.loop-row.invariant)
+          (one_block_skipped t tile c.args.bx row masks c.args.k c.args.samples.now c.loop-row.samples (λ s h. c.some_rows-some.ensures row (omega (arith, c.loop-row-test.true)) w.if-some-row.false s (rw c.requires.count h)) c.loop-row.invariant)
     ]

@@ -6,7 +6,8 @@ use Rattle.painting.proofs.OnePlane.{whole_painted}
 use Rattle.painting.proofs.whole.paint_whole.Goals as goal
 
 pub paint_plane-requires-clause-masks : goal.paint_plane-requires-clause-masks
-paint_plane-requires-clause-masks c k small masked = absurd (false≢true (sym masked ∙ ap is_plain (c.requires.cleared k small)))
+paint_plane-requires-clause-masks c k small =
+    ((λ masked. absurd (false≢true (sym masked ∙ ap is_plain (c.requires.cleared k small)))), (λ four. absurd (false≢true (sym (ap is_plain four) ∙ ap is_plain (c.requires.cleared k small)))))
 
 pub returns : goal.returns
 returns c =

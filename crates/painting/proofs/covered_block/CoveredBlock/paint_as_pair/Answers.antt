@@ -14,7 +14,7 @@ paint_plane-requires-clause-masks c =
     let count = c.args.self.now.tile.now.count in
     let mid = c.pair_block.new.samples in
     let is : IsTrue c.pair_block.result = search rules in
-    subst (HasNoMasks count mid) (sym c.second_place-second.ensures.value) (no_masks_second count mid c.number-number.result (c.pair_block.ensures.some is))
+    subst (HasNoMasks count mid) (sym c.second_place-second.ensures.value) (no_masks_second count mid c.number-number.result (c.pair_block.ensures.some is) (c.pair_block.ensures.pair is).0)
 
 pub returns-then-pair_block-clause-painted : goal.returns-then-pair_block-clause-painted
 returns-then-pair_block-clause-painted c true_is =

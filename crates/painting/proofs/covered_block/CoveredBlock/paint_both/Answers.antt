@@ -1,7 +1,9 @@
 use Rattle.std.proofs.Common.{rules, ◌≡◌, ◌∙◌, sym, subst, ap, ◌/◌}
 use Rattle.grid.specs.Samples.{count_of}
 use Rattle.canvas.specs.declared.way.Way.TheVariants.{Pair}
-use Rattle.canvas.specs.Layout.{place_by, way_in_tile}
+use Rattle.lanes.specs.declared.block_samples.BlockSamples.{BlockSamples}
+use Rattle.canvas.specs.Layout.{place_by, way_of, way_in_tile}
+use Rattle.canvas.proofs.Places.{behind_first}
 use Rattle.painting.specs.Parts.{number_in_tile, HasNoMasks, IsKeptAt, KeepsPlanesBut, TilePaints}
 use Rattle.painting.proofs.PairBlocks.{no_masks_first, no_masks_second, both_painted}
 use Rattle.painting.proofs.covered_block.CoveredBlock.paint_both.Goals as goal
@@ -15,8 +17,13 @@ paint_plane-requires-clause-masks c =
 pub paint_plane-requires-2-clause-masks : goal.paint_plane-requires-2-clause-masks
 paint_plane-requires-2-clause-masks c =
     let count = c.args.self.now.tile.now.count in
+    let old = c.args.samples.now in
     let mid = c.paint_plane.new.samples in
-    subst (HasNoMasks count mid) (sym c.second_place-second.ensures.value) (no_masks_second count mid c.number-number.result (c.has_pairs.ensures (search rules)))
+    let was : way_in_tile old c.number-number.result ≡ Pair = search rules in
+    let first : c.place_by-first.result ≡ place_by count Pair c.number-number.result 0 = c.place_by-first.ensures.value in
+    let still : way_in_tile mid c.number-number.result ≡ Pair =
+    ap (λ (state : BlockSamples). way_of state c.number-number.result) (c.paint_plane.ensures.others 0 (λ e. behind_first count Pair c.number-number.result 0 (sym (e ∙ first)))) ∙ was in
+    subst (HasNoMasks count mid) (sym c.second_place-second.ensures.value) (no_masks_second count mid c.number-number.result (c.has_pairs.ensures (search rules)) still)
 
 pub returns-clause-painted : goal.returns-clause-painted
 returns-clause-painted c true_is =

@@ -14,7 +14,7 @@ paint_plane-requires-clause-masks c =
     let number = number_in_tile c.args.self.now.tile.now c.args.self.now.bx c.args.self.now.by in
     let at : c.place_by-place.result ≡ place_by count Single number 0 = c.place_by-place.ensures.value ∙ ap (λ k. place_by count Single k 0) c.number.ensures.value in
     subst (HasNoMasks count old) (sym at)
-    (no_masks_at count old Single number 0 (some_samples count) refl (λ masked. absurd (false≢true (sym masked ∙ ap is_plain c.requires.single))))
+    (no_masks_at count old Single number 0 (some_samples count) refl (λ masked. absurd (false≢true (sym masked ∙ ap is_plain c.requires.single))) (λ four. absurd (false≢true (sym (ap is_plain four) ∙ ap is_plain c.requires.single))))
 
 pub returns : goal.returns
 returns c =

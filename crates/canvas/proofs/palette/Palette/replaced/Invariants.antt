@@ -1,0 +1,5 @@
+use Rattle.canvas.proofs.Palettes.{AreBelow}
+use Rattle.canvas.proofs.palette.Palette.replaced.Given as goal
+
+abbrev pub invariant-loop-number : goal.invariant-loop-number
+invariant-loop-number l = AreBelow l.count l.self l.masks l.drawn l.number l.gathered.palette l.gathered.used

@@ -1,0 +1,43 @@
+use Rattle.std.proofs.Common.{refl, ◌≡◌, subst}
+use Rattle.canvas.specs.Layout.{KeepsOtherSamples}
+use Rattle.canvas.specs.FlatBlocks.{HasFlat, HasOne}
+use Rattle.painting.specs.Parts.{number_in_tile, IsFlatDrawn}
+use Rattle.painting.proofs.FlatBlocks.{flat_painted, one_painted}
+use Rattle.painting.proofs.OnePlane.{full_painted}
+use Rattle.painting.proofs.PairBlocks.{words_painted}
+use Rattle.painting.proofs.covered_block.CoveredBlock.paint_flat_by.Goals as goal
+
+pub returns-in-Some-clause-painted : goal.returns-in-Some-clause-painted
+returns-in-Some-clause-painted c true_is =
+    let b = c.args.self.now in
+    let tile = b.tile.now in
+    let sample = c.in-Some.sample in
+    let made = c.drawn.result in
+    let old = c.args.samples.now in
+    let new = c.make_flat.new.samples in
+    let same : c.number-number.result ≡ number_in_tile tile b.bx b.by = c.number-number.ensures.value in
+    full_painted b.triangle.now tile b.side b.bx b.by b.block c.args.masks.now c.args.k (b.allows c.requires.whole) (λ s bit h l. c.is_full.ensures c.if-is_full.true s bit (rw c.requires.masks h) l)
+    old old new (λ i j s p end h drawn. drawn) (λ i j s h other. refl)
+    (one_painted b.triangle.now tile b.side b.bx b.by b.block sample made old new (subst (λ n. HasOne n (number_in_tile tile b.bx b.by) sample old) c.requires.count (subst (λ k. HasOne c.args.count k sample old) same c.in-Some.ensures)) c.drawn.ensures
+    (subst (λ n. HasOne n (number_in_tile tile b.bx b.by) made new) c.requires.count (subst (λ k. HasOne c.args.count k made new) same c.make_flat.ensures.made)) (subst (λ n. KeepsOtherSamples n (number_in_tile tile b.bx b.by) old new) c.requires.count (subst (λ k. KeepsOtherSamples c.args.count k old new) same c.make_flat.ensures.others)))
+
+pub returns-in-Some-flat_drawn-clause-painted : goal.returns-in-Some-flat_drawn-clause-painted
+returns-in-Some-flat_drawn-clause-painted c true_is =
+    let b = c.args.self.now in
+    let tile = b.tile.now in
+    let flat = c.in-Some-of.flat in
+    let drawn = c.in-Some-flat_drawn.drawn in
+    let is = subst (λ n. IsFlatDrawn b.triangle.now n flat c.words-words.result drawn) c.requires.count c.in-Some-flat_drawn.ensures in
+    let old = c.args.samples.now in
+    let new = c.store.new.samples in
+    let words = c.words-words.result in
+    let same : c.number-number.result ≡ number_in_tile tile b.bx b.by = c.number-number.ensures.value in
+    words_painted b.triangle.now tile b.bx b.by b.block c.args.masks.now c.args.k (b.allows c.requires.whole) words (λ s h. c.words-words.ensures s (rw c.requires.masks h)) old new
+    (flat_painted b.triangle.now tile b.side b.bx b.by b.block words flat drawn is.0 is.1 old new (subst (λ n. HasFlat n (number_in_tile tile b.bx b.by) flat old) c.requires.count (subst (λ k. HasFlat c.args.count k flat old) same c.in-Some-of.ensures)) is.2 is.3 is.4
+    (subst (λ n. HasFlat n (number_in_tile tile b.bx b.by) drawn new) c.requires.count (subst (λ k. HasFlat c.args.count k drawn new) same c.store.ensures.made)) (subst (λ n. KeepsOtherSamples n (number_in_tile tile b.bx b.by) old new) c.requires.count (subst (λ k. KeepsOtherSamples c.args.count k old new) same c.store.ensures.others)))
+
+pub returns-clause-painted : goal.returns-clause-painted
+returns-clause-painted c drawn =
+    let b = c.args.self.now in
+    words_painted b.triangle.now b.tile.now b.bx b.by b.block c.args.masks.now c.args.k (b.allows c.requires.whole) c.words-words.result (λ s h. c.words-words.ensures s (rw c.requires.masks h)) c.args.samples.now c.paint_palette.new.samples
+    (c.paint_palette.ensures.painted drawn)

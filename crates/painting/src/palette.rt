@@ -1,0 +1,76 @@
+//! Blocks that have up to four samples.
+ghost use Rattle.std.specs.Prelude.{◌≡◌, ◌≤◌, false, length, IsTrue, IfSome};
+ghost use Rattle.grid.specs.Samples.{count_of};
+ghost use Rattle.canvas.specs.Layout.{planes_of_tile};
+ghost use Rattle.painting.specs.Parts.{IsInWords, IsPaletteDrawn, TilePaints};
+
+use crate::covered_block::CoveredBlock;
+use canvas::Palette;
+use grid::SampleCount;
+use lanes::BlockSamples;
+
+impl CoveredBlock<'_> {
+    /// What the triangle makes of the block's samples that are in the masks, if they are at most four then.
+    #[inline(always)]
+    fn palette_drawn(
+        &self,
+        count: SampleCount,
+        palette: &Palette,
+        words: &[u64; 16],
+    ) -> Option<Palette>
+        ensures { IfSome result (λ drawn. IsPaletteDrawn self.now.triangle.now count palette.now words.now drawn) }
+    {
+        let [first, second, third, fourth] = palette.samples;
+        let made = self.drawn(first);
+        let drawn = [
+            made,
+            self.drawn_beside(second, first, made),
+            self.drawn_beside(third, first, made),
+            self.drawn_beside(fourth, first, made),
+        ];
+        palette.replaced(count, words, &drawn)
+    }
+
+    /// What `paint_palette` does, with the number of samples known if this is inlined.
+    #[inline(always)]
+    fn paint_few(&self, count: SampleCount, words: &[u64; 16], samples: &mut [BlockSamples]) -> bool
+        requires count { count ≡ self.now.tile.now.count }
+        requires some { 4 ≤ count_of count }
+        requires whole { IsTrue self.now.whole }
+        requires samples { length samples.old ≡ planes_of_tile self.now.tile.now.count }
+        ensures painted { let b = self.now in IsTrue result → TilePaints b.triangle.now b.tile.now
+            (IsInWords b.tile.now b.bx b.by words.now) samples.old samples.new }
+        ensures unchanged { result ≡ false → samples.new ≡ samples.old }
+    {
+        let number = self.number();
+        let Some(palette) = Palette::of(count, number, samples) else {
+            return false;
+        };
+        match self.palette_drawn(count, &palette, words) {
+            None => false,
+            Some(drawn) => {
+                drawn.store(count, number, samples);
+                true
+            }
+        }
+    }
+
+    /// Draws the triangle at those samples of the block that are in the masks, if it has at most four samples before and
+    /// afterwards. Returns whether it was drawn; else all planes are unchanged.
+    #[inline(never)]
+    pub(crate) fn paint_palette(&self, words: &[u64; 16], samples: &mut [BlockSamples]) -> bool
+        requires whole { IsTrue self.now.whole }
+        requires samples { length samples.old ≡ planes_of_tile self.now.tile.now.count }
+        ensures painted { let b = self.now in IsTrue result → TilePaints b.triangle.now b.tile.now
+            (IsInWords b.tile.now b.bx b.by words.now) samples.old samples.new }
+        ensures unchanged { result ≡ false → samples.new ≡ samples.old }
+    {
+        // Each count by itself, so that the loops over the samples of a pixel are unrolled.
+        match self.tile.count {
+            SampleCount::One | SampleCount::Two => false,
+            SampleCount::Four => self.paint_few(SampleCount::Four, words, samples),
+            SampleCount::Eight => self.paint_few(SampleCount::Eight, words, samples),
+            SampleCount::Sixteen => self.paint_few(SampleCount::Sixteen, words, samples),
+        }
+    }
+}
