@@ -1,12 +1,12 @@
 -- Sums of rows in lanes of a byte.
 use Rattle.std.proofs.Common.{◌≡◌, inl, inr, refl, sym, subst, ap, ◌∙◌, arith, ℕ, zero, suc, ◌+◌, ◌-◌, ◌*◌, ◌/◌, ◌%◌, ◌^◌, ◌<◌, ◌≤◌, Bool, true, false, cond, ltb, List, [], ◌∷◌, ◌++◌, length, slice_index, get_or, take, drop, map, replicate, w8, w32}
 use Rattle.std.specs.Int.{bit_at}
-use Rattle.std.specs.Simd.Lanes.{Each1, zip2, mask_l, top, number_l}
-use Rattle.std.proofs.lemmas.Simd.{tops_compared, length-zip2, get_or-zip2, mask_l-mod, bit_mask_l}
+use Rattle.std.specs.Simd.Lanes.{Each1, zip2, mask_l, top, number_l, chunk, put_chunk}
+use Rattle.std.proofs.lemmas.Simd.{tops_compared, length-zip2, get_or-zip2, mask_l-mod, bit_mask_l, put_chunk_whole, length-chunk, get_or-chunk}
 use Rattle.std.proofs.lemmas.List.{get_or_append_left, get_or-append-add, get_or-take, get_or-drop}
 use lib.Seq.{length-take-le}
 use mir.Val.{bits, hbits}
-use borrow.Rule.Slice.PartMut.{put_mid}
+use borrow.Rule.Slice.PartMut.{mid_of, put_mid}
 use Rattle.std.proofs.Math.Nat.{pow-suc}
 use Rattle.std.proofs.lemmas.Bool.{cases_lt, lt-ltb, le-ltb}
 use Rattle.std.proofs.lemmas.Nat.{shr-shr, pow-add}
@@ -28,12 +28,12 @@ difference8 = act2 wrap_sub (s_int w8) (s_int w8) (s_int w8)
 pub added : (v w : List ℕ) (f g : ℕ → ℕ) → AreLanes 64 v f → AreLanes 64 w g → AreLanes 64 (zip2 sum8 v w) (λ p. (f p + g p) % 256)
 added v w f g a b = zipped 64 sum8 v w f g a b
 
--- eight sums, each with the same number more
+-- n sums, each with the same number more
 abbrev pub sum32 : ℕ → ℕ → ℕ
 sum32 = act2 wrap_add (s_int w32) (s_int w32) (s_int w32)
 
-pub raised : (v : List ℕ) (n : ℕ) → length v ≡ 8 → AreLanes 8 (zip2 sum32 v (replicate 8 n)) (λ r. (get_or v r 0 + n) % 2 ^ 32)
-raised v n long = zipped 8 sum32 v (replicate 8 n) _ _ (itself 8 v long) (splat 8 n)
+pub raised : (n : ℕ) (v : List ℕ) (more : ℕ) → length v ≡ n → AreLanes n (zip2 sum32 v (replicate n more)) (λ r. (get_or v r 0 + more) % 2 ^ 32)
+raised n v more long = zipped n sum32 v (replicate n more) _ _ (itself n v long) (splat n more)
 
 -- the bit of a lane for which a test holds
 pub bit_of_test : (w : Width) (t : ℕ → ℕ → Bool) (n : ℕ) (v u : List ℕ) (f g : ℕ → ℕ) → n ≤ 64 → AreLanes n v f → AreLanes n u g → (i : ℕ) → i < n
@@ -45,31 +45,50 @@ bit_of_test w t n v u f g few a b i h =
     ap (λ ms. bit_at (mask_l ms % 2 ^ 64) i) (tops_compared w t v u) ∙ ap (λ m. bit_at m i) (mask_l-mod (zip2 t v u) 64 (omega (arith, long, few))) ∙ bit_mask_l (zip2 t v u) i
     ∙ ap (λ m. cond {A = ℕ} m 1 0) (get_or-zip2 t v u i 0 0 false (omega (arith, p, h)) (omega (arith, q, h)) ∙ (λ k. t (a.each i h k) (b.each i h k)))
 
--- ---- eight sums of a column
+-- ---- n numbers of a list
 -- those of a part that was set
-module _ (a : ℕ) (xs ys : List ℕ) (inside : a ≤ length xs) (long : length ys ≡ 8) where
+module _ (a n : ℕ) (xs ys : List ℕ) (inside : a ≤ length xs) (long : length ys ≡ n) where
   before : length (take a xs) ≡ a
   before = length-take-le a xs inside
 
   abbrev all : List ℕ
-  all = put_mid a 8 xs ys
+  all = put_mid a n xs ys
 
-  pub part_set : (r : ℕ) → r < 8 → slice_index all (a + r) ≡ slice_index ys r
-  part_set r h = sym (ap (λ n. slice_index all (n + r)) before) ∙ get_or-append-add (take a xs) _ r 0 ∙ get_or_append_left ys _ 0 r (omega (arith, long, h))
+  pub part_set : (r : ℕ) → r < n → slice_index all (a + r) ≡ slice_index ys r
+  part_set r h = sym (ap (λ k. slice_index all (k + r)) before) ∙ get_or-append-add (take a xs) _ r 0 ∙ get_or_append_left ys _ 0 r (omega (arith, long, h))
 
-  pub part_apart : (q : ℕ) → (a ≤ q → q < a + 8 → ⊥) → slice_index all q ≡ slice_index xs q
+  pub part_apart : (q : ℕ) → (a ≤ q → q < a + n → ⊥) → slice_index all q ≡ slice_index xs q
   part_apart q apart = elim (cases_lt q a) [
     | inl l ↦ get_or_append_left (take a xs) _ 0 q (omega (arith, before, l)) ∙ get_or-take a xs q 0 l
-    | inr l ↦ elim (cases_lt q (a + 8)) [
+    | inr l ↦ elim (cases_lt q (a + n)) [
       | inl m ↦ absurd (apart l m)
       | inr m ↦
-          let behind = q - (a + 8) in
-          let place : q ≡ a + (8 + behind) = omega (arith, m) in
-          ap (slice_index all) place ∙ sym (ap (λ n. slice_index all (n + (8 + behind))) before) ∙ get_or-append-add (take a xs) _ (8 + behind) 0
-          ∙ sym (ap (λ n. slice_index (ys ++ drop 8 (drop a xs)) (n + behind)) long) ∙ get_or-append-add ys _ behind 0
-          ∙ get_or-drop 8 (drop a xs) behind 0 ∙ get_or-drop a xs (8 + behind) 0 ∙ sym (ap (slice_index xs) place)
+          let behind = q - (a + n) in
+          let place : q ≡ a + (n + behind) = omega (arith, m) in
+          ap (slice_index all) place ∙ sym (ap (λ k. slice_index all (k + (n + behind))) before) ∙ get_or-append-add (take a xs) _ (n + behind) 0
+          ∙ sym (ap (λ k. slice_index (ys ++ drop n (drop a xs)) (k + behind)) long) ∙ get_or-append-add ys _ behind 0
+          ∙ get_or-drop n (drop a xs) behind 0 ∙ get_or-drop a xs (n + behind) 0 ∙ sym (ap (slice_index xs) place)
     ]
   ]
+
+-- a part that is set by a vector
+pub put : (a n : ℕ) (xs ys : List ℕ) → a + n ≤ length xs → length ys ≡ n → put_mid a (a + n - a) xs (put_chunk 0 (mid_of a (a + n - a) xs) ys) ≡ put_mid a n xs ys
+put a n xs ys inside long =
+    let same : a + n - a ≡ n = omega arith in
+    ap (λ k. put_mid a k xs (put_chunk 0 (mid_of a k xs) ys)) same ∙ ap (put_mid a n xs) (put_chunk_whole (mid_of a n xs) ys (length-chunk a n xs inside ∙ sym long))
+
+-- a part that is read as a vector
+pub part_long : (a n : ℕ) (xs : List ℕ) → a + n ≤ length xs → length (chunk 0 n (take (a + n - a) (drop a xs))) ≡ n
+part_long a n xs inside =
+    let all : a + n - a ≡ n = omega arith in
+    let whole = length-chunk a n xs inside in
+    ap (λ k. length (chunk 0 n (take k (drop a xs)))) all ∙ length-chunk 0 n (chunk a n xs) (omega (arith, whole))
+
+pub part_read : (a n : ℕ) (xs : List ℕ) (r : ℕ) → r < n → slice_index (chunk 0 n (take (a + n - a) (drop a xs))) r ≡ slice_index xs (a + r)
+part_read a n xs r l =
+    let all : a + n - a ≡ n = omega arith in
+    let same : 0 + r ≡ r = omega arith in
+    ap (λ k. slice_index (chunk 0 n (take k (drop a xs))) r) all ∙ get_or-chunk 0 n (chunk a n xs) r 0 l ∙ ap (slice_index (chunk a n xs)) same ∙ get_or-chunk a n xs r 0 l
 
 -- ---- the bytes of a number
 -- byte j of a number that is shifted by b bytes
@@ -108,48 +127,58 @@ byte_power (suc j) =
     pow-suc (2 ^ 8) j ∙ ap (λ n. n * 2 ^ 8) (byte_power j) ∙ sym (pow-add 2 (8 * j) 8) ∙ ap (λ n. 2 ^ n) (sym e)
 
 -- ---- rows of numbers, summed in three steps
--- each lane is the sum of n numbers of its row up to it, modulo 256
-abbrev pub IsWindow : (ℕ → ℕ) → ℕ → List ℕ → Type 0
-IsWindow f n lanes =
-    (r j : ℕ) → r < 8 → j < 8 → (slice_index lanes (8 * r + j) < 256) × ((slice_index lanes (8 * r + j) + run f (8 * r) 0 (j + 1 - n)) % 256 ≡ run f (8 * r) 0 (j + 1) % 256)
+-- what is used of a modulus that divides 2 ^ 32
+pub record IsModulus (m : ℕ) : Type 0 where
+  pub below : (a : ℕ) → a % m < m
+  pub kept : (a s : ℕ) → a < m → (a + 0) % m ≡ s % m → a ≡ s % m
+  pub wraps : (a b : ℕ) → (a + b) % m ≡ (b + a) % 2 ^ 32 % m
+  pub joined : (a b p q s : ℕ) → (a + q) % m ≡ s % m → (b + p) % m ≡ q % m → ((a + b) % m + p) % m ≡ s % m
 
-pub window_one : (lanes : List ℕ) → ((i : ℕ) → i < 64 → slice_index lanes i < 256) → IsWindow (slice_index lanes) 1 lanes
-window_one lanes small r j h l = (small (8 * r + j) (omega arith), let e : j + 1 ≡ suc j = omega arith in let d : suc j - 1 ≡ j = omega arith in rw (e, d) (omega arith))
+pub of_bytes : IsModulus 256
+of_bytes = record {
+  below = λ a. omega arith;
+  kept = λ a s h e. omega arith;
+  wraps = λ a b. omega arith;
+  joined = λ a b p q s e f. omega arith;
+}
 
-pub window_doubled : (f : ℕ → ℕ) (n m : ℕ) (lanes moved result : List ℕ) → n + n ≡ m → ((r j : ℕ) → r < 8 → j < 8 → slice_index moved (8 * r + j) ≡ cond (ltb j n) 0 (slice_index lanes (8 * r + (j - n))))
-    → ((i : ℕ) → i < 64 → slice_index result i ≡ (slice_index lanes i + slice_index moved i) % 256) → IsWindow f n lanes → IsWindow f m result
-window_doubled f n m lanes moved result e behind sums w r j h l =
-    let x = w r j h l in
-    let y = behind r j h l in
-    let z = sums (8 * r + j) (omega arith) in
-    let a = x.0 in
-    let b = x.1 in
-    elim (cases_lt j n) [
-      | inl k ↦
-          let c : ltb j n ≡ true = lt-ltb j n k in
-          let none : slice_index moved (8 * r + j) ≡ 0 = rw c at y in
-          let u : j + 1 - n ≡ 0 = omega arith in
-          let v : j + 1 - m ≡ 0 = omega arith in
-          let b' = rw u at b in
-          (omega arith, rw v (omega arith))
-      | inr k ↦
-          let c : ltb j n ≡ false = le-ltb j n k in
-          let some : slice_index moved (8 * r + j) ≡ slice_index lanes (8 * r + (j - n)) = rw c at y in
-          let o = (w r (j - n) h (omega arith)).1 in
-          let u : j - n + 1 ≡ j + 1 - n = omega arith in
-          let v : j + 1 - n - n ≡ j + 1 - m = omega arith in
-          let o' = rw (u, v) at o in
-          (omega arith, omega arith)
-    ]
+-- each sum is that of n numbers of a row up to it, modulo m
+abbrev pub IsWindow : ℕ → (ℕ → ℕ) → ℕ → ℕ → (ℕ → ℕ) → Type 0
+IsWindow m f from n sums = (j : ℕ) → j < 8 → (sums j < m) × ((sums j + run f from 0 (j + 1 - n)) % m ≡ run f from 0 (j + 1) % m)
 
-pub window_whole : (f : ℕ → ℕ) (lanes : List ℕ) → IsWindow f 8 lanes → (r j : ℕ) → r < 8 → j < 8 → slice_index lanes (8 * r + j) ≡ run f (8 * r) 0 (j + 1) % 256
-window_whole f lanes w r j h l =
-    let x = w r j h l in
-    let a = x.0 in
-    let b = x.1 in
-    let u : j + 1 - 8 ≡ 0 = omega arith in
-    let b' : (slice_index lanes (8 * r + j) + 0) % 256 ≡ run f (8 * r) 0 (j + 1) % 256 = rw u at b in
-    omega arith
+module _ (m : ℕ) (modulus : IsModulus m) (f : ℕ → ℕ) (from : ℕ) where
+  pub window_one : (sums : ℕ → ℕ) → ((j : ℕ) → j < 8 → sums j ≡ f (from + j)) → ((j : ℕ) → j < 8 → sums j < m) → IsWindow m f from 1 sums
+  window_one sums same small j h =
+      let e : j + 1 ≡ suc j = omega arith in
+      let d : j + 1 - 1 ≡ j = omega arith in
+      (small j h, (λ i. (same j h i + run f from 0 (d i)) % m) ∙ modulus.wraps (f (from + j)) (run f from 0 j) ∙ ap (λ n. run f from 0 n % m) (sym e))
+
+  pub window_doubled : (n k : ℕ) (sums moved result : ℕ → ℕ) → n + n ≡ k → ((j : ℕ) → j < 8 → moved j ≡ cond (ltb j n) 0 (sums (j - n))) → ((j : ℕ) → j < 8 → result j ≡ (sums j + moved j) % m) → IsWindow m f from n sums → IsWindow m f from k result
+  window_doubled n k sums moved result e behind added w j h =
+      let total = run f from 0 (j + 1) in
+      let here = (w j h).1 in
+      elim (cases_lt j n) [
+        | inl l ↦
+            let c : ltb j n ≡ true = lt-ltb j n l in
+            let none : moved j ≡ 0 = behind j h ∙ ap (λ b. cond b 0 (sums (j - n))) c in
+            let sum : result j ≡ (sums j + 0) % m = added j h ∙ ap (λ x. (sums j + x) % m) none in
+            let u : j + 1 - n ≡ 0 = omega arith in
+            let v : j + 1 - k ≡ 0 = omega arith in
+            (subst (λ x. x < m) (sym sum) (modulus.below (sums j + 0)), (λ i. (sum i + run f from 0 (v i)) % m) ∙ modulus.joined (sums j) 0 0 0 total (sym (ap (λ x. (sums j + run f from 0 x) % m) u) ∙ here) refl)
+        | inr l ↦
+            let c : ltb j n ≡ false = le-ltb j n l in
+            let some : moved j ≡ sums (j - n) = behind j h ∙ ap (λ b. cond b 0 (sums (j - n))) c in
+            let sum : result j ≡ (sums j + sums (j - n)) % m = added j h ∙ ap (λ x. (sums j + x) % m) some in
+            let u : j - n + 1 ≡ j + 1 - n = omega arith in
+            let v : j - n + 1 - n ≡ j + 1 - k = omega arith in
+            let before = sym (ap (λ x. (sums (j - n) + run f from 0 x) % m) v) ∙ (w (j - n) (omega arith)).1 ∙ ap (λ x. run f from 0 x % m) u in
+            (subst (λ x. x < m) (sym sum) (modulus.below (sums j + sums (j - n))), ap (λ x. (x + run f from 0 (j + 1 - k)) % m) sum ∙ modulus.joined (sums j) (sums (j - n)) (run f from 0 (j + 1 - k)) (run f from 0 (j + 1 - n)) total here before)
+      ]
+
+  pub window_whole : (sums : ℕ → ℕ) → IsWindow m f from 8 sums → (j : ℕ) → j < 8 → sums j ≡ run f from 0 (j + 1) % m
+  window_whole sums w j h =
+      let u : j + 1 - 8 ≡ 0 = omega arith in
+      modulus.kept (sums j) (run f from 0 (j + 1)) (w j h).0 (sym (ap (λ x. (sums j + run f from 0 x) % m) u) ∙ (w j h).1)
 
 -- ---- sums that a byte holds
 -- what a sum is modulo 256, by the numbers modulo 256
@@ -161,18 +190,20 @@ run_in_byte f g from start (suc n) h =
     omega arith
 
 -- how far a sum is from 0 after n numbers
-run_near : (f : ℕ → ℕ) (from start n : ℕ) → (start + 64) % 2 ^ 32 < 128 → ((k : ℕ) → k < n → (f (from + k) + 8) % 2 ^ 32 ≤ 16) → (run f from start n + 64 + 8 * n) % 2 ^ 32 < 128 + 16 * n
-run_near f from start zero small h = omega arith
-run_near f from start (suc n) small h =
-    let i = run_near f from start n small (λ k l. h k (omega arith)) in
+pub run_near : (f : ℕ → ℕ) (from start most : ℕ) (far : ℕ → ℕ) (n : ℕ) → ((k : ℕ) → far (suc k) ≡ far k + most) → (start + far 0) % 2 ^ 32 < 2 * far 0 → ((k : ℕ) → k < n → (f (from + k) + most) % 2 ^ 32 ≤ 2 * most)
+    → (run f from start n + far n) % 2 ^ 32 < 2 * far n
+run_near f from start most far zero step small h = small
+run_near f from start most far (suc n) step small h =
+    let i = run_near f from start most far n step small (λ k l. h k (omega arith)) in
     let e = h n (omega arith) in
+    let s = step n in
     omega arith
 
 -- the sum of at most eight numbers, 128 more, by what it is modulo 256
 pub sum_of_byte : (f g : ℕ → ℕ) (from start n : ℕ) → n ≤ 8 → (start + 64) % 2 ^ 32 < 128 → ((k : ℕ) → k < n → (f (from + k) + 8) % 2 ^ 32 ≤ 16) → ((k : ℕ) → k < n → g (from + k) ≡ f (from + k) % 256)
     → (run g from 0 n % 256 + (start + 128) % 256) % 256 ≡ (run f from start n + 128) % 2 ^ 32
 sum_of_byte f g from start n few small near same =
-    let i = run_near f from start n small near in
+    let i = run_near f from start 8 (λ k. 64 + 8 * k) n (λ k. omega arith) small near in
     let e = run_in_byte f g from start n same in
     omega arith
 

@@ -38,3 +38,4 @@ pub mod ArrayParts
 pub mod RunBoxes
 pub mod BoxesOfPolygons
 pub mod Walks
+pub mod BitPlanes

@@ -190,6 +190,14 @@
 --   IsLevelMask: The mask of word i of a column if it has no flags.
 --   IsSummed: The mask and the sums of a word's rows.
 --   AreInBytes: The lanes are the numbers of a word's cells modulo 256.
+--
+-- BitPlanes.antt
+--   AreWhole: Each plane has 32 rows.
+--   cell_number: The number of a cell in a row and a column, from 0 to 31: each plane has one of its bits.
+--
+-- FourSums.antt
+--   first_number: What the first flags say of cell i of a word: 1, 0 or -1, modulo 2 ^ 32.
+--   AreSummed: The masks of the four words of a row of blocks, by their rows, and the sums at the ends of these.
 
 pub mod Crossing
 pub mod Polygon
@@ -214,3 +222,5 @@ pub mod Cells
 pub mod Plotting
 pub mod Spreading
 pub mod Summing
+pub mod BitPlanes
+pub mod FourSums

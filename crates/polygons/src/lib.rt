@@ -3,6 +3,7 @@
 
 mod apart;
 mod arrays;
+mod bit_planes;
 mod byte_rows;
 mod byte_sums;
 mod cells;
@@ -12,12 +13,14 @@ mod divide;
 mod edge;
 mod extent;
 mod fill;
+mod four_words;
 mod laws;
 mod marks;
 mod mask_lanes;
 mod part_rows;
 mod partition;
 mod pixels;
+mod plane_sums;
 mod plot;
 mod polygon;
 mod polygon_runs;

@@ -1,5 +1,5 @@
 //! From flags and counters to masks: each bit says whether the sum of the numbers of its row up to it is other than 0.
-ghost use Rattle.std.specs.Prelude.{◌≡◌, ◌≢◌, ◌↔◌, ℕ, ◌+◌, ◌*◌, ◌/◌, ◌%◌, ◌^◌, ◌<◌, cond, pos, length, slice_index, IsTrue, ◌++◌};
+ghost use Rattle.std.specs.Prelude.{◌≡◌, ◌≢◌, ◌↔◌, ℕ, ◌+◌, ◌*◌, ◌/◌, ◌%◌, ◌^◌, ◌<◌, cond, pos, length, slice_index, ◌++◌};
 ghost use Rattle.std.specs.Int.{bit_at};
 ghost use Rattle.polygons.specs.Cells.{flag_of, running_sum, IsAlike, AreMarked, AreZeros, AreZerosFrom};
 ghost use Rattle.polygons.specs.Summing.{run, number_in, marks_of_word, nonzero_bit, change_bit, change_at, IsLevelMask, HasFirstMarked, IsSummed};
@@ -9,7 +9,10 @@ use crate::byte_rows::{fill_rows, last_column};
 use crate::byte_sums::{Sums, sum_bytes};
 use crate::cells::{Counters, Flags};
 use crate::fill::no_carry;
+use crate::four_words::{are_zeros, four_of, set_four, words_of};
 use crate::marks::Marks;
+use crate::plane_sums::{are_small, level_rows, sum_planes};
+use std::simd::prelude::*;
 
 /// 1 if one of the sums is 0 and the other is not, else 0.
 #[inline(always)]
@@ -143,20 +146,81 @@ fn sum_at(
     levels[word] = level_of(mask);
 }
 
-/// Whether no first flag of a column is set.
-#[inline(always)]
-fn has_no_flags(downs: &Flags, ups: &Flags) -> bool
-    ensures { IsTrue result → (i : ℕ) → i < 32 → (slice_index downs.now i ≡ 0) × (slice_index ups.now i ≡ 0) }
+/// Makes the masks of the four words of a row of blocks, one by one.
+#[inline(never)]
+fn sum_each(
+    downs: &mut Flags,
+    ups: &mut Flags,
+    more: &mut Flags,
+    counters: &Counters,
+    row: usize,
+    sums: &mut Sums,
+    levels: &mut Flags,
+)
+    requires row { row < 8 }
+    requires marked { (i : ℕ) → i / 4 ≡ row → HasFirstMarked (marks_of_word downs.old ups.old more.old i) }
+    requires levels { (i : ℕ) → i / 4 ≡ row → IsLevelMask (slice_index levels.old i) i sums.old }
+    ensures levels { (i : ℕ) → i / 4 ≡ row → IsLevelMask (slice_index levels.new i) i sums.new }
+    ensures bits { (i r j : ℕ) → i / 4 ≡ row → r < 8 → j < 8 → bit_at (slice_index downs.new i) (8 * r + j) ≡
+        nonzero_bit (run (number_in (marks_of_word downs.old ups.old more.old i) counters.now i) (8 * r)
+        (slice_index sums.old (8 * i + r)) (j + 1)) }
+    ensures next { (i r : ℕ) → i / 4 ≡ row → r < 8 → slice_index sums.new (8 * i + r) ≡
+        run (number_in (marks_of_word downs.old ups.old more.old i) counters.now i) (8 * r)
+        (slice_index sums.old (8 * i + r)) 8 }
+    ensures clear { (i : ℕ) → i / 4 ≡ row → (slice_index ups.new i ≡ 0) × (slice_index more.new i ≡ 0) }
+    ensures others { (i : ℕ) → (i / 4 ≡ row → ⊥) → (marks_of_word downs.new ups.new more.new i ≡
+        marks_of_word downs.old ups.old more.old i) × (slice_index levels.new i ≡ slice_index levels.old i) }
+    ensures other_sums { (q : ℕ) → (q / 32 ≡ row → ⊥) → slice_index sums.new q ≡ slice_index sums.old q }
 {
-    let mut any = 0;
-    for i in 0..32 {
-        any |= downs[i] | ups[i];
+    for i in 4 * row..4 * row + 4 {
+        sum_at(downs, ups, more, counters, i, sums, levels);
     }
-    any == 0
+}
+
+/// Makes the masks of the four words of a row of blocks, in place of their first flags, and the sums at the ends of
+/// their rows with the masks that the next words have if they have no flags. In many rows of blocks no word has one, and
+/// in most others no counter is in use.
+#[inline(always)]
+fn sum_row(
+    downs: &mut Flags,
+    ups: &mut Flags,
+    more: &mut Flags,
+    counters: &Counters,
+    row: usize,
+    sums: &mut Sums,
+    levels: &mut Flags,
+)
+    requires row { row < 8 }
+    requires marked { (i : ℕ) → i / 4 ≡ row → HasFirstMarked (marks_of_word downs.old ups.old more.old i) }
+    requires levels { (i : ℕ) → i / 4 ≡ row → IsLevelMask (slice_index levels.old i) i sums.old }
+    ensures levels { (i : ℕ) → i / 4 ≡ row → IsLevelMask (slice_index levels.new i) i sums.new }
+    ensures bits { (i r j : ℕ) → i / 4 ≡ row → r < 8 → j < 8 → bit_at (slice_index downs.new i) (8 * r + j) ≡
+        nonzero_bit (run (number_in (marks_of_word downs.old ups.old more.old i) counters.now i) (8 * r)
+        (slice_index sums.old (8 * i + r)) (j + 1)) }
+    ensures next { (i r : ℕ) → i / 4 ≡ row → r < 8 → slice_index sums.new (8 * i + r) ≡
+        run (number_in (marks_of_word downs.old ups.old more.old i) counters.now i) (8 * r)
+        (slice_index sums.old (8 * i + r)) 8 }
+    ensures clear { (i : ℕ) → i / 4 ≡ row → (slice_index ups.new i ≡ 0) × (slice_index more.new i ≡ 0) }
+    ensures others { (i : ℕ) → (i / 4 ≡ row → ⊥) → (marks_of_word downs.new ups.new more.new i ≡
+        marks_of_word downs.old ups.old more.old i) × (slice_index levels.new i ≡ slice_index levels.old i) }
+    ensures other_sums { (q : ℕ) → (q / 32 ≡ row → ⊥) → slice_index sums.new q ≡ slice_index sums.old q }
+{
+    if are_zeros(downs, row) & are_zeros(ups, row) {
+        set_four(downs, row, four_of(levels, row));
+        return;
+    }
+    if are_zeros(more, row) & are_small(sums, row) {
+        let rows = sum_planes(four_of(downs, row), four_of(ups, row), sums, row);
+        set_four(downs, row, words_of(rows));
+        set_four(ups, row, u64x4::splat(0));
+        set_four(levels, row, words_of(level_rows(rows)));
+        return;
+    }
+    sum_each(downs, ups, more, counters, row, sums, levels);
 }
 
 /// Makes the masks of a column of blocks, and the sums into the next column with the masks that its words have if they
-/// have no flags, as in many columns none has.
+/// have no flags.
 fn sum_column(
     downs: &mut Flags,
     ups: &mut Flags,
@@ -176,12 +240,8 @@ fn sum_column(
         (slice_index sums.old (8 * i + r)) 8 }
     ensures clear { (i : ℕ) → (slice_index ups.new i ≡ 0) × (slice_index more.new i ≡ 0) }
 {
-    if has_no_flags(downs, ups) {
-        *downs = *levels;
-        return;
-    }
-    for i in 0..32 {
-        sum_at(downs, ups, more, counters, i, sums, levels);
+    for row in 0..8 {
+        sum_row(downs, ups, more, counters, row, sums, levels);
     }
 }
 

@@ -9,7 +9,7 @@ use Rattle.polygons.proofs.byte_sums.are_small.Goals as goal
 pub returns : goal.returns
 returns c t r l =
     let sum = (get_or c.args.sums r 0 + 64) % 2 ^ 32 in
-    let bit = bit_of_test w32 leb 8 (replicate 8 128) _ _ _ (omega arith) (splat 8 128) (raised c.args.sums 64 c.requires) r l in
+    let bit = bit_of_test w32 leb 8 (replicate 8 128) _ _ _ (omega arith) (splat 8 128) (raised 8 c.args.sums 64 c.requires) r l in
     let none : cond (leb 128 sum) 1 0 ≡ 0 = sym bit ∙ ap (λ m. bit_at m r) (eqb-true _ 0 t) ∙ bit_at-zero r in
     elim (cases_lt sum 128) [
       | inl less ↦ less

@@ -11,14 +11,14 @@ module _ (sums : List ℕ) (long : length sums ≡ 8) (small : (r : ℕ) → r <
   moved_up = zip2 sum32 sums (replicate 8 64)
 
   bytes : AreLanes 8 (zip2 sum8 (map (λ x. x) moved_up) (replicate 8 64)) (λ r. ((get_or sums r 0 + 64) % 2 ^ 32 + 64) % 256)
-  bytes = rw (map-id moved_up) (zipped 8 sum8 moved_up (replicate 8 64) _ _ (raised sums 64 long) (splat 8 64))
+  bytes = rw (map-id moved_up) (zipped 8 sum8 moved_up (replicate 8 64) _ _ (raised 8 sums 64 long) (splat 8 64))
 
   byte_is : (r : ℕ) → r < 8 → ((get_or sums r 0 + 64) % 2 ^ 32 + 64) % 256 ≡ (get_or sums r 0 + 128) % 256
   byte_is r h = omega arith
 
 pub overflow_cast-sums : goal.overflow_cast-sums
 overflow_cast-sums c =
-    let all = raised c.args.sums 64 c.requires.whole in
+    let all = raised 8 c.args.sums 64 c.requires.whole in
     let long = all.long in
     Each1-from_get_or _ _ 0 (λ r h.
     let l : r < 8 = omega arith in
