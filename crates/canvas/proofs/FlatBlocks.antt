@@ -1,5 +1,5 @@
 -- Blocks that have one sample or two.
-use Rattle.std.proofs.Common.{true, ◌≡◌, ◌≢◌, ◌∙◌, inl, inr, refl, ap, sym, ℕ, ◌+◌, ◌-◌, ◌*◌, ◌/◌, ◌<◌, ◌≤◌, List, length, slice_index, slice_set, arith}
+use Rattle.std.proofs.Common.{true, ◌≡◌, ◌≢◌, ◌∙◌, inl, inr, refl, ap, sym, ℕ, ◌+◌, ◌-◌, ◌*◌, ◌/◌, ◌%◌, ◌<◌, ◌≤◌, List, length, slice_index, slice_set, arith}
 use Rattle.std.specs.Int.{bit_at}
 use Rattle.std.proofs.lemmas.List.{get_or-set_same, get_or-set_other, length-set}
 use Rattle.grid.specs.Samples.{count_of}
@@ -13,7 +13,7 @@ use Rattle.canvas.specs.declared.flat_block.FlatBlock.{FlatBlock}
 use Rattle.canvas.specs.declared.way.Way.{Way}
 use Rattle.canvas.specs.declared.way.Way.TheVariants.{Cleared, Single, Pair, Own, Flat, FlatPair, FlatFour}
 use Rattle.canvas.specs.Layout.{planes_of_tile, block_in_tile, pixel_in_block, way_of, place_by, flat_place, slot_by, is_plain, mask_of, masks_in, sample_place, in_list, way_in_tile, chosen, KeepsOtherSamples, KeepsOtherWays}
-use Rattle.canvas.specs.FlatBlocks.{flat_sample, HasFlat, IsFlatReplaced}
+use Rattle.canvas.specs.FlatBlocks.{flat_sample, HasFlat, HasOne, IsFlatReplaced}
 use Rattle.canvas.specs.Palettes.{KeepsOtherPlaces}
 use Rattle.canvas.proofs.Places.{none, four_place, behind_first, last_sample, middle_sample, within_way}
 use Rattle.canvas.proofs.Ways.{flat_pair_not_four}
@@ -31,6 +31,18 @@ alike_block count k way xs flat sample was plain not_own alike first second i j 
     ∙ alike p (omega arith)
     ∙ sym first
     ∙ sym (chosen_same (slice_index flat.masks s) p flat.first flat.second (second ∙ sym first))
+
+-- a plane that stands for a block which has one sample
+pub seen_one : (count : SampleCount) (k : ℕ) (way : Way) (xs : List BlockSamples) (sample : CanvasSample) → way_in_tile xs k ≡ way → is_plain way ≡ true → way ≢ Own → k < 64
+    → HasOne count k sample xs → (p : ℕ) → p < 64 → stored_at (in_list xs (place_by count way k 0)) p ≡ sample
+seen_one count k way xs sample was plain not_own small one p l =
+    let i : ℕ = 8 * (k % 8) + p % 8 in
+    let j : ℕ = 8 * (k / 8) + p / 8 in
+    let here : block_in_tile i j ≡ k = omega (arith, small, l) in
+    let pixel : pixel_in_block i j ≡ p = omega (arith, small, l) in
+    sym (by_way count xs way i j 0 plain (ap (way_in_tile xs) here ∙ was)
+    ∙ (λ t. stored_at (in_list xs (place_by count way (here t) 0)) (pixel t)))
+    ∙ one i j 0 (some_samples count) here
 
 pub flat_block : (count : SampleCount) (k : ℕ) (xs : List BlockSamples) (flat : FlatBlock) → way_in_tile xs k ≡ Flat → flat.first ≡ stored_at (in_list xs (place_by count Flat k 0)) k
     → ((s p : ℕ) → s < count_of count → flat_sample flat s p ≡ flat.first) → HasFlat count k flat xs

@@ -13,6 +13,7 @@ pub mod Arranged
 pub mod Pairs
 pub mod FlatBlocks
 pub mod Palettes
+pub mod Needed
 pub mod MaskLanes
 pub mod MaskBits
 pub mod BlockMeans

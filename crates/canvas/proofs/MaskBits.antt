@@ -1,18 +1,27 @@
 -- The bits of masks of 64 pixels.
 use Rattle.std.proofs.Common.{replicate, ◌↔◌, ◌≡◌, ◌≢◌, ◌∙◌, inl, inr, sym, ap, subst, ℕ, ◌+◌, ◌-◌, ◌%◌, ◌<◌, ◌^◌, min, max, List, length, slice_index, slice_set, bit_and, bit_or, w64, arith, ◌≤◌}
 use Rattle.std.specs.Int.{bit_at}
-use Rattle.std.proofs.lemmas.Bool.{cases_lt}
+use Rattle.std.proofs.lemmas.Bool.{cases_lt, cases_eq}
 use Rattle.std.proofs.lemmas.List.{get_or-set_same, get_or-set_other}
 use Rattle.shade.specs.Resolve.{total}
 use Rattle.std.specs.Simd.Lanes.{zip2}
 use Rattle.canvas.proofs.MaskLanes.{zipped, splat, itself, total_next}
-use Rattle.std.proofs.lemmas.Nat.Bits.{bit_at-zero, bit_at-lt, bit_at_and, bit_at_or, bit_at_not, bit_at_ones}
+use Rattle.std.proofs.lemmas.Nat.Bits.{bit_at-zero, bit_at-lt, bit_at_and, bit_at_or, bit_at_not, bit_at_ones, bit_at_ones_above, bit_at_above, same_from_bits, same_from_bits_below}
 
 abbrev pub full : ℕ
 full = 18446744073709551615
 
 pub bit_of_full : (mask p : ℕ) → mask ≡ full → p < 64 → bit_at mask p ≡ 1
 bit_of_full mask p e l = ap (λ m. bit_at m p) e ∙ bit_at_ones 64 p l
+
+-- a mask all of whose bits are set
+pub full_of_bits : (mask : ℕ) → mask < 2 ^ 64 → ((p : ℕ) → p < 64 → bit_at mask p ≡ 1) → mask ≡ full
+full_of_bits mask fits all = same_from_bits_below 64 mask full fits (omega arith) (λ p l. all p l ∙ sym (bit_at_ones 64 p l))
+
+-- a mask none of whose bits is set
+pub none_of_bits : (mask : ℕ) → mask < 2 ^ 64 → ((p : ℕ) → p < 64 → bit_at mask p ≢ 1) → mask ≡ 0
+none_of_bits mask fits clear =
+    same_from_bits_below 64 mask 0 fits (omega arith) (λ p l. (let low = bit_at-lt mask p in let zero = bit_at-zero p in let unset = clear p l in omega (arith, low, zero, unset)))
 
 pub bit_of_rest : (mask p : ℕ) → mask < 2 ^ 64 → p < 64 → bit_at (full - mask) p ≡ 1 - bit_at mask p
 bit_of_rest mask p fits l = bit_at_not w64 mask p fits l
@@ -25,12 +34,45 @@ bit_in a b p fits l none set =
     let low = bit_at-lt b p in
     omega (arith, both, set, rest, low)
 
+pub none_beside : (a b : ℕ) → a < 2 ^ 64 → b < 2 ^ 64 → ((p : ℕ) → p < 64 → bit_at a p ≡ 1 → bit_at b p ≡ 1) → bit_and a (full - b) ≡ 0
+none_beside a b small fits all = same_from_bits (bit_and a (full - b)) 0 (λ p. bit_at_and a (full - b) p ∙ none p ∙ sym (bit_at-zero p))
+  where
+    none : (p : ℕ) → min (bit_at a p) (bit_at (full - b) p) ≡ 0
+    none p =
+        let low = bit_at-lt a p in
+        elim (cases_lt p 64) [
+          | inl l ↦
+              let rest = bit_of_rest b p fits l in
+              elim (cases_eq (bit_at a p) 1) [
+                | inl set ↦ omega (arith, all p l set, rest)
+                | inr clear ↦ omega (arith, low, clear)
+              ]
+          | inr above ↦ omega (arith, bit_at_above a 64 p small above)
+        ]
+
 -- each bit is in one of two masks
 pub bit_of_either : (a b p : ℕ) → p < 64 → bit_or a b ≡ full → bit_at b p ≢ 1 → bit_at a p ≡ 1
 bit_of_either a b p l all clear =
     let either : max (bit_at a p) (bit_at b p) ≡ 1 = sym (bit_at_or a b p) ∙ bit_of_full (bit_or a b) p all l in
     let low = bit_at-lt b p in
     omega (arith, either, clear, low)
+
+pub full_of_either : (a b : ℕ) → a < 2 ^ 64 → b < 2 ^ 64 → ((p : ℕ) → p < 64 → bit_at b p ≢ 1 → bit_at a p ≡ 1) → bit_or a b ≡ full
+full_of_either a b small fits all = same_from_bits (bit_or a b) full (λ p. bit_at_or a b p ∙ either p)
+  where
+    either : (p : ℕ) → max (bit_at a p) (bit_at b p) ≡ bit_at full p
+    either p =
+        let low = bit_at-lt a p in
+        let other = bit_at-lt b p in
+        elim (cases_lt p 64) [
+          | inl l ↦
+              let one = bit_at_ones 64 p l in
+              elim (cases_eq (bit_at b p) 1) [
+                | inl set ↦ omega (arith, set, low, one)
+                | inr clear ↦ omega (arith, all p l clear, other, one)
+              ]
+          | inr above ↦ omega (arith, bit_at_above a 64 p small above, bit_at_above b 64 p fits above, bit_at_ones_above 64 p above)
+        ]
 
 -- the bits of one mask that are not in another
 pub bit_without_set : (a b p : ℕ) → b < 2 ^ 64 → p < 64 → bit_at b p ≡ 1 → bit_at (bit_and a (full - b)) p ≡ 0

@@ -1,5 +1,5 @@
 -- Bits of masks in lanes.
-use Rattle.std.proofs.Common.{◌≡◌, ◌≢◌, ◌∙◌, inl, inr, refl, sym, ap, subst, ℕ, zero, suc, ◌+◌, ◌-◌, ◌*◌, ◌/◌, ◌%◌, ◌^◌, ◌<◌, ◌≤◌, List, map, take, Bool, false, not, eqb, cond, length, get_or, replicate, bit_and, w64, arith}
+use Rattle.std.proofs.Common.{◌≡◌, ◌≢◌, ◌∙◌, inl, inr, refl, sym, ap, subst, ℕ, zero, suc, ◌+◌, ◌-◌, ◌*◌, ◌/◌, ◌%◌, ◌^◌, ◌<◌, ◌≤◌, List, [], ◌∷◌, map, take, Bool, false, not, eqb, cond, length, get_or, replicate, bit_and, w64, arith}
 use Rattle.std.specs.Int.{Width, bit_at, to_le_bytes}
 use mir.Val.{bits, hbits}
 use Rattle.std.specs.Simd.Lanes.{zip2, sel_l, top, mask_l}
@@ -63,6 +63,22 @@ none_other w xs n x long few none i l =
 pub none_other_of : (w : Width) (xs : List ℕ) → length xs ≡ 64 → mask_l (map (top (hbits w)) (zip2 (λ a b. cond (not (eqb a b)) (2 ^ bits w - 1) 0) (take 64 xs) (replicate 64 (get_or xs 0 0)))) % 2 ^ 64 ≡ 0 → (p : ℕ) → p < 64 → get_or xs p 0 ≡ get_or xs 0 0
 none_other_of w xs long none p l =
     sym (get_or-take 64 xs p 0 l) ∙ none_other w (take 64 xs) 64 (get_or xs 0 0) (length-take-le 64 xs (omega (arith, long))) (omega arith) none p l
+
+-- no value is another one
+no_other : (xs : List ℕ) (x : ℕ) → ((i : ℕ) → i < length xs → get_or xs i 0 ≡ x) → mask_l (map (λ a. not (eqb a x)) xs) ≡ 0
+no_other [] x all = refl
+no_other (y ∷ ys) x all =
+    let rest = no_other ys x (λ k l. all (suc k) (omega (arith, l))) in
+    elim (eqb_tells y x) [
+      | inl same ↦ (λ i. cond (not (same.0 i)) 1 zero + 2 * rest i)
+      | inr other ↦ absurd (other.1 (all 0 (omega arith)))
+    ]
+
+pub all_same_of : (w : Width) (xs : List ℕ) → length xs ≡ 64 → ((p : ℕ) → p < 64 → get_or xs p 0 ≡ get_or xs 0 0) → mask_l (map (top (hbits w)) (zip2 (λ a b. cond (not (eqb a b)) (2 ^ bits w - 1) 0) (take 64 xs) (replicate 64 (get_or xs 0 0)))) % 2 ^ 64 ≡ 0
+all_same_of w xs long all =
+    let part : length (take 64 xs) ≡ 64 = length-take-le 64 xs (omega (arith, long)) in
+    bitmask_splat w (λ a b. not (eqb a b)) (take 64 xs) 64 (get_or xs 0 0) part (omega arith)
+    ∙ no_other (take 64 xs) (get_or xs 0 0) (λ i l. (let small : i < 64 = omega (arith, l, part) in get_or-take 64 xs i 0 small ∙ all i small))
 
 -- ---- bits
 -- those of a part of a number

@@ -131,7 +131,7 @@ module _ (count : SampleCount) (k n a : ℕ) (plane : BlockSamples) (old : List 
   first_kept : in_list put 0 ≡ in_list old 0
   first_kept = get_or-set_other old a 0 plane none (λ e. behind_first count Pair k n (sym (e ∙ is_a)))
 
-  put_ways : (m : ℕ) → way_in_tile put m ≡ way_in_tile old m
+  pub put_ways : (m : ℕ) → way_in_tile put m ≡ way_in_tile old m
   put_ways m = ap (λ state. way_of state m) first_kept
 
   pub put_is : k < 64 → length old ≡ planes_of_tile count → in_list put (place_by count Pair k n) ≡ plane

@@ -93,7 +93,7 @@ module _ (count : SampleCount) where
     module _ (number : ℕ) (pixels kept : List ℕ) (has : (s p : ℕ) → s < count_of count → p < 64 → HasNumbers old number s p (slice_index pixels s))
         (less : (s p : ℕ) → s < count_of count → p < 64 → bit_at (slice_index masks s) p ≡ 1 → bit_at (slice_index kept s) p ≡ 0)
         (beside : (s p : ℕ) → s < count_of count → p < 64 → bit_at (slice_index masks s) p ≢ 1 → bit_at (slice_index kept s) p ≡ bit_at (slice_index pixels s) p) where
-      is_kept : (s p : ℕ) → s < count_of count → p < 64 → bit_at (slice_index kept s) p ≡ 1 → palette_number old s p ≡ number
+      pub is_kept : (s p : ℕ) → s < count_of count → p < 64 → bit_at (slice_index kept s) p ≡ 1 → palette_number old s p ≡ number
       is_kept s p h l set =
           elim (cases_eq (bit_at (slice_index masks s) p) 1) [
             | inl inside ↦ absurd (let none = less s p h l inside in omega (arith, none, set))

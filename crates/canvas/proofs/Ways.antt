@@ -111,6 +111,20 @@ pub other_way : (green red : List ℕ) (k byte m : ℕ) → m ≢ k → way_by g
 other_way green red k byte m other =
     ap (λ r. if slice_index green 0 == 0 then Own else by_byte r) (get_or-set_other red k m byte 0 other)
 
+-- ---- blocks that are kept in one plane of their own
+IsNotSingle : Way → Type 0
+IsNotSingle Cleared = Unit {0}
+IsNotSingle Single = ⊥
+IsNotSingle Pair = Unit {0}
+IsNotSingle Own = Unit {0}
+IsNotSingle Flat = Unit {0}
+IsNotSingle FlatPair = Unit {0}
+IsNotSingle FlatFour = Unit {0}
+
+pub own_not_single : Own ≢ Single
+unfolding IsNotSingle
+own_not_single e = subst IsNotSingle e tt
+
 -- ---- flat blocks
 IsNotFlat : Way → Type 0
 IsNotFlat Cleared = Unit {0}

@@ -1,5 +1,6 @@
 -- Blocks that have one sample or two.
-use Rattle.std.specs.Prelude.{◌≡◌, ℕ, ◌<◌, List, slice_index}
+use Rattle.std.specs.Prelude.{◌≡◌, ◌≢◌, ◌⊎◌, ℕ, ◌<◌, List, slice_index}
+use Rattle.std.specs.Int.{bit_at}
 use Rattle.grid.specs.Samples.{count_of}
 use Rattle.grid.specs.declared.sample_count.SampleCount.{SampleCount}
 use Rattle.shade.specs.declared.sample.CanvasSample.{CanvasSample}
@@ -29,3 +30,28 @@ abbrev pub IsFlatReplaced : SampleCount → FlatBlock → List ℕ → CanvasSam
 IsFlatReplaced count old masks first second new =
     (s p : ℕ) → s < count_of count → p < 64
     → flat_sample new s p ≡ chosen (slice_index masks s) p (flat_sample (with_samples old first second) s p) (flat_sample old s p)
+
+-- The masks have all samples of all pixels.
+abbrev pub HaveAll : SampleCount → List ℕ → Type 0
+HaveAll count masks = (s p : ℕ) → s < count_of count → p < 64 → bit_at (slice_index masks s) p ≡ 1
+
+-- The masks have all samples that are the first one.
+abbrev pub HaveFirst : SampleCount → FlatBlock → List ℕ → Type 0
+HaveFirst count flat masks =
+    (s p : ℕ) → s < count_of count → p < 64 → bit_at (slice_index masks s) p ≢ 1 → bit_at (slice_index flat.masks s) p ≡ 1
+
+-- The masks have all samples that are the second one.
+abbrev pub HaveSecond : SampleCount → FlatBlock → List ℕ → Type 0
+HaveSecond count flat masks =
+    (s p : ℕ) → s < count_of count → p < 64 → bit_at (slice_index flat.masks s) p ≡ 1 → bit_at (slice_index masks s) p ≡ 1
+
+-- One sample takes the places of both, and no third one is left beside it.
+-- The masks have all that are the first one, or all that are the second one, or it is one of the two.
+pub record StaysPair (count : SampleCount) (flat : FlatBlock) (masks : List ℕ) (first second : CanvasSample) : Type 0 where
+  pub same : first ≡ second
+  pub left : HaveFirst count flat masks ⊎ HaveSecond count flat masks ⊎ (flat.first ≡ first) ⊎ (flat.second ≡ second)
+
+-- The block has one sample or two once others have taken places of its samples.
+-- The masks have all of its samples, or one sample alone takes the places.
+abbrev pub StaysFlat : SampleCount → FlatBlock → List ℕ → CanvasSample → CanvasSample → Type 0
+StaysFlat count flat masks first second = HaveAll count masks ⊎ StaysPair count flat masks first second

@@ -107,6 +107,11 @@
 --   HasOne: All samples of block k of a tile are this one.
 --   with_samples: The block once `first` has taken the place of its first sample, and `second` that of its second one.
 --   IsFlatReplaced: Where the masks have a bit, `first` has taken the place of the first sample, and `second` that of the second one.
+--   HaveAll: The masks have all samples of all pixels.
+--   HaveFirst: The masks have all samples that are the first one.
+--   HaveSecond: The masks have all samples that are the second one.
+--   StaysPair: One sample takes the places of both, and no third one is left beside it.
+--   StaysFlat: The block has one sample or two once others have taken places of its samples.
 --
 -- Palettes.antt
 --   palette_number: The number of sample s of pixel p in the palette: the pixel's bit in the low mask, and twice that in the high one.
@@ -114,8 +119,11 @@
 --   palette_sample: Sample s of pixel p of the block.
 --   HasPalette: The samples of block k of a tile are these.
 --   IsPaletteReplaced: Where the masks have a bit, the sample of the same number among `drawn` has taken the place of each sample.
+--   HasNoPalette: No palette has what is to be there then: it is more than four samples.
 --   HasNumbers: The mask has the bit of pixel p if its sample s has this number.
 --   place_of_number: The number among those of the samples of a pixel with which sample `number` of a flat block is stored.
+--   HasNoNumber: None of the samples that have the first numbers is this one.
+--   IsNewNumber: Number n is the next one after those in use.
 --   IsGathered: Sample s of pixel p has one of the first numbers, and is this one.
 --   AreSamplesStored: Those samples of the palette that are one of flat block k are in the block's places for them.
 --   KeepsOtherPlaces: What stands in a place of another block is unchanged, in whatever way that block is kept.

@@ -33,6 +33,10 @@ IsPaletteReplaced count old masks drawn new =
     (s p : ℕ) → s < count_of count → p < 64
     → palette_sample new s p ≡ chosen (slice_index masks s) p (sample_numbered drawn (palette_number old s p)) (palette_sample old s p)
 
+-- No palette has what is to be there then: it is more than four samples.
+abbrev pub HasNoPalette : SampleCount → Palette → List ℕ → List CanvasSample → Type 0
+HasNoPalette count old masks drawn = (new : Palette) → IsPaletteReplaced count old masks drawn new → ⊥
+
 -- The mask has the bit of pixel p if its sample s has this number.
 abbrev pub HasNumbers : Palette → ℕ → ℕ → ℕ → ℕ → Type 0
 HasNumbers palette number s p mask = (bit_at mask p ≡ 1) ↔ (palette_number palette s p ≡ number)
@@ -40,6 +44,16 @@ HasNumbers palette number s p mask = (bit_at mask p ≡ 1) ↔ (palette_number p
 -- The number among those of the samples of a pixel with which sample `number` of a flat block is stored.
 abbrev pub place_of_number : SampleCount → ℕ → ℕ
 place_of_number count number = number % 2 * (count_of count / 2) + number / 2 * (count_of count / 4)
+
+-- None of the samples that have the first numbers is this one.
+abbrev pub HasNoNumber : List CanvasSample → ℕ → CanvasSample → Type 0
+HasNoNumber samples used sample = (n : ℕ) → n < used → sample_numbered samples n ≢ sample
+
+-- Number n is the next one after those in use. It is given to a sample that none of them has.
+pub record IsNewNumber (samples : List CanvasSample) (used : ℕ) (x : CanvasSample) (after : List CanvasSample) (n : ℕ) : Type 0 where
+  pub last : n ≡ used
+  pub sample : sample_numbered after n ≡ x
+  pub others : HasNoNumber samples used x
 
 -- Sample s of pixel p has one of the first numbers, and is this one.
 abbrev pub IsGathered : Palette → ℕ → ℕ → ℕ → CanvasSample → Type 0

@@ -1,9 +1,10 @@
 //! Blocks of a tile that are kept in one sample or in two.
-ghost use Rattle.std.specs.Prelude.{◌≡◌, ℕ, ◌<◌, ◌≤◌, false, length, slice_index, IsTrue, IfSome};
+ghost use Rattle.std.specs.Prelude.{◌≡◌, ◌↔◌, ◌⊎◌, ℕ, ◌<◌, ◌≤◌, false, length, slice_index, IsTrue, IsSome, IfSome};
 ghost use Rattle.grid.specs.Samples.{count_of};
 ghost use Rattle.lanes.specs.Block.{stored_at};
-ghost use Rattle.canvas.specs.Layout.{planes_of_tile, KeepsOtherSamples, KeepsOtherWays};
-ghost use Rattle.canvas.specs.FlatBlocks.{HasFlat, HasOne, IsFlatReplaced};
+ghost use Rattle.canvas.specs.declared.way.Way.TheVariants.{Cleared as AsCleared, Single as AsSingle, Flat as AsFlat, FlatPair as AsFlatPair};
+ghost use Rattle.canvas.specs.Layout.{planes_of_tile, way_in_tile, KeepsOtherSamples, KeepsOtherWays};
+ghost use Rattle.canvas.specs.FlatBlocks.{HasFlat, HasOne, IsFlatReplaced, StaysFlat};
 
 use crate::pair::{are_all, are_full, are_in, masks_of, set_masks, united, without};
 use crate::place::place_by;
@@ -35,7 +36,7 @@ pub(crate) fn spread(sample: CanvasSample) -> BlockSamples
 /// Whether all of these bytes are the first one.
 #[inline(always)]
 fn are_bytes_same(bytes: &[u8; 64]) -> bool
-    ensures { IsTrue result → (p : ℕ) → p < 64 → slice_index bytes.now p ≡ slice_index bytes.now 0 }
+    ensures { IsTrue result ↔ ((p : ℕ) → p < 64 → slice_index bytes.now p ≡ slice_index bytes.now 0) }
 {
     let others = u8x64::from_slice(bytes).simd_ne(u8x64::splat(bytes[0]));
     others.to_bitmask() == 0
@@ -44,7 +45,7 @@ fn are_bytes_same(bytes: &[u8; 64]) -> bool
 /// Whether all of these depths are the first one.
 #[inline(always)]
 fn are_depths_same(depths: &[u16; 64]) -> bool
-    ensures { IsTrue result → (p : ℕ) → p < 64 → slice_index depths.now p ≡ slice_index depths.now 0 }
+    ensures { IsTrue result ↔ ((p : ℕ) → p < 64 → slice_index depths.now p ≡ slice_index depths.now 0) }
 {
     let others = u16x64::from_slice(depths).simd_ne(u16x64::splat(depths[0]));
     others.to_bitmask() == 0
@@ -52,7 +53,7 @@ fn are_depths_same(depths: &[u16; 64]) -> bool
 
 /// Whether all samples of a plane are the same.
 fn is_flat(plane: &BlockSamples) -> bool
-    ensures { IsTrue result → (p : ℕ) → p < 64 → stored_at plane.now p ≡ stored_at plane.now 0 }
+    ensures { IsTrue result ↔ ((p : ℕ) → p < 64 → stored_at plane.now p ≡ stored_at plane.now 0) }
 {
     are_bytes_same(&plane.r)
         && are_bytes_same(&plane.g)
@@ -64,7 +65,7 @@ fn is_flat(plane: &BlockSamples) -> bool
 /// Whether some bit of the masks is set.
 #[inline(always)]
 pub(crate) fn has_bits(count: SampleCount, masks: &[u64; 16]) -> bool
-    ensures { result ≡ false → (s : ℕ) → s < count_of count → slice_index masks.now s ≡ 0 }
+    ensures { (result ≡ false) ↔ ((s : ℕ) → s < count_of count → slice_index masks.now s ≡ 0) }
 {
     for s in 0..count.count() as usize {
         if masks[s] != 0 {
@@ -74,12 +75,16 @@ pub(crate) fn has_bits(count: SampleCount, masks: &[u64; 16]) -> bool
     false
 }
 
-/// The sample that all samples of block `k` of a tile with these planes are, if that is seen.
+/// The sample that all samples of block `k` of a tile with these planes are, or `None` if they are not all the same, or if
+/// the block is kept neither in one sample nor in one plane.
 #[inline(always)]
 pub fn one_sample(count: SampleCount, k: usize, samples: &[BlockSamples]) -> Option<CanvasSample>
     requires block { k < 64 }
     requires samples { length samples.now ≡ planes_of_tile count }
-    ensures { IfSome result (λ sample. HasOne count k sample samples.now) }
+    ensures one { IfSome result (λ sample. HasOne count k sample samples.now) }
+    ensures flat { way_in_tile samples.now k ≡ AsFlat → IsSome result }
+    ensures some { (sample : CanvasSample) → HasOne count k sample samples.now →
+        (way_in_tile samples.now k ≡ AsCleared) ⊎ (way_in_tile samples.now k ≡ AsSingle) → IsSome result }
 {
     let way = way_of(&samples[0], k);
     let plane = &samples[place_by(count, way, k, 0)];
@@ -116,12 +121,16 @@ impl FlatBlock {
         }
     }
 
-    /// The samples of block `k` of a tile with these planes, if it is seen that it has no more than two.
+    /// The samples of block `k` of a tile with these planes, if it is kept in one sample or in two, or if `one_sample`
+    /// finds that it has one.
     #[inline(always)]
     pub fn of(count: SampleCount, k: usize, samples: &[BlockSamples]) -> Option<FlatBlock>
         requires block { k < 64 }
         requires samples { length samples.now ≡ planes_of_tile count }
-        ensures { IfSome result (λ flat. HasFlat count k flat samples.now) }
+        ensures flat { IfSome result (λ flat. HasFlat count k flat samples.now) }
+        ensures some { (way_in_tile samples.now k ≡ AsFlat) ⊎ (way_in_tile samples.now k ≡ AsFlatPair) → IsSome result }
+        ensures one { (sample : CanvasSample) → HasOne count k sample samples.now →
+            (way_in_tile samples.now k ≡ AsCleared) ⊎ (way_in_tile samples.now k ≡ AsSingle) → IsSome result }
     {
         if let Some(sample) = one_sample(count, k, samples) {
             return Some(FlatBlock::one(sample));
@@ -161,7 +170,9 @@ impl FlatBlock {
     }
 
     /// The samples once, where these masks have a bit, `first` has taken the place of the first one, and `second` that of
-    /// the second one, if these are at most two.
+    /// the second one. These are known to be at most two, and are returned, if the masks have all samples of all pixels; or
+    /// if `first` and `second` are the same, and the masks have all that are one of the two before, or one of these is the
+    /// same as before. Else this is `None`.
     #[inline(always)]
     pub fn replaced(
         &self,
@@ -170,7 +181,8 @@ impl FlatBlock {
         first: CanvasSample,
         second: CanvasSample,
     ) -> Option<FlatBlock>
-        ensures { IfSome result (λ flat. IsFlatReplaced count self.now masks.now first second flat) }
+        ensures replaced { IfSome result (λ flat. IsFlatReplaced count self.now masks.now first second flat) }
+        ensures some { IsSome result ↔ StaysFlat count self.now masks.now first second }
     {
         if first != second {
             return if are_full(count, masks) {

@@ -13,7 +13,7 @@ use lanes::BlockSamples;
 /// them few bytes.
 #[inline]
 pub fn has_pairs(count: SampleCount) -> bool
-    ensures { IsTrue result → 4 ≤ count_of count }
+    ensures { IsTrue result ↔ (4 ≤ count_of count) }
 {
     count.count() >= 4
 }
@@ -85,7 +85,7 @@ pub(crate) fn merged(first: &BlockSamples, second: &BlockSamples, mask: u64) -> 
 /// Whether all samples of all pixels are in these masks.
 #[inline(always)]
 pub(crate) fn are_full(count: SampleCount, masks: &[u64; 16]) -> bool
-    ensures { IsTrue result → (s p : ℕ) → s < count_of count → p < 64 → bit_at (slice_index masks.now s) p ≡ 1 }
+    ensures { IsTrue result ↔ ((s p : ℕ) → s < count_of count → p < 64 → bit_at (slice_index masks.now s) p ≡ 1) }
 {
     for s in 0..count.count() as usize {
         if masks[s] != u64::MAX {
@@ -98,8 +98,8 @@ pub(crate) fn are_full(count: SampleCount, masks: &[u64; 16]) -> bool
 /// Whether all bits of a block's masks are in these.
 #[inline(always)]
 pub(crate) fn are_in(count: SampleCount, stored: &[u64; 16], masks: &[u64; 16]) -> bool
-    ensures { IsTrue result → (s p : ℕ) → s < count_of count → p < 64 → bit_at (slice_index stored.now s) p ≡ 1 →
-        bit_at (slice_index masks.now s) p ≡ 1 }
+    ensures { IsTrue result ↔ ((s p : ℕ) → s < count_of count → p < 64 → bit_at (slice_index stored.now s) p ≡ 1 →
+        bit_at (slice_index masks.now s) p ≡ 1) }
 {
     for s in 0..count.count() {
         if stored[s as usize] & !masks[s as usize] != 0 {
@@ -112,8 +112,8 @@ pub(crate) fn are_in(count: SampleCount, stored: &[u64; 16], masks: &[u64; 16]) 
 /// Whether each bit is in a block's masks or in these.
 #[inline(always)]
 pub(crate) fn are_all(count: SampleCount, stored: &[u64; 16], masks: &[u64; 16]) -> bool
-    ensures { IsTrue result → (s p : ℕ) → s < count_of count → p < 64 → bit_at (slice_index masks.now s) p ≢ 1 →
-        bit_at (slice_index stored.now s) p ≡ 1 }
+    ensures { IsTrue result ↔ ((s p : ℕ) → s < count_of count → p < 64 → bit_at (slice_index masks.now s) p ≢ 1 →
+        bit_at (slice_index stored.now s) p ≡ 1) }
 {
     for s in 0..count.count() {
         if stored[s as usize] | masks[s as usize] != u64::MAX {
@@ -168,7 +168,7 @@ pub(crate) fn without(count: SampleCount, stored: &[u64; 16], masks: &[u64; 16])
 
 /// Whether two planes have the same samples. Colours are compared first, since they mostly differ if anything does.
 pub(crate) fn are_same(first: &BlockSamples, second: &BlockSamples) -> bool
-    ensures { IsTrue result → first.now ≡ second.now }
+    ensures { IsTrue result ↔ (first.now ≡ second.now) }
 {
     first.r == second.r
         && first.g == second.g

@@ -1,12 +1,12 @@
 //! Blocks of a tile that are kept in up to four samples.
-ghost use Rattle.std.specs.Prelude.{◌≡◌, ◌≢◌, ◌↔◌, ℕ, ◌+◌, ◌<◌, ◌≤◌, length, slice_index, IsTrue, IfSome};
+ghost use Rattle.std.specs.Prelude.{◌≡◌, ◌≢◌, ◌↔◌, ◌⊎◌, ℕ, ◌+◌, ◌<◌, ◌≤◌, false, length, slice_index, IsTrue, IsSome, IfSome, IfNone};
 ghost use Rattle.std.specs.Int.{bit_at};
 ghost use Rattle.grid.specs.Samples.{count_of};
 ghost use Rattle.lanes.specs.Block.{stored_at};
-ghost use Rattle.canvas.specs.declared.way.Way.TheVariants.{FlatFour as AsFour};
-ghost use Rattle.canvas.specs.Layout.{planes_of_tile, in_list, sample_place, KeepsOtherSamples, KeepsOtherWays};
-ghost use Rattle.canvas.specs.FlatBlocks.{flat_sample};
-ghost use Rattle.canvas.specs.Palettes.{palette_number, sample_numbered, palette_sample, HasPalette, IsGathered, IsPaletteReplaced, HasNumbers, IsSampleStored, AreSamplesStored, KeepsOtherPlaces};
+ghost use Rattle.canvas.specs.declared.way.Way.TheVariants.{Cleared as AsCleared, Single as AsSingle, Flat as AsFlat, FlatPair as AsFlatPair, FlatFour as AsFour};
+ghost use Rattle.canvas.specs.Layout.{planes_of_tile, in_list, sample_place, way_in_tile, KeepsOtherSamples, KeepsOtherWays};
+ghost use Rattle.canvas.specs.FlatBlocks.{flat_sample, HasOne};
+ghost use Rattle.canvas.specs.Palettes.{palette_number, sample_numbered, palette_sample, HasPalette, IsGathered, IsPaletteReplaced, HasNoPalette, HasNumbers, HasNoNumber, IsNewNumber, IsSampleStored, AreSamplesStored, KeepsOtherPlaces};
 
 use crate::flat_block::{FlatBlock, has_bits, spread};
 use crate::pair::{masks_of, merged, set_masks, shared, united, without};
@@ -100,12 +100,17 @@ impl Palette {
         }
     }
 
-    /// The samples of block `k` of a tile with these planes, if it is seen that it has no more than four.
+    /// The samples of block `k` of a tile with these planes, if it is kept in up to four, or if `one_sample` finds that it
+    /// has one.
     #[inline(always)]
     pub fn of(count: SampleCount, k: usize, samples: &[BlockSamples]) -> Option<Palette>
         requires block { k < 64 }
         requires samples { length samples.now ≡ planes_of_tile count }
-        ensures { IfSome result (λ palette. HasPalette count k palette samples.now) }
+        ensures palette { IfSome result (λ palette. HasPalette count k palette samples.now) }
+        ensures some { (way_in_tile samples.now k ≡ AsFlat) ⊎ (way_in_tile samples.now k ≡ AsFlatPair) ⊎
+            (way_in_tile samples.now k ≡ AsFour) → IsSome result }
+        ensures one { (sample : CanvasSample) → HasOne count k sample samples.now →
+            (way_in_tile samples.now k ≡ AsCleared) ⊎ (way_in_tile samples.now k ≡ AsSingle) → IsSome result }
     {
         if way_of(&samples[0], k) == Way::FlatFour {
             return Some(Palette::stored(count, k, samples));
@@ -163,7 +168,8 @@ impl Gathered {
     /// The number of the sample, if it has one.
     #[inline(always)]
     fn found(&self, sample: CanvasSample) -> Option<usize>
-        ensures { IfSome result (λ n. (n < self.now.used) × (sample_numbered self.now.palette.samples n ≡ sample)) }
+        ensures number { IfSome result (λ n. (n < self.now.used) × (sample_numbered self.now.palette.samples n ≡ sample)) }
+        ensures none { IfNone result (HasNoNumber self.now.palette.samples self.now.used sample) }
     {
         for n in 0..self.used {
             if self.palette.samples[n] == sample {
@@ -173,10 +179,13 @@ impl Gathered {
         None
     }
 
-    /// The number of the sample, which is a new one if it has none yet, or `None` if there is no more.
+    /// The number of the sample, which is a new one if it has none yet, or `None` if all four are those of others.
     #[inline(always)]
     fn number(&mut self, sample: CanvasSample) -> Option<usize>
         ensures number { IfSome result (λ n. (n < self.new.used) × (sample_numbered self.new.palette.samples n ≡ sample)) }
+        ensures none { IfNone result ((self.old.used ≡ 4) × HasNoNumber self.old.palette.samples 4 sample) }
+        ensures fresh { (n : ℕ) → self.old.used ≤ n → n < self.new.used →
+            IsNewNumber self.old.palette.samples self.old.used sample self.new.palette.samples n }
         ensures kept { (n : ℕ) → n < self.old.used →
             sample_numbered self.new.palette.samples n ≡ sample_numbered self.old.palette.samples n }
         ensures more { self.old.used ≤ self.new.used }
@@ -217,7 +226,7 @@ impl Gathered {
     }
 
     /// Adds a sample, which is that of all pixels in these masks. These have the number 0 before. Returns whether it has
-    /// a number then, or is that of none.
+    /// a number then, or is that of none; else all four numbers are those of others.
     #[inline(always)]
     fn add(&mut self, count: SampleCount, sample: CanvasSample, masks: &[u64; 16]) -> bool
         requires { (s p : ℕ) → s < count_of count → p < 64 → bit_at (slice_index masks.now s) p ≡ 1 →
@@ -229,6 +238,11 @@ impl Gathered {
         ensures kept { (n : ℕ) → n < self.old.used →
             sample_numbered self.new.palette.samples n ≡ sample_numbered self.old.palette.samples n }
         ensures more { self.old.used ≤ self.new.used }
+        ensures full { result ≡ false → (self.old.used ≡ 4) × HasNoNumber self.old.palette.samples 4 sample }
+        ensures fresh { (n : ℕ) → self.old.used ≤ n → n < self.new.used →
+            IsNewNumber self.old.palette.samples self.old.used sample self.new.palette.samples n }
+        ensures empty { ((s p : ℕ) → s < count_of count → p < 64 → bit_at (slice_index masks.now s) p ≢ 1) →
+            IsTrue result × (self.new.used ≡ self.old.used) }
     {
         if !has_bits(count, masks) {
             return true;
@@ -245,7 +259,7 @@ impl Gathered {
 
 impl Palette {
     /// The samples once, where these masks have a bit, those of `drawn` have taken the place of those of the same
-    /// numbers, if these are at most four.
+    /// numbers, or `None` if these are more than four.
     #[inline(always)]
     pub fn replaced(
         &self,
@@ -253,7 +267,8 @@ impl Palette {
         masks: &[u64; 16],
         drawn: &[CanvasSample; 4],
     ) -> Option<Palette>
-        ensures { IfSome result (λ palette. IsPaletteReplaced count self.now masks.now drawn.now palette) }
+        ensures replaced { IfSome result (λ palette. IsPaletteReplaced count self.now masks.now drawn.now palette) }
+        ensures none { IfNone result (HasNoPalette count self.now masks.now drawn.now) }
     {
         let mut gathered = Gathered::none(self.samples[0]);
         for number in 0..4 {

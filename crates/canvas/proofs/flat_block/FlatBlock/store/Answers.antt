@@ -9,7 +9,7 @@ use Rattle.canvas.proofs.flat_block.FlatBlock.store.Goals as goal
 pub returns-then-not-has_bits-clause-made : goal.returns-then-not-has_bits-clause-made
 returns-then-not-has_bits-clause-made c i j s h here =
     let flat = c.args.self.now in
-    c.make_flat.ensures.made i j s h here ∙ sym (chosen_none (slice_index flat.masks s) (pixel_in_block i j) flat.second flat.first (c.has_bits.ensures c.if-not-has_bits.true s h))
+    c.make_flat.ensures.made i j s h here ∙ sym (chosen_none (slice_index flat.masks s) (pixel_in_block i j) flat.second flat.first (c.has_bits.ensures.0 c.if-not-has_bits.true s h))
 
 pub returns-clause-made : goal.returns-clause-made
 returns-clause-made c =

@@ -11,7 +11,7 @@ pub returns-then-not-has_bits-clause-made : goal.returns-then-not-has_bits-claus
 returns-then-not-has_bits-clause-made c =
     let palette = c.args.self.now in
     let flat : FlatBlock = record { first = sample_numbered palette.samples 0; second = sample_numbered palette.samples 1; masks = palette.low } in
-    has_flat c.args.count c.args.k c.store.new.samples palette flat (λ s p h l. two_samples palette.samples (slice_index palette.low s) p (slice_index palette.high s) (c.has_bits.ensures c.if-not-has_bits.true s h)) c.store.ensures.made
+    has_flat c.args.count c.args.k c.store.new.samples palette flat (λ s p h l. two_samples palette.samples (slice_index palette.low s) p (slice_index palette.high s) (c.has_bits.ensures.0 c.if-not-has_bits.true s h)) c.store.ensures.made
 
 pub returns-clause-made : goal.returns-clause-made
 returns-clause-made c =

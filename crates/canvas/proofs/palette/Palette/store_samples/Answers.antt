@@ -22,4 +22,4 @@ returns-else-has_bits-clause-stored c s p h l =
     let xs = palette.samples in
     let old = c.args.samples.now in
     let three = one_stored count k 2 xs old c.store_sample-2.new.samples c.store_sample-3.new.samples (omega arith) (one_stored count k 1 xs old c.store_sample.new.samples c.store_sample-2.new.samples (omega arith) (one_stored count k 0 xs old old c.store_sample.new.samples (omega arith) (none_stored count k xs old) c.store_sample.ensures) c.store_sample-2.ensures) c.store_sample-3.ensures in
-    three.stored (palette_number palette s p) (no_fourth count palette c.shared.result c.shared.ensures (c.has_bits.ensures c.if-has_bits.false) s p h l)
+    three.stored (palette_number palette s p) (no_fourth count palette c.shared.result c.shared.ensures (c.has_bits.ensures.0 c.if-has_bits.false) s p h l)

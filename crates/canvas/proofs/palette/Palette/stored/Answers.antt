@@ -26,7 +26,7 @@ returns c s p h l =
       | then-has_bits w ↦ w.fourth-is ∙ w.sample-fourth.ensures ∙ ap (λ n. stored_at (f n) k) last
       | else-has_bits w ↦
           absurd
-          (let none = c.has_bits.ensures w.if-has_bits.false s h in
+          (let none = c.has_bits.ensures.0 w.if-has_bits.false s h in
           let both = (c.shared.ensures s p h l).1 (in_low, in_high) in
           let zero = ap (λ m. bit_at m p) none ∙ bit_at-zero p in
           omega (arith, both, zero))

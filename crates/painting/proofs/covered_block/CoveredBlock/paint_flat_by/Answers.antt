@@ -18,7 +18,7 @@ returns-in-Some-clause-painted c true_is =
     let same : c.number-number.result ≡ number_in_tile tile b.bx b.by = c.number-number.ensures.value in
     full_painted b.triangle.now tile b.side b.bx b.by b.block c.args.masks.now c.args.k (b.allows c.requires.whole) (λ s bit h l. c.is_full.ensures c.if-is_full.true s bit (rw c.requires.masks h) l)
     old old new (λ i j s p end h drawn. drawn) (λ i j s h other. refl)
-    (one_painted b.triangle.now tile b.side b.bx b.by b.block sample made old new (subst (λ n. HasOne n (number_in_tile tile b.bx b.by) sample old) c.requires.count (subst (λ k. HasOne c.args.count k sample old) same c.in-Some.ensures)) c.drawn.ensures
+    (one_painted b.triangle.now tile b.side b.bx b.by b.block sample made old new (subst (λ n. HasOne n (number_in_tile tile b.bx b.by) sample old) c.requires.count (subst (λ k. HasOne c.args.count k sample old) same c.in-Some.ensures.one)) c.drawn.ensures
     (subst (λ n. HasOne n (number_in_tile tile b.bx b.by) made new) c.requires.count (subst (λ k. HasOne c.args.count k made new) same c.make_flat.ensures.made)) (subst (λ n. KeepsOtherSamples n (number_in_tile tile b.bx b.by) old new) c.requires.count (subst (λ k. KeepsOtherSamples c.args.count k old new) same c.make_flat.ensures.others)))
 
 pub returns-in-Some-flat_drawn-clause-painted : goal.returns-in-Some-flat_drawn-clause-painted
@@ -33,7 +33,7 @@ returns-in-Some-flat_drawn-clause-painted c true_is =
     let words = c.words-words.result in
     let same : c.number-number.result ≡ number_in_tile tile b.bx b.by = c.number-number.ensures.value in
     words_painted b.triangle.now tile b.bx b.by b.block c.args.masks.now c.args.k (b.allows c.requires.whole) words (λ s h. c.words-words.ensures s (rw c.requires.masks h)) old new
-    (flat_painted b.triangle.now tile b.side b.bx b.by b.block words flat drawn is.0 is.1 old new (subst (λ n. HasFlat n (number_in_tile tile b.bx b.by) flat old) c.requires.count (subst (λ k. HasFlat c.args.count k flat old) same c.in-Some-of.ensures)) is.2 is.3 is.4
+    (flat_painted b.triangle.now tile b.side b.bx b.by b.block words flat drawn is.0 is.1 old new (subst (λ n. HasFlat n (number_in_tile tile b.bx b.by) flat old) c.requires.count (subst (λ k. HasFlat c.args.count k flat old) same c.in-Some-of.ensures.flat)) is.2 is.3 is.4
     (subst (λ n. HasFlat n (number_in_tile tile b.bx b.by) drawn new) c.requires.count (subst (λ k. HasFlat c.args.count k drawn new) same c.store.ensures.made)) (subst (λ n. KeepsOtherSamples n (number_in_tile tile b.bx b.by) old new) c.requires.count (subst (λ k. KeepsOtherSamples c.args.count k old new) same c.store.ensures.others)))
 
 pub returns-clause-painted : goal.returns-clause-painted

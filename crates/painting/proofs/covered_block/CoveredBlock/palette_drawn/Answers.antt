@@ -8,4 +8,4 @@ pub returns : goal.returns
 returns c =
     let t = c.args.self.now.triangle.now in
     let drawn = c.drawn-made.result ∷ c.drawn_beside.result ∷ c.drawn_beside-2.result ∷ c.drawn_beside-3.result ∷ [] in
-    IfSome_then c.replaced.result c.replaced.ensures (λ (made : Palette) is. (drawn, each_drawn t c.args.palette.now.samples drawn c.drawn-made.ensures c.drawn_beside.ensures c.drawn_beside-2.ensures c.drawn_beside-3.ensures, is))
+    IfSome_then c.replaced.result c.replaced.ensures.replaced (λ (made : Palette) is. (drawn, each_drawn t c.args.palette.now.samples drawn c.drawn-made.ensures c.drawn_beside.ensures c.drawn_beside-2.ensures c.drawn_beside-3.ensures, is))
