@@ -19,7 +19,7 @@ from matplotlib.path import Path
 from matplotlib.transforms import Bbox, IdentityTransform
 
 from trirast import Canvas
-from trirast.matplotlib import FigureCanvasTrirast, RendererTrirast, _corners, _inside, _polygons
+from trirast.matplotlib import FigureCanvasTrirast, RendererTrirast, _colors, _corners, _inside, _polygons
 
 from . import neighbours
 
@@ -78,7 +78,8 @@ class EqualToAgg(unittest.TestCase):
                 boxes = [Rectangle(corner, 0.1, 0.07) for corner in corners]
                 axes.add_collection(PatchCollection(boxes, facecolor=colors(9, 0.6), linewidth=width, edgecolor="red"))
 
-            # Half transparent colours are rounded to the nearest byte here, and down by Agg.
+            # Bars and boxes lie on one another, where half transparent colours are rounded to the nearest byte here,
+            # and down by Agg.
             self.assertLessEqual(differences(draw).max(), 2, width)
 
     def test_clip_rectangle(self) -> None:
@@ -104,7 +105,7 @@ class EqualToAgg(unittest.TestCase):
                 self.assertGreater(unlike(pictures[0], 255), 3000)
                 difference = np.abs(pictures[0] - pictures[1])
                 # The left side is slanted.
-                self.assertLessEqual(int(difference[:, 26:].max()), 1)
+                self.assertEqual(int(difference[:, 26:].max()), 0)
                 self.assertLess(int(difference.max()), 24)
 
     def test_hidden_faces(self) -> None:
@@ -117,6 +118,57 @@ class EqualToAgg(unittest.TestCase):
         self.check(
             lambda axes: axes.add_collection(PolyCollection(stars(20), facecolors=colors(20, 0.5), edgecolors="k"))
         )
+
+
+class Translucent(unittest.TestCase):
+    """Agg rounds blends down, and a canvas to the nearest."""
+
+    def test_away_from_edges_they_are_agg_s(self) -> None:
+        for name, plot in neighbours.PLOTS.items():
+            far = ~neighbours.near_edges(plot, FigureCanvasAgg)
+            self.assertGreater(int(far.sum()), 10000, name)
+            agg, ours = (neighbours.drawn(lambda axes: plot(axes, neighbours.many_colors(0.5)), each) for each in BOTH)
+            self.assertEqual(int((agg != ours)[far].sum()), 0, name)
+
+    def test_on_other_grounds(self) -> None:
+        """Of each axes its own, also where something else is drawn in between, or faces wait that make the ground."""
+        for ground in ("black", "0.9", (0.92, 0.92, 0.95), (0.2, 0.25, 0.3)):
+
+            def draw(axes: Any) -> None:
+                axes.add_patch(Rectangle((-0.1, -0.1), 1.2, 1.2, facecolor=ground, snap=False))
+                for n, color in enumerate(colors(8, 0.4)):
+                    left = 0.04 + 0.115 * n
+                    corners = [(left, 0.1), (left + 0.1, 0.15), (left + 0.1, 0.9), (left, 0.8)]
+                    axes.add_patch(Polygon(corners, facecolor=color, zorder=2 * n + 2))
+                    axes.axhline(0.95, zorder=2 * n + 3)
+
+            agg, ours = (drawn(draw, canvas) for canvas in BOTH)
+            inside = np.s_[100:170, 40:280]
+            differ = (agg != ours)[inside].any(2).mean(0)
+            # Columns with an upright side of a polygon alone.
+            self.assertLess(int((differ > 0).sum()), 18, ground)
+            self.assertGreater(len(np.unique(ours[inside].reshape(-1, 4), axis=0)), 8)
+
+    def test_colors_for_a_ground(self) -> None:
+        """What a canvas makes of them there is what Agg makes of the given ones, over channels of 0 and from 123 on.
+        Opaque and clear ones stay."""
+        alpha, color = (each.ravel() for each in np.mgrid[:256, :256])
+        given = np.stack((color, 255 - color, color // 2, alpha), 1).astype(np.uint8)
+        for channels in ((255, 255, 255), (0, 0, 0), (229, 229, 229), (123, 124, 125), (0, 123, 200)):
+            ground = (*channels, 255)
+            found = _colors.as_agg_blends(given, np.array(ground, np.uint8))
+            laid = (alpha > 0) & (alpha < 255)
+            self.assertTrue((found[~laid] == given[~laid]).all())
+            c, a, p = (each.astype(int) for each in (given[laid, :3], given[laid, 3:], np.array(ground[:3])))
+            corners = np.array([(0, 0), (256, 0), (256, 256), (0, 256)], np.int32)
+            d, b = found[laid, :3].astype(int), found[laid, 3:].astype(int)
+            by_canvas = (b * d + (255 - b) * p + 127) // 255
+            self.assertTrue((by_canvas == (256 * a * c + 255 * (256 - a) * p) // (65280 + a)).all(), ground)
+            self.assertLessEqual(int(np.abs(b - a).max()), 1)
+            canvas = Canvas(2, 1, 1)
+            canvas.clear(ground)
+            canvas.draw_polygons(corners, [4], [1], [found[laid][1000].tolist()], blend="over")
+            self.assertEqual(canvas.rgba()[0, 0, :3].tolist(), by_canvas[1000].tolist())
 
 
 class NearAgg(unittest.TestCase):
@@ -293,7 +345,8 @@ class Transparent(unittest.TestCase):
         )
 
     def test_over_white_they_are_opaque_figures(self) -> None:
-        """Apart from roundings, of which Agg's own strokes over clear pixels have most."""
+        """Apart from roundings, of which Agg's own strokes over clear pixels have most: by Agg these differ by 2.8, and
+        over white faces are rounded down as by Agg."""
         draws: List[Draws] = [
             lambda axes: axes.add_patch(Circle((0.5, 0.5), 0.3, facecolor=(1, 0.5, 0, 0.3), edgecolor="k")),
             lambda axes: axes.add_collection(PolyCollection(stars(9), facecolors=colors(9, 0.5))),
@@ -310,8 +363,8 @@ class Transparent(unittest.TestCase):
             self.assertGreater(unlike(opaque, np.uint8(255)), 4000)
             self.assertEqual(clear[0, 0].tolist(), [255, 255, 255, 0])
             difference = np.abs(over_white(clear) - opaque[..., :3]).max(2)
-            self.assertLess(difference.max(), 3, number)
-            self.assertLess(int((difference > 2).sum()), 100, number)
+            self.assertLess(difference.max(), 4, number)
+            self.assertLess(int((difference > 2).sum()), 250, number)
 
     def test_pixels_without_a_face_keep_their_bytes(self) -> None:
         """Also those that samples with alpha do not hold exactly, in the bounds of a face."""

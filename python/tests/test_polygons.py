@@ -91,6 +91,21 @@ class Polygons(unittest.TestCase):
         canvas.draw_polygons([], [], [])
         canvas.draw_polygons([], [0], [1])
 
+    def test_offsets_with_a_colour_for_each_polygon(self) -> None:
+        """There is one polygon more than colours then."""
+        canvas = Canvas(4, 4)
+        corners, rings, polygons = flat([[SQUARE], [SQUARE]])
+        for offsets, names in (
+            (([0, *rings], [0, *polygons]), "ring_ends and polygon_ends begin"),
+            ((rings, [0, *polygons]), "polygon_ends begins"),
+        ):
+            with self.assertRaisesRegex(
+                ValueError, f"^colors: 3 rows, and not 2; {names} with 0: leave the leading 0 of offsets out$"
+            ):
+                canvas.draw_polygons(corners, *offsets, [(1, 2, 3), (4, 5, 6)])
+        with self.assertRaisesRegex(ValueError, "^colors: 2 rows, and not 3$"):
+            canvas.draw_polygons(corners, rings, polygons, [(1, 2, 3)] * 3)
+
     def test_what_is_refused(self) -> None:
         canvas = Canvas(4, 4)
         canvas.clear()

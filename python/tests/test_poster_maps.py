@@ -114,7 +114,9 @@ def scene(folder: Any, value: Any, style: Any) -> poster.Scene:
             r"a Polygon has rings of positions: there is one level of brackets too many$",
         ),
         ({"type": "Polygon", "coordinates": [7]}, {}, "a longitude and a latitude, and not 7; .* is missing$"),
-        ({"type": "Polygon", "coordinates": [[[]]]}, {}, r"a longitude and a latitude, and not \[\[\]\]$"),
+        ({"type": "Polygon", "coordinates": [[[]]]}, {}, r"a longitude and a latitude, and not \[\]$"),
+        (polygon([*SQUARE, [13.7], [1]]), {}, r"polygon 0, ring 0: positions of .*, and not \[13.7\]$"),
+        (polygon([*SQUARE, ["x", 5]]), {}, r"polygon 0, ring 0: positions of .*, and not \['x', 5\]$"),
         ({**feature(polygon([*SQUARE, [1, 91]])), "id": 7}, {}, r"feature 0 \(counted from 0, id 7\): a longitude"),
         ({**feature(polygon([[1, 1]])), "id": "DE"}, {}, r"feature 0 \(counted from 0, id 'DE'\), polygon 0"),
         # Places.

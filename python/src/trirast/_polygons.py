@@ -29,8 +29,13 @@ def polygons_of(
     of_polygons = indices_of("polygon_ends", polygon_ends, index_columns(1))
     count = len(of_polygons) // END_BYTES
     filled = bytearray(COLOR_BYTES * count)
-    put_colors(filled, count, colors, COLOR, COLOR_BYTES)
-    depths = b"" if depth is None else depths_of(depth, count)
+    try:
+        put_colors(filled, count, colors, COLOR, COLOR_BYTES)
+        depths = b"" if depth is None else depths_of(depth, count)
+    except ValueError as error:
+        # With a leading 0 there is one polygon more than colours.
+        ends = (memoryview(each).cast("I") for each in (of_rings, of_polygons))
+        raise ValueError(f"{error}{leading_zero(*ends)}") from None
     made = CPolygons(
         0, rule, address_of(packed), places.count, address_of(of_rings), len(of_rings) // END_BYTES,
         address_of(of_polygons), count, address_of(filled), count, address_of(depths), len(depths) // DEPTH_BYTES,

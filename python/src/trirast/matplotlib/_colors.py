@@ -9,6 +9,8 @@ import numpy as np
 from ._inside import face_alpha
 from ._transforms import cycled
 
+OPAQUE = 255
+
 
 def face_bytes(gc: Any, color: Any) -> Any:
     """A face's colour in four bytes, which may be clear."""
@@ -41,6 +43,26 @@ def bytes_of(colors: Any) -> Any:
         np.clip(scaled, 0, 255, out=scaled)
     scaled += 0.5
     return scaled.astype(np.uint8)
+
+
+def as_agg_blends(colors: Any, ground: Any) -> Any:
+    """Colours that a canvas, which rounds to the nearest, lays over an opaque ground with the bytes that Agg, which
+    rounds down (`fixed_blender_rgba_plain`), makes of the given ones there. Each is as near to the given one as can be,
+    or is that itself where there is none."""
+    color, alpha = colors[:, :3].astype(np.int32), colors[:, 3:].astype(np.int32)
+    below = ground[:3].astype(np.int32)
+    wanted = (256 * alpha * color + OPAQUE * (256 - alpha) * below) // (256 * OPAQUE + alpha)
+    is_laid = (alpha > 0) & (alpha < OPAQUE)
+    found = colors.copy()
+    # Where a face without light is too light, it covers the ground by one more. The given alpha wins, if it can.
+    for covering in (np.minimum(alpha + 1, OPAQUE), np.maximum(alpha, 1)):
+        rest = OPAQUE * wanted - (OPAQUE - covering) * below
+        # What times `covering` is within 127 of the rest, so that it is rounded to what is wanted.
+        low, high = np.maximum(-((127 - rest) // covering), 0), np.minimum((rest + 127) // covering, OPAQUE)
+        fits = is_laid & (low <= high).all(1, keepdims=True)
+        np.copyto(found[:, :3], np.clip(color, low, high), where=fits, casting="unsafe")
+        np.copyto(found[:, 3:], covering, where=fits, casting="unsafe")
+    return found
 
 
 def rows_of_colors(colors: Any) -> Any:

@@ -9,8 +9,9 @@ import numpy as np
 from numpy.typing import NDArray
 
 from .._canvas import Canvas
+from ._colors import OPAQUE
 from ._mesh import Gouraud
-from ._triangles import OPAQUE, Box, bounds_of, is_near
+from ._triangles import Box, bounds_of, is_near
 
 # A canvas of this side takes 103 MB with four samples a pixel. With more of them it has half of this side.
 MAX_SIDE = 2048

@@ -12,7 +12,7 @@ from .._arguments import flag, integer, thread_count
 from .._patterns import COUNTS, PATTERNS
 from ._clips import Clips, clip_box
 from ._collection import Collection, rounds_in_order
-from ._colors import byte_of, color_bytes, edge_alpha, edges_of, face_bytes
+from ._colors import OPAQUE, byte_of, color_bytes, edge_alpha, edges_of, face_bytes
 from ._drawing import Pixels, draw_triangles
 from ._inside import HIDDEN, face_alpha, faces_have_their_alpha, take_grids
 from ._items import Faces, Items, faces_of, quad_faces
@@ -23,7 +23,6 @@ from ._rounds import have_common_sides, reach_of, rounds_of
 from ._samples import Samples
 from ._transforms import cycled, placed, unmasked
 from ._triangles import Box, Points, Triangles
-from ._window import OPAQUE
 
 # Its functions have no types.
 ma: Any = np.ma

@@ -7,15 +7,18 @@ from typing import Any, Callable, Dict, List, NamedTuple, Optional, Tuple
 
 import numpy as np
 
-from ._polygons import UNIT, Polygons, together
+from ._colors import OPAQUE, as_agg_blends
 from ._mesh import Gouraud
+from ._polygons import UNIT, Polygons, together
 from ._triangles import Box, bounds_of
-from ._window import OPAQUE, Clip, Window
+from ._window import Clip, Window
 
 # A canvas of this side takes up to 409 MB with 16 samples, as far as it is drawn upon.
 MAX_SIDE = 2048
 # The farthest corner of a window.
 MAX_ORIGIN = 28672
+# Of so many pixels in both directions one is looked at where the colour of most is asked for.
+STEP = 7
 
 
 class Waiting(NamedTuple):
@@ -49,11 +52,14 @@ class Samples:
         self._windows: Dict[Tuple[int, int, bool], Window] = {}
         self._waiting: List[Waiting] = []
         self._is_opaque = False
+        # What boxes showed before the first translucent polygon was drawn inside of them, as axes their background.
+        self._grounds: Dict[Box, Any] = {}
 
     def forget(self) -> None:
         """Drops what waits and all samples: the picture was cleared."""
         self._waiting = []
         self._is_opaque = False
+        self._grounds = {}
         for window in self._windows.values():
             window.forget()
 
@@ -88,8 +94,11 @@ class Samples:
     def add(self, polygons: Polygons, colors: Any, box: Box, clip: Optional[Clip] = None) -> None:
         """Draws polygons in their order inside of a box, each in its colour of four bytes."""
         has_alpha = self._needs_alpha(box)
-        if self._waiting and self._waiting[-1].has_alpha != has_alpha:
+        is_first = not has_alpha and box not in self._grounds and is_translucent(colors)
+        if is_first or (self._waiting and self._waiting[-1].has_alpha != has_alpha):
             self.flush()
+        if is_first:
+            self._grounds[box] = color_of_most(self._picture[box.top : box.bottom, box.left : box.right])
         self._waiting.append(Waiting(polygons, colors, box, clip, has_alpha))
 
     def _needs_alpha(self, box: Box) -> bool:
@@ -102,7 +111,7 @@ class Samples:
         """Draws what waits into the picture."""
         if not self._waiting:
             return
-        waiting, self._waiting = merged(self._waiting), []
+        waiting, self._waiting = [self._as_drawn(each) for each in merged(self._waiting)], []
         bounds = [each.bounds for each in waiting]
         for window in self._met(around([each for each in bounds if not each.is_empty]), waiting[0].has_alpha):
             box = common(window.box, around([each for each in bounds if meet(each, window.box)]))
@@ -111,6 +120,12 @@ class Samples:
                 if meet(its_bounds, box):
                     window.draw(each.polygons, each.colors, each.box, each.clip)
             window.end(box)
+
+    def _as_drawn(self, each: Waiting) -> Waiting:
+        """Polygons with colours that make Agg's bytes of the ground that their box had."""
+        if each.has_alpha or each.box not in self._grounds or not is_translucent(each.colors):
+            return each
+        return each._replace(colors=as_agg_blends(each.colors, self._grounds[each.box]))
 
     def draw_triangles(self, triangles: Gouraud, box: Box, clip: Optional[Clip]) -> None:
         """Draws triangles in their order inside of a box of opaque pixels."""
@@ -146,6 +161,18 @@ def is_all_opaque(pixels: Any) -> bool:
     if sys.byteorder == "little":
         return bool(pixels.view(np.uint32).min() >= OPAQUE << 24)
     return bool((pixels[..., 3] == OPAQUE).all())
+
+
+def is_translucent(colors: Any) -> bool:
+    """Whether one of some colours is not opaque."""
+    return bool(colors[:, 3].min(initial=OPAQUE) < OPAQUE)
+
+
+def color_of_most(pixels: Any) -> Any:
+    """The colour of most of some pixels, by those of every seventh row and column."""
+    some = np.ascontiguousarray(pixels[::STEP, ::STEP]).view(np.uint32)
+    values, counts = np.unique(some, return_counts=True)
+    return values[counts.argmax()].reshape(1).view(np.uint8)
 
 
 def merged(waiting: List[Waiting]) -> List[Waiting]:

@@ -10,10 +10,9 @@ import numpy as np
 from numpy.typing import NDArray
 
 from .._vertices import VERTEX
-from ._colors import bytes_of
+from ._colors import OPAQUE, bytes_of
 
 UNIT = 256
-OPAQUE = 255
 # The farthest position from a window's corner that is drawn without a cut, in pixels. The guard band ends at 32,768.
 REACH = 32767.0
 # The triangles of a batch, and the vertices that are made at once, which stay in a processor's caches.

@@ -9,6 +9,7 @@ import numpy as np
 from .._canvas import TILE_SIZE, Canvas
 from .._records import LOW
 from .._tile_rows import TileRows
+from ._colors import OPAQUE
 from ._corners import triangles_of, vertices_of_corners
 from ._polygons import UNIT, Polygons
 from ._triangles import Batch, Box
@@ -16,7 +17,6 @@ from ._triangles import Batch, Box
 # The changed runs of pixels of a tile row that are loaded one by one. More of them are loaded with all of their row.
 MAX_RUNS = 2048
 MAX_DEPTH = 65535
-OPAQUE = 255
 ALPHA = np.array((0, 0, 0, OPAQUE), np.uint8).view(np.uint32)[0]
 
 

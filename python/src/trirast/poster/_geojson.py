@@ -183,13 +183,24 @@ def ring_of(ring: Any, where: str, levels: str) -> Places:
     if ring != [] and (found.shape != (count, 2) or found.dtype.kind not in "iuf"):
         depth = depth_of(ring)
         level = "one level of brackets is missing" if depth < OF_RING else "there is one level of brackets too many"
+        odd = odd_in(ring) if depth == OF_RING else ring
         raise MapError(
-            f"{where}: positions of a longitude and a latitude, and not {shown(ring)}"
+            f"{where}: positions of a longitude and a latitude, and not {shown(odd)}"
             + f"; {levels}: {level}" * (depth != OF_RING)
         )
     if not has_different(ring, FEWEST):
         raise MapError(f"{where}: {FEWEST} different positions or more, and not {shown(ring)}")
     return found.astype(np.float64)
+
+
+def odd_in(ring: Sequence[Any]) -> Any:
+    """The first of a ring that is no position, or the ring if all are."""
+    return next((place for place in ring if not is_position(place)), ring)
+
+
+def is_position(place: Any) -> bool:
+    numbers = place[:2] if isinstance(place, list) else ()
+    return len(numbers) == 2 and all(isinstance(number, (int, float)) for number in numbers)
 
 
 def depth_of(value: Any) -> int:
