@@ -3,7 +3,7 @@ use Rattle.std.proofs.Common.{◌≡◌, inl, inr, refl, sym, subst, ap, ◌∙�
 use Rattle.std.specs.Int.{bit_at}
 use Rattle.std.specs.Simd.Lanes.{Each1, zip2, mask_l, top, number_l, chunk, put_chunk}
 use Rattle.std.proofs.lemmas.Simd.{tops_compared, length-zip2, get_or-zip2, mask_l-mod, bit_mask_l, put_chunk_whole, length-chunk, get_or-chunk}
-use Rattle.std.proofs.lemmas.List.{get_or_append_left, get_or-append-add, get_or-take, get_or-drop}
+use Rattle.std.proofs.lemmas.List.{get_or_past, get_or_append_left, get_or-append-add, get_or-take, get_or-drop}
 use lib.Seq.{length-take-le}
 use mir.Val.{bits, hbits}
 use borrow.Rule.Slice.PartMut.{mid_of, put_mid}
@@ -44,6 +44,20 @@ bit_of_test w t n v u f g few a b i h =
     let long = length-zip2 t v u (p ∙ sym q) ∙ p in
     ap (λ ms. bit_at (mask_l ms % 2 ^ 64) i) (tops_compared w t v u) ∙ ap (λ m. bit_at m i) (mask_l-mod (zip2 t v u) 64 (omega (arith, long, few))) ∙ bit_mask_l (zip2 t v u) i
     ∙ ap (λ m. cond {A = ℕ} m 1 0) (get_or-zip2 t v u i 0 0 false (omega (arith, p, h)) (omega (arith, q, h)) ∙ (λ k. t (a.each i h k) (b.each i h k)))
+
+-- no bit, if the test holds in no lane
+pub no_lane : (w : Width) (t : ℕ → ℕ → Bool) (n : ℕ) (v u : List ℕ) (f g : ℕ → ℕ) → n ≤ 64 → AreLanes n v f → AreLanes n u g → ((i : ℕ) → i < n → t (f i) (g i) ≡ false)
+    → mask_l (map (top (hbits w)) (zip2 (λ a b. cond (t a b) (2 ^ bits w - 1) 0) v u)) % 2 ^ 64 ≡ 0
+no_lane w t n v u f g few a b none =
+    let p = a.long in
+    let q = b.long in
+    let long = length-zip2 t v u (p ∙ sym q) ∙ p in
+    same_from_bits_below 64 _ 0 (omega arith) (omega arith) (λ i _. elim (cases_lt i n) [
+      | inl l ↦ bit_of_test w t n v u f g few a b i l ∙ ap (λ m. cond {A = ℕ} m 1 0) (none i l) ∙ sym (bit_at-zero i)
+      | inr l ↦
+          ap (λ ms. bit_at (mask_l ms % 2 ^ 64) i) (tops_compared w t v u) ∙ ap (λ m. bit_at m i) (mask_l-mod (zip2 t v u) 64 (omega (arith, long, few))) ∙ bit_mask_l (zip2 t v u) i
+          ∙ ap (λ m. cond {A = ℕ} m 1 0) (get_or_past (zip2 t v u) i false (omega (arith, long, l))) ∙ sym (bit_at-zero i)
+    ])
 
 -- ---- n numbers of a list
 -- those of a part that was set

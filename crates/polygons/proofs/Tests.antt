@@ -11,6 +11,9 @@ use Rattle.polygons.specs.Crossing.{is_crossed_down, is_crossed_up}
 pub le_yes : (x y : ℤ) → x ≤ℤ y → int_le x y ≡ true
 le_yes x y h = grind (arith, ints)
 
+pub le_is : (x y : ℤ) → int_le x y ≡ true → x ≤ℤ y
+le_is x y h = grind (arith, ints)
+
 pub le_no : (x y : ℤ) → y <ℤ x → int_le x y ≡ false
 le_no x y h = grind (arith, ints)
 

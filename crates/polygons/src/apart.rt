@@ -1,5 +1,5 @@
 //! Edges that are crossed at no sample of a strip.
-ghost use Rattle.std.specs.Prelude.{ℕ, ◌+◌, ◌*◌, ◌<◌, pos, ◌+ℤ◌, ◌*ℤ◌, ◌≤ℤ◌, IsTrue};
+ghost use Rattle.std.specs.Prelude.{◌↔◌, ℕ, ◌+◌, ◌*◌, ◌<◌, pos, ◌+ℤ◌, ◌*ℤ◌, ◌≤ℤ◌, IsTrue};
 ghost use Rattle.polygons.specs.Apart.{IsAbove, IsBelow, IsRight, IsApart, LiesBeside};
 ghost use Rattle.polygons.specs.Screen.{IsPixelInBand};
 
@@ -12,7 +12,7 @@ use crate::strip::Strip;
 #[inline(always)]
 fn is_above(a: i32, b: i32, row: i32) -> bool
     requires { IsPixelInBand row }
-    ensures { IsTrue result → ((a ≤ℤ (pos 256 *ℤ row)) × (b ≤ℤ (pos 256 *ℤ row))) }
+    ensures { IsTrue result ↔ ((a ≤ℤ (pos 256 *ℤ row)) × (b ≤ℤ (pos 256 *ℤ row))) }
 {
     a.max(b) <= 256 * row
 }
@@ -21,7 +21,7 @@ fn is_above(a: i32, b: i32, row: i32) -> bool
 #[inline(always)]
 fn is_below(a: i32, b: i32, row: i32) -> bool
     requires { IsPixelInBand row }
-    ensures { IsTrue result → (((pos 256 *ℤ row +ℤ pos 16384) ≤ℤ a) × ((pos 256 *ℤ row +ℤ pos 16384) ≤ℤ b)) }
+    ensures { IsTrue result ↔ (((pos 256 *ℤ row +ℤ pos 16384) ≤ℤ a) × ((pos 256 *ℤ row +ℤ pos 16384) ≤ℤ b)) }
 {
     256 * row + 16384 <= a.min(b)
 }
@@ -30,7 +30,7 @@ fn is_below(a: i32, b: i32, row: i32) -> bool
 #[inline(always)]
 fn is_left(x: i32, column: i32) -> bool
     requires { IsPixelInBand column }
-    ensures { IsTrue result → x ≤ℤ (pos 256 *ℤ column) }
+    ensures { IsTrue result ↔ (x ≤ℤ (pos 256 *ℤ column)) }
 {
     x <= 256 * column
 }
@@ -39,7 +39,7 @@ fn is_left(x: i32, column: i32) -> bool
 #[inline(always)]
 fn is_right(x: i32, column: i32, columns: usize) -> bool
     requires { IsPixelInBand column }
-    ensures { IsTrue result → (k : ℕ) → k < 8 * columns → (pos 256 *ℤ column +ℤ pos (256 * (k + 1))) ≤ℤ x }
+    ensures { IsTrue result ↔ ((k : ℕ) → k < 8 * columns → (pos 256 *ℤ column +ℤ pos (256 * (k + 1))) ≤ℤ x) }
 {
     let (pixel, _) = divide(i64::from(x), 256);
     let right = pixel - i64::from(column);
@@ -49,7 +49,7 @@ fn is_right(x: i32, column: i32, columns: usize) -> bool
 /// Whether the edge is above the strip.
 #[inline(always)]
 fn runs_above(edge: &Edge, strip: &Strip) -> bool
-    ensures { IsTrue result → IsAbove edge.now strip.now }
+    ensures { IsTrue result ↔ IsAbove edge.now strip.now }
 {
     is_above(edge.a.y(), edge.b.y(), strip.row)
 }
@@ -57,7 +57,7 @@ fn runs_above(edge: &Edge, strip: &Strip) -> bool
 /// Whether the edge is below the strip.
 #[inline(always)]
 fn runs_below(edge: &Edge, strip: &Strip) -> bool
-    ensures { IsTrue result → IsBelow edge.now strip.now }
+    ensures { IsTrue result ↔ IsBelow edge.now strip.now }
 {
     is_below(edge.a.y(), edge.b.y(), strip.row)
 }
@@ -65,7 +65,7 @@ fn runs_below(edge: &Edge, strip: &Strip) -> bool
 /// Whether the edge is right of the strip's columns of blocks.
 #[inline(always)]
 fn runs_right(edge: &Edge, strip: &Strip, columns: usize) -> bool
-    ensures { IsTrue result → IsRight edge.now strip.now columns }
+    ensures { IsTrue result ↔ IsRight edge.now strip.now columns }
 {
     let (a, b) = (edge.a.x(), edge.b.x());
     is_right(a.min(b), strip.column, columns)
@@ -74,7 +74,7 @@ fn runs_right(edge: &Edge, strip: &Strip, columns: usize) -> bool
 /// Whether the edge is above the strip, below it, or right of its columns of blocks.
 #[inline(always)]
 pub(crate) fn is_apart(edge: &Edge, strip: &Strip, columns: usize) -> bool
-    ensures { IsTrue result → IsApart edge.now strip.now columns }
+    ensures { IsTrue result ↔ IsApart edge.now strip.now columns }
 {
     runs_above(edge, strip) || runs_below(edge, strip) || runs_right(edge, strip, columns)
 }

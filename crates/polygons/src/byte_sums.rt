@@ -1,6 +1,6 @@
 //! The sums of a word's rows in lanes of a byte, one for each cell, if the sums before are from -64 to 63 and the numbers
 //! of cells from -8 to 8. Then each sum of up to eight of these is from -128 to 127, and what it is modulo 256 says which.
-ghost use Rattle.std.specs.Prelude.{◌≡◌, ℕ, ◌+◌, ◌-◌, ◌*◌, ◌/◌, ◌%◌, ◌^◌, ◌<◌, ◌≤◌, ◌==◌, ltb, cond, length, slice_index, IsTrue, IfSome, IfNone};
+ghost use Rattle.std.specs.Prelude.{◌≡◌, ◌↔◌, ℕ, ◌+◌, ◌-◌, ◌*◌, ◌/◌, ◌%◌, ◌^◌, ◌<◌, ◌≤◌, ◌==◌, ltb, cond, length, slice_index, IsTrue, IsSome, IfSome, IfNone};
 ghost use Rattle.polygons.specs.Cells.{in_use};
 ghost use Rattle.polygons.specs.Summing.{run, number_in, AreInBytes, IsSummed};
 ghost use Rattle.std.specs.Int.{bit_at};
@@ -43,8 +43,8 @@ fn sum_rows(numbers: u8x64) -> u8x64
 fn counter_byte(counters: &Counters, word: usize, i: usize) -> Option<u8>
     requires word { word < 32 }
     requires bit { i < 64 }
-    ensures { IfSome result (λ byte. ((slice_index counters.now (64 * word + i) + 7) % 2 ^ 32 ≤ 14) ×
-        (byte ≡ slice_index counters.now (64 * word + i) % 256)) }
+    ensures some { IsSome result ↔ ((slice_index counters.now (64 * word + i) + 7) % 2 ^ 32 ≤ 14) }
+    ensures value { IfSome result (λ byte. byte ≡ slice_index counters.now (64 * word + i) % 256) }
 {
     let counter = counters[64 * word + i];
     if counter.wrapping_add(7) > 14 {
@@ -57,7 +57,9 @@ fn counter_byte(counters: &Counters, word: usize, i: usize) -> Option<u8>
 #[inline(always)]
 fn counter_bytes(more: u64, counters: &Counters, word: usize) -> Option<[u8; 64]>
     requires { word < 32 }
-    ensures { IfSome result (AreInBytes 7 (λ i. in_use (bit_at more i) (slice_index counters.now (64 * word + i)))) }
+    ensures some { IsSome result ↔ ((i : ℕ) → i < 64 →
+        (in_use (bit_at more i) (slice_index counters.now (64 * word + i)) + 7) % 2 ^ 32 ≤ 14) }
+    ensures value { IfSome result (AreInBytes 7 (λ i. in_use (bit_at more i) (slice_index counters.now (64 * word + i)))) }
 {
     let mut bytes = [0; 64];
     let mut done = 0;
@@ -103,7 +105,7 @@ fn sums_of(sums: &Sums, word: usize) -> u32x8
 #[inline(always)]
 fn are_small(sums: u32x8) -> bool
     requires { length sums ≡ 8 }
-    ensures { IsTrue result → (r : ℕ) → r < 8 → (slice_index sums r + 64) % 2 ^ 32 < 128 }
+    ensures { IsTrue result ↔ ((r : ℕ) → r < 8 → (slice_index sums r + 64) % 2 ^ 32 < 128) }
 {
     (sums + u32x8::splat(64))
         .simd_ge(u32x8::splat(128))
@@ -167,6 +169,8 @@ pub(crate) fn sum_bytes(
     sums: &mut Sums,
 ) -> Option<u64>
     requires { word < 32 }
+    ensures some { IsSome result ↔ (((r : ℕ) → r < 8 → (slice_index sums.old (8 * word + r) + 64) % 2 ^ 32 < 128) ×
+        ((i : ℕ) → i < 64 → (in_use (bit_at marks.more i) (slice_index counters.now (64 * word + i)) + 7) % 2 ^ 32 ≤ 14)) }
     ensures summed { IfSome result (IsSummed (number_in marks counters.now word) word sums.old sums.new) }
     ensures same { IfNone result (sums.new ≡ sums.old) }
 {

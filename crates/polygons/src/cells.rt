@@ -102,6 +102,7 @@ pub(crate) fn is_clear(
     requires block { block < length flags.now }
     ensures clear { IsTrue result → IsTrue is_crossed → flag_of flags.now s row (8 * block + column % 8) ≡ 0 }
     ensures set { IsFalse result → flag_of flags.now s row (8 * block + column % 8) ≡ 1 }
+    ensures crossed { IsFalse result → IsTrue is_crossed }
 {
     let words = &flags[block][4 * (row / 8)..];
     words[s] & pixel_bit(row, column, is_crossed) == 0

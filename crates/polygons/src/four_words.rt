@@ -1,5 +1,5 @@
 //! The four words of a row of blocks, and the bytes of their rows: of word w the lanes from 8 w on.
-ghost use Rattle.std.specs.Prelude.{◌≡◌, ℕ, ◌+◌, ◌*◌, ◌/◌, ◌%◌, ◌<◌, length, slice_index, IsTrue};
+ghost use Rattle.std.specs.Prelude.{◌≡◌, ◌↔◌, ℕ, ◌+◌, ◌*◌, ◌/◌, ◌%◌, ◌<◌, length, slice_index, IsTrue};
 ghost use Rattle.std.specs.Int.{bit_at};
 
 use crate::cells::Flags;
@@ -9,7 +9,7 @@ use std::simd::prelude::*;
 #[inline(always)]
 pub(crate) fn are_zeros(words: &Flags, row: usize) -> bool
     requires { row < 8 }
-    ensures { IsTrue result → (i : ℕ) → i / 4 ≡ row → slice_index words.now i ≡ 0 }
+    ensures { IsTrue result ↔ ((i : ℕ) → i / 4 ≡ row → slice_index words.now i ≡ 0) }
 {
     let mut any = 0;
     for i in 4 * row..4 * row + 4 {

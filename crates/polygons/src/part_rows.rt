@@ -52,7 +52,7 @@ fn four_in_strip(columns: &[i64; 4]) -> [usize; 4]
 /// Whether the columns of four samples lie in a column of blocks.
 #[inline(always)]
 fn are_in(columns: &[usize; 4], block: usize) -> bool
-    ensures { IsTrue result → (s : ℕ) → s < 4 → slice_index columns.now s / 8 ≡ block }
+    ensures { IsTrue result ↔ ((s : ℕ) → s < 4 → slice_index columns.now s / 8 ≡ block) }
 {
     columns[0] / 8 == block
         && columns[1] / 8 == block
@@ -73,8 +73,8 @@ fn can_flip(
 ) -> bool
     requires row { row < 64 }
     requires block { block < length flags.now }
-    ensures { IsTrue result → rule ≡ NonZero → (s : ℕ) → s < 4 → IsTrue (slice_index_or crossed.now s false) →
-        flag_of flags.now s row (8 * block + slice_index columns.now s % 8) ≡ 0 }
+    ensures { IsTrue result ↔ (rule ≡ NonZero → (s : ℕ) → s < 4 → IsTrue (slice_index_or crossed.now s false) →
+        flag_of flags.now s row (8 * block + slice_index columns.now s % 8) ≡ 0) }
 {
     match rule {
         Rule::EvenOdd => true,

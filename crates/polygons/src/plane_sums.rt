@@ -1,7 +1,7 @@
 //! The sums of the rows of four words in planes of bits, if no counter is in use and the sums before are from -8 to 7.
 //! Then the number of a cell is from -1 to 1, each sum of up to eight of these is from -16 to 15, and what it is modulo
 //! 32 says which.
-ghost use Rattle.std.specs.Prelude.{◌≡◌, ℕ, ◌+◌, ◌*◌, ◌/◌, ◌%◌, ◌^◌, ◌<◌, ◌==◌, cond, length, slice_index, IsTrue};
+ghost use Rattle.std.specs.Prelude.{◌≡◌, ◌↔◌, ℕ, ◌+◌, ◌*◌, ◌/◌, ◌%◌, ◌^◌, ◌<◌, ◌==◌, cond, length, slice_index, IsTrue};
 ghost use Rattle.std.specs.Int.{bit_at};
 ghost use Rattle.polygons.specs.Summing.{run};
 ghost use Rattle.polygons.specs.FourSums.{first_number, AreSummed};
@@ -37,7 +37,7 @@ fn set_sums(sums: &mut Sums, row: usize, ends: u32x32)
 #[inline(always)]
 pub(crate) fn are_small(sums: &Sums, row: usize) -> bool
     requires { row < 8 }
-    ensures { IsTrue result → (q : ℕ) → q < 32 → (slice_index sums.now (32 * row + q) + 8) % 2 ^ 32 < 16 }
+    ensures { IsTrue result ↔ ((q : ℕ) → q < 32 → (slice_index sums.now (32 * row + q) + 8) % 2 ^ 32 < 16) }
 {
     (sums_of(sums, row) + u32x32::splat(8))
         .simd_ge(u32x32::splat(16))

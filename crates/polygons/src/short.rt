@@ -31,7 +31,7 @@ fn is_nearer(a: i32, b: i32) -> bool
 /// Whether the edge is less than a pixel wide and at most a pixel high.
 #[inline(always)]
 pub(crate) fn is_short(edge: &Edge) -> bool
-    ensures { IsTrue result → IsShortEdge edge.now }
+    ensures { IsTrue result ↔ IsShortEdge edge.now }
 {
     is_nearer(edge.a.x(), edge.b.x()) && is_near(edge.a.y(), edge.b.y())
 }

@@ -9,6 +9,15 @@ left_end : (column m a b a' b' : ℤ) (n : ℕ) → IsPixelInBand column → (po
     → m ≡ int_min (to_z w32 (of_z w32 a)) (to_z w32 (of_z w32 b)) → IsInBand a → IsInBand b → a ≡ a' → b ≡ b' → ((pos 256 *ℤ column +ℤ pos n) ≤ℤ a') × ((pos 256 *ℤ column +ℤ pos n) ≤ℤ b')
 left_end column m a b a' b' n hc h is ha hb e f = (omega (arith, ints, clamps), omega (arith, ints, clamps))
 
+both_ends : (column m a b a' b' : ℤ) (n : ℕ) → IsPixelInBand column → ((pos 256 *ℤ column +ℤ pos n) ≤ℤ a') × ((pos 256 *ℤ column +ℤ pos n) ≤ℤ b')
+    → m ≡ int_min (to_z w32 (of_z w32 a)) (to_z w32 (of_z w32 b)) → IsInBand a → IsInBand b → a ≡ a' → b ≡ b' → (pos 256 *ℤ to_z w32 (of_z w32 column) +ℤ pos n) ≤ℤ to_z w32 (of_z w32 m)
+both_ends column m a b a' b' n hc h is ha hb e f = let ah = h.0 in let bh = h.1 in omega (arith, ints, clamps)
+
 pub returns : goal.returns
-returns c t k h =
-    left_end c.args.strip.now.column c.min.result c.x-a.result c.x-b.result _ _ (256 * (k + 1)) c.args.strip.now.across (c.is_right.ensures t k h) c.min.ensures.value c.x-a.ensures.in_band c.x-b.ensures.in_band c.x-a.ensures.value c.x-b.ensures.value
+returns c =
+    let ends = c.min.ensures.value in
+    let a = c.x-a.ensures in
+    let b = c.x-b.ensures in (
+      λ t k h. left_end c.args.strip.now.column c.min.result c.x-a.result c.x-b.result _ _ (256 * (k + 1)) c.args.strip.now.across (c.is_right.ensures.0 t k h) ends a.in_band b.in_band a.value b.value,
+      λ right. c.is_right.ensures.1 (λ k h. both_ends c.args.strip.now.column c.min.result c.x-a.result c.x-b.result _ _ (256 * (k + 1)) c.args.strip.now.across (right k h) ends a.in_band b.in_band a.value b.value),
+    )

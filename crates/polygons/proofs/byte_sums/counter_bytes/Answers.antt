@@ -1,5 +1,5 @@
 use Rattle.std.proofs.Common.{◌≡◌, inl, inr, refl, sym, subst, ap, ◌∙◌, arith, ℕ, ◌+◌, ◌*◌, ◌/◌, ◌%◌, ◌^◌, ◌<◌, ◌≤◌, true, false, ltb, cond, List, length, set, length-set, replicate, slice_index, w64}
-use Rattle.std.proofs.lemmas.Bool.{cases_lt, cases_eq, lt-ltb, le-ltb}
+use Rattle.std.proofs.lemmas.Bool.{false≢true, cases_lt, cases_eq, lt-ltb, le-ltb}
 use Rattle.std.proofs.lemmas.Nat.{shr-shr}
 use Rattle.std.proofs.lemmas.Simd.{get_or-replicate}
 use Rattle.std.specs.Int.{bit_at, trailing_zeros}
@@ -90,12 +90,23 @@ loop-left-preserved c =
     record {
       few = omega arith;
       left = ap (λ x. x / 2 ^ t / 2) v.left ∙ ap (λ x. x / 2) (shr-shr more c.loop-left.done t) ∙ shr-shr more n 1;
-      bytes = one_more f n _ c.loop-left.bytes inside (subst (λ x. (x + 7) % 2 ^ 32 ≤ 14) (sym here) byte.0) (byte.1 ∙ ap (λ x. x % 256) (sym here))
+      bytes = one_more f n _ c.loop-left.bytes inside (subst (λ x. (x + 7) % 2 ^ 32 ≤ 14) (sym here) (byte.some.0 refl)) (byte.value ∙ ap (λ x. x % 256) (sym here))
           (same_bytes 7 _ _ c.loop-left.bytes (λ i h. skipped f c.loop-left.done n (omega arith) (λ i l m. unused more i (counter i) (next.none i l m)) i) v.bytes);
     }
 
-pub returns : goal.returns
-returns c =
+-- a counter in use that is not small
+pub returns-in_err-bytes-clause-some : goal.returns-in_err-bytes-clause-some
+returns-in_err-bytes-clause-some c =
+    let more = c.args.more in
+    let next = next_bit more c.loop-left.left c.loop-left.done c.loop-left.invariant.left c.ranges.more.fits c.loop-left.auto.left-fits.fits c.loop-left-test.true in
+    let n = c.loop-left.done + trailing_zeros w64 c.loop-left.left in (
+      λ some. absurd (false≢true (rw c.from_residual.ensures at some)),
+      λ all. absurd (false≢true (c.in_err-bytes.ensures.some.1 (subst (λ x. (x + 7) % 2 ^ 32 ≤ 14) (used more n (slice_index c.args.counters.now (64 * c.args.word + n)) next.set) (all n next.inside)))),
+    )
+
+-- no counter is left
+in_bytes : (c : goal.After-loop-left) → AreInBytes 7 (λ i. in_use (bit_at c.args.more i) (slice_index c.args.counters.now (64 * c.args.word + i))) c.loop-left.bytes
+in_bytes c =
     let more = c.args.more in
     let counter = λ (i : ℕ). slice_index c.args.counters.now (64 * c.args.word + i) in
     let f = λ (i : ℕ). in_use (bit_at more i) (counter i) in
@@ -103,3 +114,9 @@ returns c =
       | inl l ↦ first_is f c.loop-left.done i l
       | inr l ↦ first_none f c.loop-left.done i l ∙ sym (unused more i (counter i) (no_bits more c.loop-left.left c.loop-left.done c.loop-left.invariant.left c.loop-left-test.false i l))
     ]) c.loop-left.invariant.bytes
+
+pub returns-clause-some : goal.returns-clause-some
+returns-clause-some c = (λ t. (in_bytes c).small, λ all. refl)
+
+pub returns-clause-value : goal.returns-clause-value
+returns-clause-value c = in_bytes c

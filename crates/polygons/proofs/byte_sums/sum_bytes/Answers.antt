@@ -23,7 +23,7 @@ no_counters marks counters word v none b = record {
 
 numbers : (c : goal.After-mask_of) → AreInBytes 8 (number_in c.args.marks c.args.counters.now c.args.word) c.if-marks-ne0.numbers
 numbers c = elim c.if-marks-ne0.branch [
-  | then-marks-ne0+in_ok-bytes w ↦ subst (AreInBytes 8 (number_in c.args.marks c.args.counters.now c.args.word)) (sym w.numbers-is) (w.with_counters-numbers.ensures _ _ c.firsts-numbers.ensures w.in_ok-bytes.ensures)
+  | then-marks-ne0+in_ok-bytes w ↦ subst (AreInBytes 8 (number_in c.args.marks c.args.counters.now c.args.word)) (sym w.numbers-is) (w.with_counters-numbers.ensures _ _ c.firsts-numbers.ensures w.in_ok-bytes.ensures.value)
   | else-marks-ne0 w ↦ subst (AreInBytes 8 (number_in c.args.marks c.args.counters.now c.args.word)) (sym w.numbers-is) (no_counters c.args.marks c.args.counters.now c.args.word _ w.if-marks-ne0.false c.firsts-numbers.ensures)
 ]
 

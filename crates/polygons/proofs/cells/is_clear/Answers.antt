@@ -31,3 +31,11 @@ returns-clause-set c is_set =
     ap (λ n. bit_at (slice_index (row_of c.args.flags.now n) (word_of c.args.s c.args.row)) (bit_in_block c.args.row k)) (omega arith)
     ∙ set_in c.args.is_crossed _ c.pixel_bit.result (bit_in_block c.args.row c.args.column) (bit_in_block c.args.row k) c.pixel_bit.ensures.crossed c.pixel_bit.ensures.apart (omega arith)
     (λ none. let at = ap (λ x. bit_and x c.pixel_bit.result) (word_in_part words c.args.s c.args.row room) ∙ none in eqb-false _ 0 is_set at)
+
+-- a word whose bits of the mask are not all 0
+crossed_in : (is_crossed : Bool) (x b : ℕ) → (IsFalse is_crossed → b ≡ 0) → (bit_and x b ≡ 0 → ⊥) → IsTrue is_crossed
+crossed_in true x b apart h = refl
+crossed_in false x b apart h = absurd (h (ap (bit_and x) (apart refl) ∙ and_zero_r x))
+
+pub returns-clause-crossed : goal.returns-clause-crossed
+returns-clause-crossed c is_set = crossed_in c.args.is_crossed _ c.pixel_bit.result c.pixel_bit.ensures.apart (λ none. eqb-false _ 0 is_set none)

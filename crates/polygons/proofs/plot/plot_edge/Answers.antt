@@ -11,13 +11,16 @@ use Rattle.polygons.proofs.Plotted.{signed_none, plotted_as, plotted_apart}
 use Rattle.polygons.proofs.Outside.{crossed_nowhere}
 use Rattle.polygons.proofs.plot.plot_edge.Goals as goal
 
+pub plot_short-requires-clause-short : goal.plot_short-requires-clause-short
+plot_short-requires-clause-short g c = c.is_short.ensures.0 c.if-is_short.true
+
 pub returns-then-is_short : goal.returns-then-is_short
 returns-then-is_short g c = plotted_as c.args.starts.now.strip _ _ _ _ c.turned_down-forward.ensures.same c.plot_short.ensures
 
 pub returns-then-is_apart : goal.returns-then-is_apart
 returns-then-is_apart g c =
     plotted_apart c.args.starts.now.strip _ c.args.cells.now
-    (λ s row k y z. crossed_nowhere c.args.edge c.args.starts.now.strip c.args.cells.now.columns s row k (c.if-is_apart.ensures refl) y z)
+    (λ s row k y z. crossed_nowhere c.args.edge c.args.starts.now.strip c.args.cells.now.columns s row k (c.if-is_apart.ensures.0 refl) y z)
 
 pub returns-then-y : goal.returns-then-y
 returns-then-y g c = plotted_as c.args.starts.now.strip _ _ _ _ c.turned_down-forward.ensures.same c.plot_long.ensures

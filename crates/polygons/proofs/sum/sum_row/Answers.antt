@@ -28,7 +28,7 @@ no_firsts d u e f = λ j. bit_or (e j) (f j)
 
 module _ (c : goal.After-set_four) where
   none : (i : ℕ) → i / 4 ≡ c.args.row → bit_or (slice_index c.args.downs.now i) (slice_index c.args.ups.now i) ≡ 0
-  none i e = let t = both _ _ c.if-are_zeros.true in no_firsts _ _ (c.are_zeros.ensures t.0 i e) (c.are_zeros-2.ensures t.1 i e)
+  none i e = let t = both _ _ c.if-are_zeros.true in no_firsts _ _ (c.are_zeros.ensures.0 t.0 i e) (c.are_zeros-2.ensures.0 t.1 i e)
 
   unchanged : (i r n : ℕ) → i / 4 ≡ c.args.row → r < 8 → n < 9
       → slice_index c.args.sums.now (8 * i + r) ≡ run (number_in (marks_of_word c.args.downs.now c.args.ups.now c.args.more.now i) c.args.counters.now i) (8 * r) (slice_index c.args.sums.now (8 * i + r)) n
@@ -47,7 +47,7 @@ returns-then-are_zeros-clause-next c i r e h = unchanged c i r 8 e h (omega arit
 pub returns-then-are_zeros-clause-clear : goal.returns-then-are_zeros-clause-clear
 returns-then-are_zeros-clause-clear c i e =
     let marks = marks_of_word c.args.downs.now c.args.ups.now c.args.more.now i in
-    (c.are_zeros-2.ensures (both _ _ c.if-are_zeros.true).1 i e, more_none marks (c.requires.marked i e) (none c i e) (c.fits-more i))
+    (c.are_zeros-2.ensures.0 (both _ _ c.if-are_zeros.true).1 i e, more_none marks (c.requires.marked i e) (none c i e) (c.fits-more i))
 
 -- ---- without counters
 number : (d u d' u' more counter x : ℕ) → d' ≡ d → u' ≡ u → more ≡ 0 → first_number d' u' x ≡ bit_at d x + 4294967295 * bit_at u x + in_use (bit_at more x) counter
@@ -69,7 +69,7 @@ module _ (c : goal.After-set_four-then-are_zeros-are_small-3) where
   total i r n e =
       let downs = word_at c.args.downs.now _ c.args.row i e (λ w m. sym (c.four_of-then-are_zeros-are_small.ensures.each w m)) in
       let ups = word_at c.args.ups.now _ c.args.row i e (λ w m. sym (c.four_of-then-are_zeros-are_small-2.ensures.each w m)) in
-      let more = c.are_zeros-3.ensures (both _ _ c.if-are_zeros-are_small.true).0 i e in
+      let more = c.are_zeros-3.ensures.0 (both _ _ c.if-are_zeros-are_small.true).0 i e in
       run-same (numbers i) (four (i % 4)) (8 * r) (sums (8 * i + r)) _ n (ap sums (sum_place c.args.row i r e))
       (λ k l. number (slice_index c.args.downs.now i) (slice_index c.args.ups.now i) _ _ (slice_index c.args.more.now i) _ (8 * r + k) (sym downs) (sym ups) more)
 
