@@ -7,6 +7,7 @@ pub mod BlocksAlike
 pub mod OnePlane
 pub mod PairBlocks
 pub mod FlatBlocks
+pub mod FewSamples
 pub mod Columns
 pub mod Strips
 pub mod RowMasks

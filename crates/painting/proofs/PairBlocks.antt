@@ -69,18 +69,24 @@ module _ (t : Placed) (tile : Tile) (bx by : ℕ) (block : LiesIn tile bx by 8) 
       let line : by - tile.by ≡ row / 8 = omega (arith, q.top, q.bottom, low) in
       are s h.is_sample ∙ ap (λ r. block_mask masks k r s) line
 
+  in_words_of : (row column s : ℕ) → IsSampleOf tile row column s → IsInBlock t.state tile bx by masks k row column s → IsInWords tile bx by words row column s
+  in_words_of row column s h p = record {
+    square = p.square;
+    in_words = subst (λ w. bit_at w (pixel_in_block column row) ≡ 1) (sym (word_is row column s h p.square)) (is_one (block_mask masks k (row / 8) s) (pixel_in_block column row) p.in_masks);
+  }
+
+  in_block_of : (row column s : ℕ) → IsSampleOf tile row column s → IsInWords tile bx by words row column s → IsInBlock t.state tile bx by masks k row column s
+  in_block_of row column s h p = record {
+    square = p.square;
+    in_masks = is_set (block_mask masks k (row / 8) s) (pixel_in_block column row) (subst (λ w. bit_at w (pixel_in_block column row) ≡ 1) (word_is row column s h p.square) p.in_words);
+    allowed = allowed_all t.state tile allows row column s h;
+  }
+
   pub words_painted : TilePaints t tile (IsInWords tile bx by words) old new → TilePaints t tile (IsInBlock t.state tile bx by masks k) old new
-  words_painted paints =
-      tile_same t tile (IsInWords tile bx by words) (IsInBlock t.state tile bx by masks k) old new paints
-      (λ row column s h p. record {
-        square = p.square;
-        in_words = subst (λ w. bit_at w (pixel_in_block column row) ≡ 1) (sym (word_is row column s h p.square)) (is_one (block_mask masks k (row / 8) s) (pixel_in_block column row) p.in_masks);
-      })
-      (λ row column s h p. record {
-        square = p.square;
-        in_masks = is_set (block_mask masks k (row / 8) s) (pixel_in_block column row) (subst (λ w. bit_at w (pixel_in_block column row) ≡ 1) (word_is row column s h p.square) p.in_words);
-        allowed = allowed_all t.state tile allows row column s h;
-      })
+  words_painted paints = tile_same t tile (IsInWords tile bx by words) (IsInBlock t.state tile bx by masks k) old new paints in_words_of in_block_of
+
+  pub block_painted : TilePaints t tile (IsInBlock t.state tile bx by masks k) old new → TilePaints t tile (IsInWords tile bx by words) old new
+  block_painted paints = tile_same t tile (IsInBlock t.state tile bx by masks k) (IsInWords tile bx by words) old new paints in_block_of in_words_of
 
 -- ---- drawn in the second plane, which has the samples in the masks
 module _ (t : Placed) (tile : Tile) (side : tile.side ≡ T64) (bx by : ℕ) (block : LiesIn tile bx by 8) (words : List ℕ) (mid new : List BlockSamples) (some : 4 ≤ count_of tile.count)

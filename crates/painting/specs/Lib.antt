@@ -49,6 +49,17 @@
 --   HoldsSamples: Each sample of the canvas that lies in the box is in a column of blocks and a tile row of the window.
 --   LiesInRows: Each sample of the canvas that the polygon meets lies in the tile rows from `top` to before `bottom`.
 --
+-- FewSamples.antt
+--   StaysFlatDrawn: A block of one sample or two is known to stay so once the triangle is drawn at those samples that are in the masks.
+--   LeavesNoPalette: A block of up to four samples has more once the triangle is drawn at those that are in the masks.
+--   IsNotKeptFlat: Block k of a tile is kept neither in one sample nor in two, nor in one plane whose samples are all the same.
+--   IsNotKeptInFour: Block k of a tile is not kept in up to four samples, nor in one plane whose samples are all the same.
+--   DoesNotStayFlat: Block (bx, by) of the tile has one sample or two, and is not known to stay so where the triangle is drawn.
+--   IsNotDrawnFlat: Block (bx, by) of the tile is not kept in one sample or two, or is not known to stay so where the triangle is drawn.
+--   LeavesManySamples: Block k of the tile has more than four samples once the triangle is drawn at this part of the tile.
+--   IsNotDrawnInFour: Block k of a tile is not kept in up to four samples, or has more once the triangle is drawn at this part of it.
+--   IsSmallOfFour: A pixel has four samples, and there are fewer than four columns of masks.
+--
 -- Batches.antt
 --   polygon_colour: The colour of polygon k: one of these, or that of its id, which is counted from the first one on.
 --   state_of: The state: where ids are drawn, they replace what is stored.
@@ -66,5 +77,6 @@
 pub mod Painting
 pub mod Changes
 pub mod Parts
+pub mod FewSamples
 pub mod Batches
 pub mod Groups

@@ -1,9 +1,10 @@
 //! Blocks that have one sample or two.
-ghost use Rattle.std.specs.Prelude.{◌≡◌, ◌<◌, ◌≤◌, false, length, IsTrue, IfSome};
+ghost use Rattle.std.specs.Prelude.{◌≡◌, ◌↔◌, ◌⊎◌, ◌<◌, ◌≤◌, false, length, IsTrue, IsSome, IfSome};
 ghost use Rattle.grid.specs.Samples.{count_of};
 ghost use Rattle.canvas.specs.Layout.{planes_of_tile};
 ghost use Rattle.canvas.specs.Tiles.{HasBytes};
-ghost use Rattle.painting.specs.Parts.{DrawsSample, IsFlatDrawn, IsInBlock, TilePaints};
+ghost use Rattle.painting.specs.Parts.{number_in_tile, DrawsSample, IsFlatDrawn, IsInBlock, TilePaints};
+ghost use Rattle.painting.specs.FewSamples.{IsNotDrawnFlat, IsNotDrawnInFour, IsSmallOfFour, StaysFlatDrawn};
 
 use crate::change::Change;
 use crate::covered_block::CoveredBlock;
@@ -90,7 +91,8 @@ impl CoveredBlock<'_> {
         flat: &FlatBlock,
         words: &[u64; 16],
     ) -> Option<FlatBlock>
-        ensures { IfSome result (λ drawn. IsFlatDrawn self.now.triangle.now count flat.now words.now drawn) }
+        ensures drawn { IfSome result (λ drawn. IsFlatDrawn self.now.triangle.now count flat.now words.now drawn) }
+        ensures some { IsSome result ↔ StaysFlatDrawn self.now.triangle.now count flat.now words.now }
     {
         let first = self.drawn(flat.first);
         let second = self.drawn_beside(flat.second, flat.first, first);
@@ -115,6 +117,11 @@ impl CoveredBlock<'_> {
         ensures painted { let b = self.now in IsTrue result → TilePaints b.triangle.now b.tile.now
             (IsInBlock b.triangle.now.state b.tile.now b.bx b.by masks.now k) samples.old samples.new }
         ensures unchanged { result ≡ false → samples.new ≡ samples.old }
+        ensures flat { let b = self.now in result ≡ false →
+            IsNotDrawnFlat b.triangle.now b.tile.now b.bx b.by masks.now k samples.old }
+        ensures few { let b = self.now in result ≡ false → IsSmallOfFour masks.now ⊎
+            IsNotDrawnInFour b.triangle.now b.tile.now (IsInBlock b.triangle.now.state b.tile.now b.bx b.by masks.now k)
+            (number_in_tile b.tile.now b.bx b.by) samples.old }
     {
         let number = self.number();
         let row = (self.by - self.tile.by) as usize;
@@ -141,7 +148,8 @@ impl CoveredBlock<'_> {
     }
 
     /// Draws the triangle at those samples of the block whose bits are set, in column `k` of the masks, if it has at most
-    /// four samples before and afterwards. Returns whether it was drawn; else all planes are unchanged.
+    /// four samples before and afterwards; with four samples of a pixel and fewer than four columns of masks at most two.
+    /// Returns whether it was drawn; else all planes are unchanged.
     pub(crate) fn paint_flat(
         &self,
         masks: &Masks<'_>,
@@ -155,6 +163,11 @@ impl CoveredBlock<'_> {
         ensures painted { let b = self.now in IsTrue result → TilePaints b.triangle.now b.tile.now
             (IsInBlock b.triangle.now.state b.tile.now b.bx b.by masks.now k) samples.old samples.new }
         ensures unchanged { result ≡ false → samples.new ≡ samples.old }
+        ensures flat { let b = self.now in result ≡ false → 4 ≤ count_of b.tile.now.count →
+            IsNotDrawnFlat b.triangle.now b.tile.now b.bx b.by masks.now k samples.old }
+        ensures few { let b = self.now in result ≡ false → 4 ≤ count_of b.tile.now.count → IsSmallOfFour masks.now ⊎
+            IsNotDrawnInFour b.triangle.now b.tile.now (IsInBlock b.triangle.now.state b.tile.now b.bx b.by masks.now k)
+            (number_in_tile b.tile.now b.bx b.by) samples.old }
     {
         // Each count by itself, so that the loops over the samples of a pixel are unrolled.
         match self.tile.count {

@@ -1,8 +1,9 @@
 //! Blocks that have up to four samples.
-ghost use Rattle.std.specs.Prelude.{◌≡◌, ◌≤◌, false, length, IsTrue, IfSome};
+ghost use Rattle.std.specs.Prelude.{◌≡◌, ◌≤◌, false, length, IsTrue, IfSome, IfNone};
 ghost use Rattle.grid.specs.Samples.{count_of};
 ghost use Rattle.canvas.specs.Layout.{planes_of_tile};
-ghost use Rattle.painting.specs.Parts.{IsInWords, IsPaletteDrawn, TilePaints};
+ghost use Rattle.painting.specs.Parts.{number_in_tile, IsInWords, IsPaletteDrawn, TilePaints};
+ghost use Rattle.painting.specs.FewSamples.{IsNotDrawnInFour, LeavesNoPalette};
 
 use crate::covered_block::CoveredBlock;
 use canvas::Palette;
@@ -18,7 +19,8 @@ impl CoveredBlock<'_> {
         palette: &Palette,
         words: &[u64; 16],
     ) -> Option<Palette>
-        ensures { IfSome result (λ drawn. IsPaletteDrawn self.now.triangle.now count palette.now words.now drawn) }
+        ensures drawn { IfSome result (λ drawn. IsPaletteDrawn self.now.triangle.now count palette.now words.now drawn) }
+        ensures none { IfNone result (LeavesNoPalette self.now.triangle.now count palette.now words.now) }
     {
         let [first, second, third, fourth] = palette.samples;
         let made = self.drawn(first);
@@ -41,6 +43,9 @@ impl CoveredBlock<'_> {
         ensures painted { let b = self.now in IsTrue result → TilePaints b.triangle.now b.tile.now
             (IsInWords b.tile.now b.bx b.by words.now) samples.old samples.new }
         ensures unchanged { result ≡ false → samples.new ≡ samples.old }
+        ensures few { let b = self.now in result ≡ false →
+            IsNotDrawnInFour b.triangle.now b.tile.now (IsInWords b.tile.now b.bx b.by words.now)
+            (number_in_tile b.tile.now b.bx b.by) samples.old }
     {
         let number = self.number();
         let Some(palette) = Palette::of(count, number, samples) else {
@@ -64,6 +69,9 @@ impl CoveredBlock<'_> {
         ensures painted { let b = self.now in IsTrue result → TilePaints b.triangle.now b.tile.now
             (IsInWords b.tile.now b.bx b.by words.now) samples.old samples.new }
         ensures unchanged { result ≡ false → samples.new ≡ samples.old }
+        ensures few { let b = self.now in result ≡ false → 4 ≤ count_of b.tile.now.count →
+            IsNotDrawnInFour b.triangle.now b.tile.now (IsInWords b.tile.now b.bx b.by words.now)
+            (number_in_tile b.tile.now b.bx b.by) samples.old }
     {
         // Each count by itself, so that the loops over the samples of a pixel are unrolled.
         match self.tile.count {

@@ -1,11 +1,14 @@
-use Rattle.std.proofs.Common.{refl, ◌≡◌, subst}
+use Rattle.std.proofs.Common.{refl, ◌≡◌, ◌≤◌, inr, subst}
+use Rattle.grid.specs.Samples.{count_of}
 use Rattle.canvas.specs.Layout.{KeepsOtherSamples}
 use Rattle.canvas.specs.FlatBlocks.{HasFlat, HasOne}
-use Rattle.painting.specs.Parts.{number_in_tile, IsFlatDrawn}
+use Rattle.painting.specs.Parts.{number_in_tile, IsFlatDrawn, IsInBlock, IsInWords}
+use Rattle.painting.proofs.FewSamples.{flat_not_kept, flat_not_left, not_flat, not_in_block}
 use Rattle.painting.proofs.FlatBlocks.{flat_painted, one_painted}
 use Rattle.painting.proofs.OnePlane.{full_painted}
-use Rattle.painting.proofs.PairBlocks.{words_painted}
+use Rattle.painting.proofs.PairBlocks.{block_painted, words_painted}
 use Rattle.painting.proofs.covered_block.CoveredBlock.paint_flat_by.Goals as goal
+use Rattle.painting.proofs.covered_block.CoveredBlock.paint_flat_by.Goals.{in-Some-of+in_default-flat_drawn, in_default-of}
 
 pub returns-in-Some-clause-painted : goal.returns-in-Some-clause-painted
 returns-in-Some-clause-painted c true_is =
@@ -27,7 +30,7 @@ returns-in-Some-flat_drawn-clause-painted c true_is =
     let tile = b.tile.now in
     let flat = c.in-Some-of.flat in
     let drawn = c.in-Some-flat_drawn.drawn in
-    let is = subst (λ n. IsFlatDrawn b.triangle.now n flat c.words-words.result drawn) c.requires.count c.in-Some-flat_drawn.ensures in
+    let is = subst (λ n. IsFlatDrawn b.triangle.now n flat c.words-words.result drawn) c.requires.count c.in-Some-flat_drawn.ensures.drawn in
     let old = c.args.samples.now in
     let new = c.store.new.samples in
     let words = c.words-words.result in
@@ -41,3 +44,43 @@ returns-clause-painted c drawn =
     let b = c.args.self.now in
     words_painted b.triangle.now b.tile.now b.bx b.by b.block c.args.masks.now c.args.k (b.allows c.requires.whole) c.words-words.result (λ s h. c.words-words.ensures s (rw c.requires.masks h)) c.args.samples.now c.paint_palette.new.samples
     (c.paint_palette.ensures.painted drawn)
+
+pub returns-clause-few : goal.returns-clause-few
+returns-clause-few c gave_up =
+    let b = c.args.self.now in
+    let tile = b.tile.now in
+    let old = c.args.samples.now in
+    let words = c.words-words.result in
+    inr (not_in_block b.triangle.now tile (number_in_tile tile b.bx b.by) old (IsInWords tile b.bx b.by words) (IsInBlock b.triangle.now.state tile b.bx b.by c.args.masks.now c.args.k)
+    (λ new. block_painted b.triangle.now tile b.bx b.by b.block c.args.masks.now c.args.k (b.allows c.requires.whole) words (λ s h. c.words-words.ensures s (rw c.requires.masks h)) old new)
+    (c.paint_palette.ensures.few gave_up (subst (λ n. 4 ≤ count_of n) c.requires.count c.requires.some)))
+
+pub returns-clause-flat : goal.returns-clause-flat
+returns-clause-flat c gave_up =
+    let b = c.args.self.now in
+    let tile = b.tile.now in
+    let old = c.args.samples.now in
+    let masks = c.args.masks.now in
+    elim c.match-of.branch [
+      | in-Some-of+in_default-flat_drawn w ↦
+          flat_not_left b.triangle.now tile b.bx b.by masks c.args.k old c.args.count c.number-number.result c.requires.count c.number-number.ensures.value w.in-Some-of.flat c.words-words.result w.in-Some-of.ensures.flat
+          (λ s h. c.words-words.ensures s (rw c.requires.masks h)) w.in_default-flat_drawn.ensures.some.1
+      | in_default-of w ↦
+          flat_not_kept b.triangle.now tile b.bx b.by masks c.args.k old c.args.count c.number-number.result c.requires.count c.number-number.ensures.value
+          (not_flat c.args.count c.number-number.result old w.in_default-of.ensures.one w.in_default-of.ensures.some)
+    ]
+
+pub returns-then-masks-lt4-clause-flat : goal.returns-then-masks-lt4-clause-flat
+returns-then-masks-lt4-clause-flat c gave_up =
+    let b = c.args.self.now in
+    let tile = b.tile.now in
+    let old = c.args.samples.now in
+    let masks = c.args.masks.now in
+    elim c.match-of.branch [
+      | in-Some-of+in_default-flat_drawn w ↦
+          flat_not_left b.triangle.now tile b.bx b.by masks c.args.k old c.args.count c.number-number.result c.requires.count c.number-number.ensures.value w.in-Some-of.flat c.words-words.result w.in-Some-of.ensures.flat
+          (λ s h. c.words-words.ensures s (rw c.requires.masks h)) w.in_default-flat_drawn.ensures.some.1
+      | in_default-of w ↦
+          flat_not_kept b.triangle.now tile b.bx b.by masks c.args.k old c.args.count c.number-number.result c.requires.count c.number-number.ensures.value
+          (not_flat c.args.count c.number-number.result old w.in_default-of.ensures.one w.in_default-of.ensures.some)
+    ]
