@@ -7,6 +7,7 @@
 #include <cstdint>
 #include <exception>
 #include <functional>
+#include <memory>
 #include <string>
 #include <thread>
 #include <utility>
@@ -300,10 +301,11 @@ private:
         const std::size_t words =
             trirast_polygons_scratch(&rows_, static_cast<trirast_fill_rule>(polygons.fill_rule)) / 8;
         const std::uint32_t parts = threads < end() - first() ? threads : end() - first();
-        std::vector<std::uint64_t> scratch(words * (parts > 1 ? parts : 1));
+        /* What is in it does not matter, so it is not written first. */
+        const std::unique_ptr<std::uint64_t[]> scratch{new std::uint64_t[words * (parts > 1 ? parts : 1)]};
         std::atomic<std::size_t> taken{0};
         each(threads, [&](TileRows &part) {
-            std::uint64_t *const own = scratch.data() + words * taken++;
+            std::uint64_t *const own = scratch.get() + words * taken++;
             detail::check_call([&](trirast_error *error) { return call(part, own, 8 * words, error); },
                                detail::PolygonValues{rows_, polygons});
         });

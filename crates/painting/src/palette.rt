@@ -10,6 +10,20 @@ use canvas::Palette;
 use grid::SampleCount;
 use lanes::BlockSamples;
 
+/// The count, whose number of samples is known when it is compiled.
+#[inline(always)]
+fn known<const COUNT: u32>(count: SampleCount) -> SampleCount
+    requires { count_of count ≡ COUNT }
+    ensures { result ≡ count }
+{
+    match COUNT {
+        4 => SampleCount::Four,
+        8 => SampleCount::Eight,
+        16 => SampleCount::Sixteen,
+        _ => count,
+    }
+}
+
 impl CoveredBlock<'_> {
     /// What the triangle makes of the block's samples that are in the masks, if they are at most four then.
     #[inline(always)]
@@ -33,11 +47,12 @@ impl CoveredBlock<'_> {
         palette.replaced(count, words, &drawn)
     }
 
-    /// What `paint_palette` does, with the number of samples known if this is inlined.
-    #[inline(always)]
-    fn paint_few(&self, count: SampleCount, words: &[u64; 16], samples: &mut [BlockSamples]) -> bool
-        requires count { count ≡ self.now.tile.now.count }
-        requires some { 4 ≤ count_of count }
+    /// What `paint_palette` does, with the number of samples of a pixel known when it is compiled, so that loops over these
+    /// are unrolled. It is too long to be inlined, so a parameter would be known only when it runs.
+    #[inline(never)]
+    fn paint_few<const COUNT: u32>(&self, words: &[u64; 16], samples: &mut [BlockSamples]) -> bool
+        requires count { count_of self.now.tile.now.count ≡ COUNT }
+        requires some { 4 ≤ COUNT }
         requires whole { IsTrue self.now.whole }
         requires samples { length samples.old ≡ planes_of_tile self.now.tile.now.count }
         ensures painted { let b = self.now in IsTrue result → TilePaints b.triangle.now b.tile.now
@@ -47,6 +62,7 @@ impl CoveredBlock<'_> {
             IsNotDrawnInFour b.triangle.now b.tile.now (IsInWords b.tile.now b.bx b.by words.now)
             (number_in_tile b.tile.now b.bx b.by) samples.old }
     {
+        let count = known::<COUNT>(self.tile.count);
         let number = self.number();
         let Some(palette) = Palette::of(count, number, samples) else {
             return false;
@@ -73,12 +89,11 @@ impl CoveredBlock<'_> {
             IsNotDrawnInFour b.triangle.now b.tile.now (IsInWords b.tile.now b.bx b.by words.now)
             (number_in_tile b.tile.now b.bx b.by) samples.old }
     {
-        // Each count by itself, so that the loops over the samples of a pixel are unrolled.
         match self.tile.count {
             SampleCount::One | SampleCount::Two => false,
-            SampleCount::Four => self.paint_few(SampleCount::Four, words, samples),
-            SampleCount::Eight => self.paint_few(SampleCount::Eight, words, samples),
-            SampleCount::Sixteen => self.paint_few(SampleCount::Sixteen, words, samples),
+            SampleCount::Four => self.paint_few::<4>(words, samples),
+            SampleCount::Eight => self.paint_few::<8>(words, samples),
+            SampleCount::Sixteen => self.paint_few::<16>(words, samples),
         }
     }
 }

@@ -8,7 +8,7 @@ use Rattle.painting.proofs.FlatBlocks.{palette_painted}
 use Rattle.painting.proofs.covered_block.CoveredBlock.paint_few.Goals as goal
 
 pub returns-in-Some-palette_drawn-clause-painted : goal.returns-in-Some-palette_drawn-clause-painted
-returns-in-Some-palette_drawn-clause-painted c true_is =
+returns-in-Some-palette_drawn-clause-painted g c true_is =
     let b = c.args.self.now in
     let tile = b.tile.now in
     let palette = c.in-Some.palette in
@@ -16,32 +16,32 @@ returns-in-Some-palette_drawn-clause-painted c true_is =
     let words = c.args.words.now in
     let old = c.args.samples.now in
     let new = c.store.new.samples in
-    let count = c.requires.count in
+    let count = c.known-count.ensures in
     let same : c.number-number.result ≡ number_in_tile tile b.bx b.by = c.number-number.ensures.value in
     palette_painted b.triangle.now tile b.side b.bx b.by b.block words palette made old new
-    (subst (λ n. HasPalette n (number_in_tile tile b.bx b.by) palette old) count (subst (λ k. HasPalette c.args.count k palette old) same c.in-Some.ensures.palette))
+    (subst (λ n. HasPalette n (number_in_tile tile b.bx b.by) palette old) count (subst (λ k. HasPalette c.known-count.result k palette old) same c.in-Some.ensures.palette))
     (subst (λ n. IsPaletteDrawn b.triangle.now n palette words made) count c.in-Some-palette_drawn.ensures.drawn)
-    (subst (λ n. HasPalette n (number_in_tile tile b.bx b.by) made new) count (subst (λ k. HasPalette c.args.count k made new) same c.store.ensures.made))
-    (subst (λ n. KeepsOtherSamples n (number_in_tile tile b.bx b.by) old new) count (subst (λ k. KeepsOtherSamples c.args.count k old new) same c.store.ensures.others))
+    (subst (λ n. HasPalette n (number_in_tile tile b.bx b.by) made new) count (subst (λ k. HasPalette c.known-count.result k made new) same c.store.ensures.made))
+    (subst (λ n. KeepsOtherSamples n (number_in_tile tile b.bx b.by) old new) count (subst (λ k. KeepsOtherSamples c.known-count.result k old new) same c.store.ensures.others))
 
 pub returns-in_default-clause-few : goal.returns-in_default-clause-few
-returns-in_default-clause-few c gave_up =
+returns-in_default-clause-few g c gave_up =
     let b = c.args.self.now in
     let tile = b.tile.now in
     let old = c.args.samples.now in
     let same : c.number-number.result ≡ number_in_tile tile b.bx b.by = c.number-number.ensures.value in
-    inl (subst (λ n. IsNotKeptInFour n (number_in_tile tile b.bx b.by) old) c.requires.count (subst (λ k. IsNotKeptInFour c.args.count k old) same
-    (not_in_four c.args.count c.number-number.result old c.in_default.ensures.one c.in_default.ensures.some)))
+    inl (subst (λ n. IsNotKeptInFour n (number_in_tile tile b.bx b.by) old) c.known-count.ensures (subst (λ k. IsNotKeptInFour c.known-count.result k old) same
+    (not_in_four c.known-count.result c.number-number.result old c.in_default.ensures.one c.in_default.ensures.some)))
 
 pub returns-in-None-clause-few : goal.returns-in-None-clause-few
-returns-in-None-clause-few c gave_up =
+returns-in-None-clause-few g c gave_up =
     let b = c.args.self.now in
     let tile = b.tile.now in
     let palette = c.in-Some.palette in
     let words = c.args.words.now in
     let old = c.args.samples.now in
-    let count = c.requires.count in
+    let count = c.known-count.ensures in
     let same : c.number-number.result ≡ number_in_tile tile b.bx b.by = c.number-number.ensures.value in
     inr (leaves_many b.triangle.now tile b.side b.bx b.by b.block words palette old
-    (subst (λ n. HasPalette n (number_in_tile tile b.bx b.by) palette old) count (subst (λ k. HasPalette c.args.count k palette old) same c.in-Some.ensures.palette))
+    (subst (λ n. HasPalette n (number_in_tile tile b.bx b.by) palette old) count (subst (λ k. HasPalette c.known-count.result k palette old) same c.in-Some.ensures.palette))
     (subst (λ n. LeavesNoPalette b.triangle.now n palette words) count c.in-None.ensures.none))
