@@ -64,27 +64,40 @@ struct Scene {
         return found;
     }
 
-    // Whether a polygon lies outside of some rows of pixels: cairo and AGG leave those out that they do not draw.
-    bool is_outside(std::size_t polygon, int first, int end) const {
-        const Box &box = boxes[polygon];
-        return box.bottom <= 256 * (top + first) || box.top >= 256 * (top + end) || box.right <= 256 * left ||
-               box.left >= 256 * (left + width);
-    }
-
     struct Box {
         int left = 1 << 30, top = 1 << 30, right = -(1 << 30), bottom = -(1 << 30);
     };
-    std::vector<Box> boxes;
+    using Boxes = std::vector<Box>;
 
-    void measure() {
-        boxes.assign(polygon_ends.size(), Box{});
-        each(0, polygon_ends.size(), [this](std::size_t polygon, const trirast_corner *corner, std::size_t count) {
-            Box &box = boxes[polygon];
+    // The boxes of polygons, by which cairo and AGG leave out those that lie outside of a thread's rows or of a window.
+    // A frame finds them, as a canvas does. There are none where nothing is left out.
+    Boxes boxes(int threads) const {
+        Boxes found;
+        if (threads == 1 && !is_window) return found;
+        found.resize(polygon_ends.size());
+        each(0, found.size(), [&found](std::size_t polygon, const trirast_corner *corner, std::size_t count) {
+            Box &box = found[polygon];
             for (std::size_t k = 0; k < count; k++) {
                 box.left = std::min(box.left, corner[k].x), box.right = std::max(box.right, corner[k].x);
                 box.top = std::min(box.top, corner[k].y), box.bottom = std::max(box.bottom, corner[k].y);
             }
         });
+        return found;
+    }
+
+    // Whether a polygon lies outside of some rows of pixels, by its box.
+    bool is_outside(const Box &box, int first, int end) const {
+        return box.bottom <= 256 * (top + first) || box.top >= 256 * (top + end) || box.right <= 256 * left ||
+               box.left >= 256 * (left + width);
+    }
+
+    // Whether the picture is a window, outside of which some polygons lie.
+    bool is_window = true;
+
+    void find_window() {
+        const Boxes all = boxes(1);
+        is_window =
+            std::any_of(all.begin(), all.end(), [this](const Box &box) { return is_outside(box, 0, height); });
     }
 
     // Calls ring(polygon, corners, count) for each ring of some polygons.
@@ -144,12 +157,13 @@ public:
     explicit Cairo(const Scene &scene) : scene_(scene), pixels_(4ull * scene.width * scene.height) {}
 
     const Pixels &frame(int threads) {
-        share(scene_.height, threads, [this](int first, int end) { rows(first, end); });
+        const Scene::Boxes boxes = scene_.boxes(threads);
+        share(scene_.height, threads, [&](int first, int end) { rows(boxes, first, end); });
         return pixels_;
     }
 
 private:
-    void rows(int first, int end) {
+    void rows(const Scene::Boxes &boxes, int first, int end) {
         const int stride = 4 * scene_.width;
         cairo_surface_t *surface = cairo_image_surface_create_for_data(
             pixels_.data() + std::size_t(first) * stride, CAIRO_FORMAT_RGB24, scene_.width, end - first, stride);
@@ -159,7 +173,7 @@ private:
         cairo_translate(cairo, -scene_.left, -(scene_.top + first));
         cairo_set_fill_rule(cairo, scene_.rule ? CAIRO_FILL_RULE_WINDING : CAIRO_FILL_RULE_EVEN_ODD);
         for (std::size_t polygon = 0; polygon < scene_.colors.size(); polygon++) {
-            if (scene_.is_outside(polygon, first, end)) continue;
+            if (!boxes.empty() && scene_.is_outside(boxes[polygon], first, end)) continue;
             const auto &color = scene_.colors[polygon];
             cairo_set_source_rgba(cairo, color[0] / 255.0, color[1] / 255.0, color[2] / 255.0, color[3] / 255.0);
             scene_.each(polygon, polygon + 1, [cairo](std::size_t, const trirast_corner *corner, std::size_t count) {
@@ -183,12 +197,13 @@ public:
     explicit Agg(const Scene &scene) : scene_(scene), pixels_(4ull * scene.width * scene.height) {}
 
     const Pixels &frame(int threads) {
-        share(scene_.height, threads, [this](int first, int end) { rows(first, end); });
+        const Scene::Boxes boxes = scene_.boxes(threads);
+        share(scene_.height, threads, [&](int first, int end) { rows(boxes, first, end); });
         return pixels_;
     }
 
 private:
-    void rows(int first, int end) {
+    void rows(const Scene::Boxes &boxes, int first, int end) {
         const int stride = 4 * scene_.width, x = 256 * scene_.left, y = 256 * (scene_.top + first);
         agg::rendering_buffer buffer(pixels_.data() + std::size_t(first) * stride, scene_.width, end - first, stride);
         agg::pixfmt_rgba32 format(buffer);
@@ -199,7 +214,7 @@ private:
         raster.clip_box(0, 0, scene_.width, end - first);
         raster.filling_rule(scene_.rule ? agg::fill_non_zero : agg::fill_even_odd);
         for (std::size_t polygon = 0; polygon < scene_.colors.size(); polygon++) {
-            if (scene_.is_outside(polygon, first, end)) continue;
+            if (!boxes.empty() && scene_.is_outside(boxes[polygon], first, end)) continue;
             const auto &color = scene_.colors[polygon];
             raster.reset();
             scene_.each(polygon, polygon + 1, [&](std::size_t, const trirast_corner *corner, std::size_t count) {
@@ -255,7 +270,7 @@ int main(int count, char **words) {
     const bool is_timed = std::string(words[1]) == "time";
     Scene scene(words[2]);
     if (!is_timed) std::fill(scene.colors.begin(), scene.colors.end(), std::array<std::uint8_t, 4>{255, 255, 255, 255});
-    scene.measure();
+    scene.find_window();
     Cairo cairo(scene);
     Agg agg(scene);
     Ours few(scene, 4), many(scene, 16);

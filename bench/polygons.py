@@ -2,10 +2,10 @@
 
     python3 -m bench.polygons [--scenes partition buildings ..] [--threads 1 4] [--turns 4]
 
-A frame is clearing, all polygons and pixels in memory. The frames of all renderers take turns in one process; the least
-of each counts. cairo and AGG blend by the covered area of a pixel, which has 256 levels at an edge; 4 and 16 samples
-have 5 and 17. Seams are pixels that are not white after all polygons of a partition were drawn in white over a dark
-ground.
+A frame is clearing, all polygons and pixels in memory; by cairo and AGG also the boxes of polygons, where some are left
+out by threads or beside a window. The frames of all renderers take turns in one process; the least of each counts.
+cairo and AGG blend by the covered area of a pixel, which has 256 levels at an edge; 4 and 16 samples have 5 and 17.
+Seams are pixels that are not white after all polygons of a partition were drawn in white over a dark ground.
 
 It needs `make library`, numpy, g++, and of Debian libcairo2-dev and libagg-dev; the worlds also
 gmt-gshhg-high (or -full) and python3-netcdf4, and are left out without them. Exit status 2 if the program
