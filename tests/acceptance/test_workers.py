@@ -6,6 +6,7 @@ import contextlib
 import os
 import subprocess
 import tempfile
+from collections import Counter
 
 import pytest
 
@@ -45,17 +46,18 @@ LABORIOUS = draw_list(
 
 
 def most_threads(workers: int) -> int:
-    """The most threads that the program is seen to have at once while it draws with this many workers."""
-    most = 0
+    """The most threads that the program is seen to have at once, more than now and then, while it draws with this many
+    workers. One that has ended is still listed for a moment, when the next may have begun."""
+    looks: Counter[int] = Counter()
     with tempfile.TemporaryFile() as text:
         text.write(LABORIOUS.encode())
         text.seek(0)
         with subprocess.Popen([PROGRAM, "--workers", str(workers)], stdin=text, stdout=subprocess.DEVNULL) as child:
             while child.poll() is None:
                 with contextlib.suppress(OSError):
-                    most = max(most, len(os.listdir(f"/proc/{child.pid}/task")))
+                    looks[len(os.listdir(f"/proc/{child.pid}/task"))] += 1
         assert child.returncode == 0
-    return most
+    return max(threads for threads, seen in looks.items() if seen > sum(looks.values()) / 50)
 
 
 @pytest.mark.skipif(not os.path.isdir("/proc/self/task"), reason="threads are counted by /proc")
