@@ -69,11 +69,14 @@ struct Scene {
     };
     using Boxes = std::vector<Box>;
 
-    // The boxes of polygons, by which cairo and AGG leave out those that lie outside of a thread's rows or of a window.
-    // A frame finds them, as a canvas does. There are none where nothing is left out.
+    // Whether polygons are left out by their boxes: those outside of a thread's rows or of a window.
+    bool leaves_out(int threads) const { return threads > 1 || is_window; }
+
+    // The boxes of polygons, by which cairo and AGG leave out some. A frame finds them, as it does for a canvas. There
+    // are none where nothing is left out.
     Boxes boxes(int threads) const {
         Boxes found;
-        if (threads == 1 && !is_window) return found;
+        if (!leaves_out(threads)) return found;
         found.resize(polygon_ends.size());
         each(0, found.size(), [&found](std::size_t polygon, const trirast_corner *corner, std::size_t count) {
             Box &box = found[polygon];
@@ -127,7 +130,10 @@ public:
         : scene_(scene), canvas_(options(scene, samples)), pixels_(4ull * scene.width * scene.height) {}
 
     const Pixels &frame(int threads) {
-        const trirast_polygons polygons = scene_.in_c();
+        trirast_polygons polygons = scene_.in_c();
+        std::vector<trirast_box> boxes;
+        if (scene_.leaves_out(threads)) boxes = trirast::polygon_boxes(polygons);
+        polygons.boxes = boxes.data(), polygons.box_count = boxes.size();
         trirast::Clear ground;
         ground.red = GROUND[0], ground.green = GROUND[1], ground.blue = GROUND[2];
         canvas_.share(threads, [&](trirast::TileRows &part) {

@@ -2,8 +2,8 @@
 
     python3 -m bench.polygons [--scenes partition buildings ..] [--threads 1 4] [--turns 4]
 
-A frame is clearing, all polygons and pixels in memory; by cairo and AGG also the boxes of polygons, where some are left
-out by threads or beside a window. The frames of all renderers take turns in one process; the least of each counts.
+A frame is clearing, all polygons and pixels in memory, and the boxes of polygons where some are left out by threads or
+beside a window. The frames of all renderers take turns in one process; the least of each counts.
 cairo and AGG blend by the covered area of a pixel, which has 256 levels at an edge; 4 and 16 samples have 5 and 17.
 Seams are pixels that are not white after all polygons of a partition were drawn in white over a dark ground.
 

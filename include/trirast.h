@@ -155,7 +155,8 @@ typedef enum trirast_batch_cause {
     TRIRAST_BATCH_BAD_SCISSOR_ENABLE = 20, /* scissor_enable is neither 0 nor 1 */
     TRIRAST_BATCH_BAD_FACTOR = 21,      /* a factor of the blend is no trirast_factor */
     TRIRAST_BATCH_BAD_OPERATION = 22,   /* an operation of the blend is no trirast_operation */
-    TRIRAST_BATCH_BAD_FILL_RULE = 23    /* the polygons' fill_rule is no trirast_fill_rule */
+    TRIRAST_BATCH_BAD_FILL_RULE = 23,   /* the polygons' fill_rule is no trirast_fill_rule */
+    TRIRAST_BATCH_TOO_FEW_BOXES = 24    /* there are boxes, but fewer than polygons */
 } trirast_batch_cause;
 
 /* Why a call failed. */
@@ -651,6 +652,15 @@ typedef struct trirast_corner {
     int32_t y; /* downwards */
 } trirast_corner;
 
+/* The box of a polygon's corners in 1/256 pixel of the screen: the least and the greatest x and y of them. The box of
+ * no corners has INT32_MAX on its left and at its top, and INT32_MIN on its right and at its bottom. */
+typedef struct trirast_box {
+    int32_t left;
+    int32_t top;
+    int32_t right;  /* the greatest x, which is in the box */
+    int32_t bottom; /* the greatest y, which is in the box */
+} trirast_box;
+
 /* Polygons with their colours. A polygon is any number of rings, which may have holes, touch and cross each other and
  * themselves; a ring is closed from its last corner to its first, and one of fewer than three corners covers nothing.
  * Which samples a polygon covers is exact: neighbours with common edges leave no gap and no overlap, and a triangle
@@ -671,6 +681,9 @@ typedef struct trirast_polygons {
     size_t color_count;
     const uint16_t *depths;         /* of each polygon its depth; NULL with depth_count 0: 0 */
     size_t depth_count;
+    const trirast_box *boxes;       /* of each polygon its box, as trirast_polygons_measure finds it: see there. NULL
+                                     * with box_count 0: a call that draws looks at all corners for them */
+    size_t box_count;
     trirast_draw state;             /* how they are drawn. Its vertex_count and index_count are not looked at.
                                      * Its topology and cull have to be in range and change nothing: a polygon
                                      * may run either way round */
@@ -692,6 +705,32 @@ inline size_t trirast_polygons_scratch(const trirast_canvas *canvas, trirast_fil
     if (trirast_canvas_size(canvas) == 0) return 0;
     return of_parts * (fill_rule == TRIRAST_FILL_EVEN_ODD ? TRIRAST_FLAGS_BYTES
                                                           : 3 * TRIRAST_FLAGS_BYTES + TRIRAST_COUNTERS_BYTES);
+}
+
+trirast_status trirast_proved_polygons_measure(const trirast_polygons *polygons, trirast_box *boxes, size_t box_count,
+                                               trirast_error *error);
+
+/* Checks corners and ends, and finds the box of each polygon's corners. Polygons with these boxes may be drawn as often
+ * as one likes, by any number of threads, on any canvas: no such call looks at the corners of a polygon whose box lies
+ * beside its canvas. Without boxes each call looks at all corners first.
+ *
+ * Boxes are believed. Whoever changes a corner, a ring or a polygon afterwards has to find them anew: with boxes that
+ * do not hold their polygons' corners, some polygons may be left out, each as a whole, and no error says so. A polygon
+ * that has a corner outside of the guard band is then left out too.
+ *
+ * @polygons: whose boxes are found. Only the corners and where rings and polygons end are looked at.
+ * @boxes: where they go, one for each polygon. Those behind are unchanged.
+ * @box_count: how many fit there.
+ * @error: why there are none, or NULL.
+ *
+ * Returns TRIRAST_STATUS_OK; or the first check that fails: TRIRAST_STATUS_BAD_STRUCT_SIZE of the polygons, then
+ * TRIRAST_STATUS_BUFFER_TOO_SMALL if there is no room for a box of each, then TRIRAST_STATUS_BAD_BATCH with the first
+ * error of corners, rings and polygons, as trirast_canvas_draw_polygons without boxes has it. After that what is in
+ * boxes is unspecified. */
+inline trirast_status trirast_polygons_measure(const trirast_polygons *polygons, trirast_box *boxes, size_t box_count,
+                                               trirast_error *error) {
+    trirast_error unread;
+    return trirast_proved_polygons_measure(polygons, boxes, box_count, error ? error : &unread);
 }
 
 trirast_status trirast_proved_canvas_draw_polygons(trirast_canvas *canvas, const trirast_polygons *polygons,
@@ -721,7 +760,9 @@ trirast_status trirast_proved_canvas_draw_polygons(trirast_canvas *canvas, const
  * - TRIRAST_BATCH_LEFT_OVER if the last ring ends before the last corner;
  * - TRIRAST_BATCH_BAD_POLYGON if a polygon ends before it begins, or behind the last ring; element: its index;
  * - TRIRAST_BATCH_LEFT_OVER if the last polygon ends before the last ring;
- * - TRIRAST_BATCH_BAD_POSITION if a coordinate of a corner is not -8388608 to 8388607; element: its index;
+ * - TRIRAST_BATCH_BAD_POSITION if there are no boxes and a coordinate of a corner is not -8388608 to 8388607; element:
+ *   its index;
+ * - TRIRAST_BATCH_TOO_FEW_BOXES if there are boxes, but fewer than polygons;
  * - TRIRAST_BATCH_TOO_FEW_COLORS if there are fewer colours than polygons (trirast_canvas_draw_polygons alone);
  * - TRIRAST_BATCH_TOO_MANY_IDS if the id of a polygon would be greater than 16,777,215, or first_id is greater than
  *   16,777,216 (trirast_canvas_draw_polygon_ids alone);

@@ -15,6 +15,8 @@ extern inline trirast_status trirast_canvas_draw_ids(trirast_canvas *canvas, con
                                                      uint32_t first_id, trirast_error *error);
 
 extern inline size_t trirast_polygons_scratch(const trirast_canvas *canvas, trirast_fill_rule fill_rule);
+extern inline trirast_status trirast_polygons_measure(const trirast_polygons *polygons, trirast_box *boxes,
+                                                      size_t box_count, trirast_error *error);
 extern inline trirast_status trirast_canvas_draw_polygons(trirast_canvas *canvas, const trirast_polygons *polygons,
                                                           void *scratch, size_t scratch_size, trirast_error *error);
 extern inline trirast_status trirast_canvas_draw_polygon_ids(trirast_canvas *canvas, const trirast_polygons *polygons,

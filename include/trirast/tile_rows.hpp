@@ -177,7 +177,8 @@ public:
     }
 
     /* Draws polygons, one after another, of whose state the topology and what is culled are not used. Scratch memory is
-     * allocated for each thread: 32 bytes for each pixel of the width, and 1,056 by the nonzero rule. */
+     * allocated for each thread: 32 bytes for each pixel of the width, and 1,056 by the nonzero rule. If there are
+     * several threads and the polygons have no boxes, these are found once, for all threads. */
     void draw_polygons(const Polygons &polygons, const State &state = {}, std::uint32_t threads = 1) {
         draw_polygons(detail::polygons_in_c(polygons, state), threads);
     }
@@ -185,8 +186,9 @@ public:
     /* Draws polygons of C, whose arrays are as it says. */
     void draw_polygons(const trirast_polygons &polygons, std::uint32_t threads = 1) {
         each_with_scratch(polygons, threads,
-                          [&polygons](TileRows &part, void *scratch, std::size_t size, trirast_error *error) {
-                              return trirast_canvas_draw_polygons(&part.rows_, &polygons, scratch, size, error);
+                          [](TileRows &part, const trirast_polygons &drawn, void *scratch, std::size_t size,
+                             trirast_error *error) {
+                              return trirast_canvas_draw_polygons(&part.rows_, &drawn, scratch, size, error);
                           });
     }
 
@@ -197,8 +199,9 @@ public:
 
     void draw_polygon_ids(const trirast_polygons &polygons, std::uint32_t first_id, std::uint32_t threads = 1) {
         each_with_scratch(polygons, threads,
-                          [&polygons, first_id](TileRows &part, void *scratch, std::size_t size, trirast_error *error) {
-                              return trirast_canvas_draw_polygon_ids(&part.rows_, &polygons, first_id, scratch, size,
+                          [first_id](TileRows &part, const trirast_polygons &drawn, void *scratch, std::size_t size,
+                                     trirast_error *error) {
+                              return trirast_canvas_draw_polygon_ids(&part.rows_, &drawn, first_id, scratch, size,
                                                                      error);
                           });
     }
@@ -297,16 +300,17 @@ private:
     /* Makes a call on each part with scratch memory of its own. All of it is there before one part is drawn, so that
      * nothing is changed if it is not. */
     template <class Call>
-    void each_with_scratch(const trirast_polygons &polygons, std::uint32_t threads, const Call &call) {
+    void each_with_scratch(trirast_polygons polygons, std::uint32_t threads, const Call &call) {
         const std::size_t words =
             trirast_polygons_scratch(&rows_, static_cast<trirast_fill_rule>(polygons.fill_rule)) / 8;
         const std::uint32_t parts = threads < end() - first() ? threads : end() - first();
         /* What is in it does not matter, so it is not written first. */
         const std::unique_ptr<std::uint64_t[]> scratch{new std::uint64_t[words * (parts > 1 ? parts : 1)]};
+        const std::unique_ptr<trirast_box[]> boxes = parts > 1 ? detail::with_boxes(polygons) : nullptr;
         std::atomic<std::size_t> taken{0};
         each(threads, [&](TileRows &part) {
             std::uint64_t *const own = scratch.get() + words * taken++;
-            detail::check_call([&](trirast_error *error) { return call(part, own, 8 * words, error); },
+            detail::check_call([&](trirast_error *error) { return call(part, polygons, own, 8 * words, error); },
                                detail::PolygonValues{rows_, polygons});
         });
     }

@@ -181,6 +181,7 @@ struct PolygonValues {
             return end_values(polygons.polygon_ends, error.element, polygons.ring_count, "rings");
         case TRIRAST_BATCH_TOO_FEW_COLORS: return refused(std::to_string(polygons.polygon_count), polygons.color_count);
         case TRIRAST_BATCH_TOO_FEW_DEPTHS: return refused(std::to_string(polygons.polygon_count), polygons.depth_count);
+        case TRIRAST_BATCH_TOO_FEW_BOXES: return refused(std::to_string(polygons.polygon_count), polygons.box_count);
         default: return {};
         }
     }

@@ -10,7 +10,7 @@ import tempfile
 import unittest
 from typing import Any, Dict, List
 
-from trirast import BLENDS, _blend, _draw, _errors, _ffi, _vertices
+from trirast import BLENDS, _blend, _draw, _errors, _ffi, _polygons, _vertices
 
 from .common import PYTHON
 
@@ -74,6 +74,11 @@ class Layout(unittest.TestCase):
         columns = {column.name: column.begin for column in _vertices.WHOLE}
         expressions = ["sizeof(trirast_vertex)", *(f"offsetof(trirast_vertex, {name})" for name in columns)]
         self.assertEqual(answers(expressions), [_vertices.VERTEX_BYTES, *columns.values()])
+
+    def test_of_boxes(self) -> None:
+        columns = {column.name: column.begin for column in _polygons.BOX}
+        expressions = ["sizeof(trirast_box)", *(f"offsetof(trirast_box, {name})" for name in columns)]
+        self.assertEqual(answers(expressions), [_polygons.BOX_BYTES, *columns.values()])
 
     def test_of_numbers(self) -> None:
         self.assertEqual(dict(zip(ENUMERATORS, answers(list(ENUMERATORS)))), ENUMERATORS)

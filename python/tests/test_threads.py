@@ -312,6 +312,7 @@ class Starting(unittest.TestCase):
                     of_canvas, lambda: trirast.draw_file(large), lambda: trirast.draw(large).bytes,
                     lambda: trirast.draw(large, threads=3).bytes, lambda: trirast.image_info(small),
                     lambda: trirast.why(small, 1, 1), lambda: trirast.triangle_samples(small, 0, 0),
+                    lambda: trirast.polygon_boxes([row[:2] for row in vertices], [len(vertices)], [1]).tolist(),
                 ]
                 for depth in 63, 127, 500:
                     for begin, end in (("[", "]"), ('{{"a":', "}}"), ('[{{"a":', '}}]'), ('{{"a":[', ']}}')):

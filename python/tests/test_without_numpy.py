@@ -6,7 +6,10 @@ import sys
 import unittest
 from pathlib import Path
 
-FILES = ("arguments", "canvas", "copies", "draw_list", "errors", "history", "layout", "library", "polygons", "vertices")
+FILES = (
+    "arguments", "canvas", "copies", "draw_list", "errors", "history", "layout", "library", "polygon_boxes", "polygons",
+    "vertices",
+)
 # An import of numpy raises ImportError.
 HIDDEN = "import sys; sys.modules['numpy'] = None; import pytest; sys.exit(pytest.main(sys.argv[1:]))"
 

@@ -60,6 +60,8 @@
 --   known_checks: The checks of the rule and of the state, each with the number of its cause.
 --   HasKnownRuleAndState: The rule and the state are known ones.
 --   HasDepths: There is a depth for each polygon, or none at all.
+--   HasPolygons: The arrays are those of polygons.
+--   HasRightBoxes: If there are boxes, they are those of the polygons.
 --   AreGood: The polygons can be drawn, in their colours or by ids.
 --   columns_of_blocks: How many columns of blocks a canvas of this width has.
 --   flag_columns_listed: How many columns of flags polygons on the canvas need.
@@ -70,6 +72,8 @@
 --   colours_cause: There are too few colours, or an id would have more than 24 bits.
 --   of_all: An error of all polygons together.
 --   IsFirstOfPolygons: This is first wrong with the polygons: the rule or the state, then the arrays, the colours or ids, the depths.
+--   measure_checks: The checks of a call that finds the boxes of polygons, with room for n of them.
+--   IsFirstOfArrays: This is first wrong with the arrays.
 --   shapes_listed: The polygons as they are drawn, in their order, on a canvas that has alpha or not.
 
 pub mod Pieces

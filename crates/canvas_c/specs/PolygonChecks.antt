@@ -1,15 +1,15 @@
 -- The checks of a call that draws polygons.
-use Rattle.std.specs.Prelude.{◌≡◌, ◌⊎◌, ℕ, Bool, ◌==◌, ◌+◌, ◌*◌, ◌/◌, ◌≤◌, if◌then◌else◌, List, map, length, Option, None, Some}
+use Rattle.std.specs.Prelude.{◌≡◌, ◌⊎◌, ℕ, Bool, ◌==◌, ◌+◌, ◌*◌, ◌/◌, ◌≤◌, if◌then◌else◌, List, [], map, length, Option, None, Some}
 use Rattle.std.specs.List.{range_with_len}
 use Rattle.grid.specs.Samples.{parts_of, pattern_of}
 use Rattle.batch.specs.Listed.{state_listed}
 use Rattle.batch.specs.Causes.{number_of}
 use Rattle.batch.specs.States.{state_checks}
 use Rattle.model.specs.Checking.{Checks, done, check, followed_by, reported_as, Pass, FirstIs}
-use Rattle.polygons.specs.Arrays.{ArePolygons, IsWrong}
+use Rattle.polygons.specs.Arrays.{ArePolygons, BoxesFit, IsWrong}
 use Rattle.polygons.specs.Cells.{flags_by}
 use Rattle.polygons.specs.declared.arrays.ArraysError.{ArraysError}
-use Rattle.polygons.specs.declared.arrays.ArraysError.TheVariants.{TooManyCorners, Ring, CornersLeft, Polygon, RingsLeft, OutOfBand}
+use Rattle.polygons.specs.declared.arrays.ArraysError.TheVariants.{TooManyCorners, Ring, CornersLeft, Polygon, RingsLeft, OutOfBand, TooFewBoxes}
 use Rattle.polygons.specs.declared.rule.Rule.{Rule}
 use Rattle.polygons.specs.declared.rule.Rule.TheVariants.{EvenOdd, NonZero}
 use Rattle.canvas.specs.declared.window.Origin.{Origin}
@@ -43,10 +43,18 @@ HasKnownRuleAndState a = Pass (known_checks a)
 abbrev pub HasDepths : PolygonArrays → Type 0
 HasDepths a = (length a.depths.now ≡ 0) ⊎ (length a.polygon_ends.now ≤ length a.depths.now)
 
+-- The arrays are those of polygons.
+abbrev pub HasPolygons : PolygonArrays → Type 0
+HasPolygons a = ArePolygons a.corners.now a.ring_ends.now a.polygon_ends.now a.boxes.now
+
+-- If there are boxes, they are those of the polygons.
+abbrev pub HasRightBoxes : PolygonArrays → Type 0
+HasRightBoxes a = BoxesFit a.boxes.now a.corners.now a.ring_ends.now a.polygon_ends.now
+
 -- The polygons can be drawn, in their colours or by ids.
 pub record AreGood (ids : Option ℕ) (a : PolygonArrays) : Type 0 where
   pub known : HasKnownRuleAndState a
-  pub arrays : ArePolygons a.corners.now a.ring_ends.now a.polygon_ends.now
+  pub arrays : HasPolygons a
   pub colours : HasColours ids a.colours.now (length a.polygon_ends.now)
   pub depths : HasDepths a
 
@@ -72,7 +80,7 @@ pub record HasScratch (head : CanvasHead) (a : PolygonArrays) (flags counters : 
 abbrev pub polygons_checks : CanvasHead → ℕ → Option ℕ → PolygonArrays → ℕ → ℕ → Checks Status
 polygons_checks head planes ids a flags counters =
     followed_by (piece_checks head planes) (
-    check (IsOwnSize a.struct_size 144) BadStructSize (
+    check (IsOwnSize a.struct_size 160) BadStructSize (
     check (IsOriginInBand (origin_of head)) BadPosition (
     check (HasScratch head a flags counters) BufferTooSmall (
     check (AreGood ids a) BadBatch
@@ -86,6 +94,7 @@ array_fault CornersLeft = record { cause = 9; draw = None; element = None; value
 array_fault (Polygon k) = record { cause = 12; draw = None; element = Some k; value = None }
 array_fault RingsLeft = record { cause = 9; draw = None; element = None; value = None }
 array_fault (OutOfBand k) = record { cause = 7; draw = None; element = Some k; value = None }
+array_fault TooFewBoxes = record { cause = 24; draw = None; element = None; value = None }
 
 -- There are too few colours, or an id would have more than 24 bits.
 abbrev pub colours_cause : Option ℕ → ℕ
@@ -100,9 +109,21 @@ of_all cause = record { cause = cause; draw = None; element = None; value = None
 abbrev pub IsFirstOfPolygons : Option ℕ → PolygonArrays → Fault → Type 0
 IsFirstOfPolygons ids a fault =
     ((cause : ℕ) × FirstIs (known_checks a) cause × (fault ≡ of_all cause))
-    ⊎ (HasKnownRuleAndState a × ((e : ArraysError) × IsWrong a.corners.now a.ring_ends.now a.polygon_ends.now e × (fault ≡ array_fault e)))
-    ⊎ (HasKnownRuleAndState a × ArePolygons a.corners.now a.ring_ends.now a.polygon_ends.now × (¬ HasColours ids a.colours.now (length a.polygon_ends.now)) × (fault ≡ of_all (colours_cause ids)))
-    ⊎ (HasKnownRuleAndState a × ArePolygons a.corners.now a.ring_ends.now a.polygon_ends.now × HasColours ids a.colours.now (length a.polygon_ends.now) × (¬ HasDepths a) × (fault ≡ of_all 14))
+    ⊎ (HasKnownRuleAndState a × ((e : ArraysError) × IsWrong a.corners.now a.ring_ends.now a.polygon_ends.now a.boxes.now e × (fault ≡ array_fault e)))
+    ⊎ (HasKnownRuleAndState a × HasPolygons a × (¬ HasColours ids a.colours.now (length a.polygon_ends.now)) × (fault ≡ of_all (colours_cause ids)))
+    ⊎ (HasKnownRuleAndState a × HasPolygons a × HasColours ids a.colours.now (length a.polygon_ends.now) × (¬ HasDepths a) × (fault ≡ of_all 14))
+
+-- The checks of a call that finds the boxes of polygons, with room for n of them. What is in `boxes` is not looked at.
+abbrev pub measure_checks : PolygonArrays → ℕ → Checks Status
+measure_checks a n =
+    check (IsOwnSize a.struct_size 160) BadStructSize (
+    check (length a.polygon_ends.now ≤ n) BufferTooSmall (
+    check (ArePolygons a.corners.now a.ring_ends.now a.polygon_ends.now []) BadBatch
+    done))
+
+-- This is first wrong with the arrays.
+abbrev pub IsFirstOfArrays : PolygonArrays → Fault → Type 0
+IsFirstOfArrays a fault = (e : ArraysError) × IsWrong a.corners.now a.ring_ends.now a.polygon_ends.now [] e × (fault ≡ array_fault e)
 
 -- The polygons as they are drawn, in their order, on a canvas that has alpha or not.
 abbrev pub shapes_listed : Bool → Option ℕ → PolygonArrays → List Shape

@@ -10,6 +10,7 @@ mod images;
 mod piece;
 mod polygon_arrays;
 mod polygon_batches;
+mod polygon_boxes;
 mod sample_colours;
 mod tiles;
 mod weights;
@@ -24,6 +25,7 @@ pub use polygon_arrays::PolygonArrays;
 pub use polygon_batches::{
     trirast_proved_canvas_draw_polygon_ids, trirast_proved_canvas_draw_polygons,
 };
+pub use polygon_boxes::trirast_proved_polygons_measure;
 pub use sample_colours::{trirast_canvas_colors, trirast_canvas_store};
 pub use tiles::{trirast_canvas_tile_ids, trirast_canvas_tile_store};
 pub use weights::{Corners, Edges, trirast_edges_at_point};

@@ -9,7 +9,7 @@ ghost use Rattle.canvas_c.specs.PolygonChecks as said;
 use batch::BatchDraw;
 use c_abi::{Fault, is_own_size};
 use canvas::Origin;
-use polygons::{ArraysError, Corner, Polygons, Rule};
+use polygons::{ArraysError, Corner, Extent, Polygons, Rule};
 
 /// The bytes of the struct.
 const POLYGONS_SIZE: u32 = size_of::<PolygonArrays<'_>>() as u32;
@@ -33,6 +33,8 @@ pub struct PolygonArrays<'a> {
     pub colours: &'a [[u8; 4]],
     /// The depth of each polygon, or none at all.
     pub depths: &'a [u16],
+    /// The box of each polygon's corners, or none at all.
+    pub boxes: &'a [Extent],
     /// How they are drawn.
     pub state: BatchDraw,
 }
@@ -75,7 +77,7 @@ fn at_element(cause: u32, element: usize) -> Fault
 }
 
 /// What is wrong with arrays of polygons, by its numbers.
-fn array_fault(error: ArraysError) -> Fault
+pub(crate) fn array_fault(error: ArraysError) -> Fault
     ensures { result ≡ said.array_fault error }
 {
     match error {
@@ -85,6 +87,7 @@ fn array_fault(error: ArraysError) -> Fault
         ArraysError::Polygon(k) => at_element(12, k),
         ArraysError::RingsLeft => of_all(9),
         ArraysError::OutOfBand(k) => at_element(7, k),
+        ArraysError::TooFewBoxes => of_all(24),
     }
 }
 
@@ -125,7 +128,7 @@ fn is_near(pixel: i32) -> bool
 impl<'a> PolygonArrays<'a> {
     /// Whether the struct has the size that this library knows.
     pub(crate) fn has_size(&self) -> bool
-        ensures { IsTrue result ↔ IsOwnSize self.now.struct_size 144 }
+        ensures { IsTrue result ↔ IsOwnSize self.now.struct_size 160 }
     {
         is_own_size(self.struct_size, POLYGONS_SIZE)
     }
@@ -153,14 +156,15 @@ impl<'a> PolygonArrays<'a> {
     /// The polygons, or what is wrong first.
     pub(crate) fn polygons(&self, ids: Option<u32>) -> Result<Polygons<'a>, Fault>
         ensures good { IfOk result (λ p. said.AreGood ids self.now × (p.corners.now ≡ self.now.corners.now) ×
-            (p.ring_ends.now ≡ self.now.ring_ends.now) × (p.polygon_ends.now ≡ self.now.polygon_ends.now)) }
+            (p.ring_ends.now ≡ self.now.ring_ends.now) × (p.polygon_ends.now ≡ self.now.polygon_ends.now) ×
+            (p.boxes.now ≡ self.now.boxes.now)) }
         ensures wrong { IfErr result (λ fault. (¬ said.AreGood ids self.now) ×
             said.IsFirstOfPolygons ids self.now fault) }
     {
         if let Err(cause) = self.check_known() {
             return Err(of_all(cause));
         }
-        match Polygons::new(self.corners, self.ring_ends, self.polygon_ends) {
+        match Polygons::new(self.corners, self.ring_ends, self.polygon_ends, self.boxes) {
             Err(error) => Err(array_fault(error)),
             Ok(polygons) => {
                 if !has_colours(ids, self.colours, self.polygon_ends.len()) {

@@ -3,7 +3,7 @@ ghost use Rattle.std.specs.Prelude.{◌≡◌, ◌≢◌, length, OnOk, OnErr, N
 ghost use Rattle.painting.specs.Painting.{ArePainted};
 ghost use Rattle.c_abi.specs.Calls.{IsCall, IsReport};
 ghost use Rattle.canvas_c.specs.Pieces.{has_alpha, OnRows};
-ghost use Rattle.canvas_c.specs.PolygonChecks.{origin_of, polygons_checks, shapes_listed, IsFirstOfPolygons};
+ghost use Rattle.canvas_c.specs.PolygonChecks.{origin_of, polygons_checks, shapes_listed, HasRightBoxes, IsFirstOfPolygons};
 
 use crate::piece::{CanvasHead, CanvasPiece, rows_of};
 use crate::polygon_arrays::{PolygonArrays, is_in_band, rule_of};
@@ -25,8 +25,8 @@ fn draw_into(
     ensures judged { IsCall (polygons_checks head.now (length planes.old) ids arrays.now (length flags.old)
         (length counters.old)) (IsFirstOfPolygons ids arrays.now) (λ done. ⊤) result }
     ensures drawn { OnOk result (OnRows head.now
-        (λ c first end. ArePainted (shapes_listed (has_alpha head.now) ids arrays.now) (origin_of head.now) c first end planes.old
-        planes.new)) }
+        (λ c first end. HasRightBoxes arrays.now → ArePainted (shapes_listed (has_alpha head.now) ids arrays.now)
+        (origin_of head.now) c first end planes.old planes.new)) }
     ensures kept { OnErr result (planes.new ≡ planes.old) }
 {
     let rows = rows_of(head, planes)?;
@@ -68,7 +68,7 @@ fn draw_into(
 
 /// Draws polygons at the samples of these tile rows, over what is stored there, one after another. Flags and counters
 /// are scratch memory: what is in them before does not matter. Returns the status, and writes the error. If the status
-/// is not 0, the samples are unchanged.
+/// is not 0, the samples are unchanged. By boxes that are not those of the polygons some of them are left out.
 #[unsafe(no_mangle)]
 pub extern "C" fn trirast_proved_canvas_draw_polygons(
     canvas: &mut CanvasPiece<'_>,
@@ -79,7 +79,7 @@ pub extern "C" fn trirast_proved_canvas_draw_polygons(
 ) -> u32
     ensures report { IsReport (polygons_checks canvas.old.head (length canvas.old.planes.now) Nothing polygons.now
         (length flags.old) (length counters.old)) (IsFirstOfPolygons Nothing polygons.now) result error.new }
-    ensures drawn { result ≡ 0 → OnRows canvas.old.head (λ c first end.
+    ensures drawn { result ≡ 0 → OnRows canvas.old.head (λ c first end. HasRightBoxes polygons.now →
         ArePainted (shapes_listed (has_alpha canvas.old.head) Nothing polygons.now) (origin_of canvas.old.head) c first end canvas.old.planes.now canvas.new.planes.now) }
     ensures kept { result ≢ 0 → canvas.new.planes.now ≡ canvas.old.planes.now }
     ensures head { canvas.new.head ≡ canvas.old.head }
@@ -105,7 +105,7 @@ pub extern "C" fn trirast_proved_canvas_draw_polygon_ids(
     ensures report { IsReport (polygons_checks canvas.old.head (length canvas.old.planes.now) (Just first_id)
         polygons.now (length flags.old) (length counters.old)) (IsFirstOfPolygons (Just first_id) polygons.now) result
         error.new }
-    ensures drawn { result ≡ 0 → OnRows canvas.old.head (λ c first end.
+    ensures drawn { result ≡ 0 → OnRows canvas.old.head (λ c first end. HasRightBoxes polygons.now →
         ArePainted (shapes_listed (has_alpha canvas.old.head) (Just first_id) polygons.now) (origin_of canvas.old.head) c first end canvas.old.planes.now canvas.new.planes.now) }
     ensures kept { result ≢ 0 → canvas.new.planes.now ≡ canvas.old.planes.now }
     ensures head { canvas.new.head ≡ canvas.old.head }

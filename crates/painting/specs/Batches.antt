@@ -5,10 +5,18 @@ use Rattle.shade.specs.declared.state.State.{State}
 use Rattle.polygons.specs.declared.arrays.Polygons.{Polygons}
 use Rattle.polygons.specs.declared.corner.Corner.{Corner}
 use Rattle.polygons.specs.declared.rule.Rule.{Rule}
-use Rattle.polygons.specs.Arrays.{rings_of}
+use Rattle.polygons.specs.Arrays.{rings_of, BoxesFit, IsPolygonInBand}
 use Rattle.canvas.specs.Ids.{colour_of_id, replacing}
 use Rattle.painting.specs.declared.batch.Style.{Style}
 use Rattle.painting.specs.Painting.{Shape}
+
+-- If there are boxes, they are those of the polygons.
+abbrev pub AreFit : Polygons → Type 0
+AreFit polygons = BoxesFit polygons.boxes.now polygons.corners.now polygons.ring_ends.now polygons.polygon_ends.now
+
+-- The corners of polygon k are inside of the guard band.
+abbrev pub HasCornersInBand : Polygons → ℕ → Type 0
+HasCornersInBand polygons k = IsPolygonInBand polygons.corners.now polygons.ring_ends.now polygons.polygon_ends.now k
 
 -- The colour of polygon k: one of these, or that of its id, which is counted from the first one on.
 abbrev pub polygon_colour : Option ℕ → List (List ℕ) → ℕ → List ℕ

@@ -61,6 +61,8 @@
 --   IsSmallOfFour: A pixel has four samples, and there are fewer than four columns of masks.
 --
 -- Batches.antt
+--   AreFit: If there are boxes, they are those of the polygons.
+--   HasCornersInBand: The corners of polygon k are inside of the guard band.
 --   polygon_colour: The colour of polygon k: one of these, or that of its id, which is counted from the first one on.
 --   state_of: The state: where ids are drawn, they replace what is stored.
 --   shape_by: Polygon k of these arrays as it is drawn.
@@ -71,7 +73,8 @@
 --
 -- Groups.antt
 --   span_of: The tile rows that the group says of polygon k.
---   SaysRowsOf: Of each polygon of the group it says in which tile rows all samples lie that it meets.
+--   SaysRowsOf: Of each polygon of the group it says in which tile rows all samples lie that it meets, if the boxes are right.
+--   HasSeen: If it says of a polygon that there are some rows, the corners of this polygon are inside of the guard band.
 --   CanBeDrawn: The polygons of the group can be drawn on a canvas of this size.
 
 pub mod Painting

@@ -2,7 +2,7 @@
 ghost use Rattle.std.specs.Prelude.{◌≡◌, ◌+◌, ◌<◌, ◌≤◌, length, slice_index};
 ghost use Rattle.polygons.specs.declared.rule.Rule.TheVariants.{NonZero};
 ghost use Rattle.polygons.specs.Cells.{AreZeros};
-ghost use Rattle.painting.specs.Batches.{HasColours, shape_in, shapes_of};
+ghost use Rattle.painting.specs.Batches.{AreFit, HasColours, HasCornersInBand, shape_in, shapes_of};
 ghost use Rattle.painting.specs.Painting.{ArePainted, IsOriginInBand, shape_of};
 ghost use Rattle.painting.specs.Parts.{flag_columns_of, counter_columns_of};
 
@@ -42,6 +42,7 @@ impl Style<'_> {
     #[inline(always)]
     pub(crate) fn polygon<'a>(&self, polygons: &Polygons<'a>, number: usize) -> Polygon<'a>
         requires number { number < length polygons.now.polygon_ends.now }
+        requires seen { HasCornersInBand polygons.now number }
         requires colours { HasColours self.now.ids self.now.colours.now (length polygons.now.polygon_ends.now) }
         ensures { shape_of result ≡ shape_in polygons.now self.now number }
     {
@@ -65,7 +66,7 @@ impl Style<'_> {
 /// Draws polygons, one after another, at each sample of these tile rows of a canvas whose upper left pixel is `origin`
 /// on the screen: what stood there is what each is merged with. There are at least `flag_columns` columns of flags, which
 /// are zeros, and are zeros again afterwards, and for the nonzero rule `counter_columns` columns of counters, whatever is
-/// in them.
+/// in them. By boxes that are not those of the polygons some are left out.
 pub fn draw_polygons(
     piece: &mut Piece<'_>,
     polygons: &Polygons<'_>,
@@ -79,7 +80,7 @@ pub fn draw_polygons(
     requires columns { flag_columns_of style.now.rule piece.old.rows.canvas ≤ length flags.old }
     requires flags { AreZeros flags.old }
     requires counted { style.now.rule ≡ NonZero → counter_columns_of piece.old.rows.canvas ≤ length counters.old }
-    ensures painted { ArePainted (shapes_of polygons.now style.now) origin.now piece.old.rows.canvas
+    ensures painted { AreFit polygons.now → ArePainted (shapes_of polygons.now style.now) origin.now piece.old.rows.canvas
         piece.old.rows.first piece.old.rows.end piece.old.planes.now piece.new.planes.now }
     ensures rows { piece.new.rows ≡ piece.old.rows }
     ensures same { piece.new.planes.ghost_name ≡ piece.old.planes.ghost_name }
@@ -94,7 +95,7 @@ pub fn draw_polygons(
             first = end;
             continue;
         }
-        group.take(polygons, style, origin, &piece.rows.canvas, first);
+        group.take(polygons, origin, &piece.rows.canvas, first);
         group.paint(
             &piece.rows,
             polygons,

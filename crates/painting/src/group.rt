@@ -2,32 +2,24 @@
 ghost use Rattle.std.specs.Prelude.{ℕ, ◌≡◌, ◌↔◌, ◌+◌, ◌/◌, ◌<◌, ◌≤◌, length, IsTrue};
 ghost use Rattle.canvas.specs.Layout.{planes_of_row, planes_of_rows};
 ghost use Rattle.polygons.specs.Cells.{AreZeros};
-ghost use Rattle.painting.specs.Batches.{HasColours, shape_in, shapes_between};
-ghost use Rattle.painting.specs.Painting.{ArePainted, shape_of};
+ghost use Rattle.painting.specs.declared.batch.Style.{Style as StyleOf};
+ghost use Rattle.painting.specs.Batches.{AreFit, HasColours, HasCornersInBand, shape_in, shapes_between};
+ghost use Rattle.painting.specs.Painting.{ArePainted};
 ghost use Rattle.painting.specs.Parts.{LiesInRows};
 
 use crate::batch::Style;
-use crate::polygon::Polygon;
 use crate::rows::paint_rows;
 use crate::window::Window;
 use canvas::{Canvas, Origin, TileRows};
 use lanes::BlockSamples;
-use polygons::{Counters, Flags, Polygons, Rings, Runs};
+use polygons::{Counters, Flags, Polygons, Runs};
 
 /// How many polygons are drawn together at most.
 const MOST: usize = 4096;
 
 /// How many corners a polygon has at most that is drawn together with others. The boxes of its runs are found anew in
 /// each tile row.
-const FEW: u32 = 1024;
-
-/// Whether a polygon has more corners than one that is drawn together with others.
-fn has_many_corners(rings: &Rings<'_>) -> bool {
-    match rings.ends {
-        [] => false,
-        [.., last] => last.saturating_sub(rings.start) > FEW,
-    }
-}
+const FEW: usize = 1024;
 
 /// The number behind the run of polygons to which the one of this number belongs, and whether the run lies beside the
 /// canvas. No corner is looked at.
@@ -40,7 +32,7 @@ pub(crate) fn run_of(
     requires { number < length polygons.now.polygon_ends.now }
     ensures after { number < result.0 }
     ensures within { result.0 ≤ length polygons.now.polygon_ends.now }
-    ensures beside { IsTrue result.1 → (style : Style) (k : ℕ) → number ≤ k → k < result.0 →
+    ensures beside { IsTrue result.1 → AreFit polygons.now → (style : StyleOf) (k : ℕ) → number ≤ k → k < result.0 →
         LiesInRows (shape_in polygons.now style k) origin.now canvas.now 0 0 }
 {
     let (extent, end) = polygons.run_of(number);
@@ -68,17 +60,36 @@ impl Span {
     {
         u32::from(self.top) <= row && row < u32::from(self.bottom)
     }
+
+    /// Whether there are none.
+    #[inline]
+    fn is_empty(&self) -> bool
+        ensures { IsTrue result ↔ self.now.bottom ≤ self.now.top }
+    {
+        self.bottom <= self.top
+    }
 }
 
-/// Tile rows in which all samples lie that the polygon meets. Of one of many corners these are all: it is drawn by
-/// itself, and its corners are looked at when it is drawn.
-fn rows_of(polygon: &Polygon<'_>, origin: &Origin, canvas: &Canvas) -> Span
-    ensures { LiesInRows (shape_of polygon.now) origin.now canvas.now result.top result.bottom }
+/// Tile rows in which all samples lie that the polygon of this number meets, if the caller's boxes are right. Of a polygon of
+/// many corners these are all, if the corners are known to be in the guard band: it is drawn by itself, and its corners are
+/// looked at when it is drawn. There are none if a corner is outside of the guard band.
+fn rows_of(polygons: &Polygons<'_>, number: usize, origin: &Origin, canvas: &Canvas) -> Span
+    requires { number < length polygons.now.polygon_ends.now }
+    ensures rows { AreFit polygons.now → (style : StyleOf) →
+        LiesInRows (shape_in polygons.now style number) origin.now canvas.now result.top result.bottom }
+    ensures seen { result.top < result.bottom → HasCornersInBand polygons.now number }
 {
-    if has_many_corners(&polygon.rings) {
-        return ALL;
+    if polygons.are_seen() {
+        if FEW < polygons.corner_count(number) {
+            return ALL;
+        }
+    } else if run_of(polygons, number, origin, canvas).1 {
+        return NONE;
     }
-    let window = Window::of(&polygon.rings.extent(), origin, canvas);
+    let Some(extent) = polygons.extent(number) else {
+        return NONE;
+    };
+    let window = Window::of(&extent, origin, canvas);
     if window.is_empty() {
         return NONE;
     }
@@ -101,7 +112,7 @@ pub(crate) struct Group {
 }
 
 impl Group {
-    ghost use Rattle.painting.specs.Groups.{SaysRowsOf, CanBeDrawn};
+    ghost use Rattle.painting.specs.Groups.{SaysRowsOf, HasSeen, CanBeDrawn};
 
     /// No polygons.
     pub(crate) fn none() -> Group {
@@ -113,39 +124,38 @@ impl Group {
     }
 
     /// Takes the polygons from `first` on that are drawn together, on a canvas of this size. A polygon of many corners is
-    /// taken by itself. No polygon is taken behind `first` from a run on that lies beside the canvas.
+    /// taken by itself. No polygon is taken behind `first` from a run on that lies beside the canvas, unless the caller has
+    /// boxes.
     pub(crate) fn take(
         &mut self,
         polygons: &Polygons<'_>,
-        style: &Style<'_>,
         origin: &Origin,
         canvas: &Canvas,
         first: usize,
     )
-        requires colours { HasColours style.now.ids style.now.colours.now (length polygons.now.polygon_ends.now) }
         requires first { first < length polygons.now.polygon_ends.now }
         ensures first { self.new.first ≡ first }
         ensures some { first < self.new.end }
         ensures within { self.new.end ≤ length polygons.now.polygon_ends.now }
-        ensures rows { SaysRowsOf self.new polygons.now style.now origin.now canvas.now }
+        ensures rows { (style : StyleOf) → SaysRowsOf self.new polygons.now style origin.now canvas.now }
+        ensures seen { HasSeen self.new polygons.now }
     {
         let mut behind = first;
         self.first = first;
         self.end = first;
         for number in first..polygons.count().min(first + MOST) {
-            if number == behind {
+            if polygons.are_seen() && number == behind {
                 let (end, is_beside) = run_of(polygons, number, origin, canvas);
                 if is_beside && first < number {
                     return;
                 }
                 behind = end;
             }
-            let polygon = style.polygon(polygons, number);
-            let is_large = has_many_corners(&polygon.rings);
+            let is_large = FEW < polygons.corner_count(number);
             if is_large && first < number {
                 return;
             }
-            self.spans[number - first] = rows_of(&polygon, origin, canvas);
+            self.spans[number - first] = rows_of(polygons, number, origin, canvas);
             self.end = number + 1;
             if is_large {
                 return;
@@ -169,8 +179,8 @@ impl Group {
         requires row { row < (canvas.now.height + 63) / 64 }
         requires ready { CanBeDrawn self.now polygons.now style.now origin.now canvas.now flags.old counters.old }
         requires samples { length samples.old ≡ planes_of_row canvas.now }
-        ensures painted { ArePainted (shapes_between polygons.now style.now self.now.first self.now.end) origin.now canvas.now
-            row (row + 1) samples.old samples.new }
+        ensures painted { AreFit polygons.now → ArePainted (shapes_between polygons.now style.now self.now.first self.now.end)
+            origin.now canvas.now row (row + 1) samples.old samples.new }
         ensures flags { AreZeros flags.new }
     {
         let rows = TileRows {
@@ -201,13 +211,15 @@ impl Group {
     )
         requires ready { CanBeDrawn self.now polygons.now style.now origin.now rows.now.canvas flags.old counters.old }
         requires samples { length samples.old ≡ planes_of_rows rows.now.canvas rows.now.first rows.now.end }
-        ensures painted { ArePainted (shapes_between polygons.now style.now self.now.first self.now.end) origin.now
-            rows.now.canvas rows.now.first rows.now.end samples.old samples.new }
+        ensures painted { AreFit polygons.now → ArePainted (shapes_between polygons.now style.now self.now.first self.now.end)
+            origin.now rows.now.canvas rows.now.first rows.now.end samples.old samples.new }
         ensures flags { AreZeros flags.new }
     {
         if self.end == self.first + 1 {
-            let polygon = style.polygon(polygons, self.first);
-            paint_rows(rows, &polygon, origin, runs, flags, counters, samples);
+            if !self.spans[0].is_empty() {
+                let polygon = style.polygon(polygons, self.first);
+                paint_rows(rows, &polygon, origin, runs, flags, counters, samples);
+            }
             return;
         }
         let each = rows.canvas.planes_of_row();

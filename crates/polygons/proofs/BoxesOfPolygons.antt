@@ -11,8 +11,7 @@ use Rattle.polygons.specs.declared.corner.Corner.{Corner}
 use Rattle.polygons.specs.declared.extent.Extent.{Extent}
 use Rattle.polygons.specs.Arrays.{begin_of, first_corner, ends_of, rings_of, AreParts}
 use Rattle.polygons.specs.Polygon.{polygon_edges}
-use Rattle.polygons.specs.Rings.{position_of, end_of, AreAscendingEnds, IsInClosedExtent, HoldsInside}
-use Rattle.polygons.specs.Runs.{corners_between}
+use Rattle.polygons.specs.Rings.{position_of, end_of, AreAscendingEnds, IsInClosedExtent, HoldsInside, corners_between}
 use Rattle.polygons.proofs.ArrayParts.{next_begin, end_of_part, part_of_ends}
 use Rattle.polygons.proofs.Boxes.{holds_inside}
 use Rattle.polygons.proofs.RingParts.{all_before, all_behind, rings_outside, rising_to}

@@ -36,6 +36,7 @@ pub mod Boxes
 pub mod RingParts
 pub mod ArrayParts
 pub mod RunBoxes
+pub mod Seen
 pub mod BoxesOfPolygons
 pub mod Walks
 pub mod BitPlanes

@@ -18,9 +18,9 @@ use Rattle.polygons.specs.declared.strip.Strip.{Strip}
 use Rattle.polygons.specs.Apart.{LiesBeside}
 use Rattle.polygons.specs.Crossing.{winding}
 use Rattle.polygons.specs.Polygon.{path_edges, path_end, ring_edges}
-use Rattle.polygons.specs.Rings.{position_of, end_of, IsInClosedExtent}
+use Rattle.polygons.specs.Rings.{position_of, end_of, IsInClosedExtent, corners_between}
 use Rattle.polygons.specs.Rows.{direction}
-use Rattle.polygons.specs.Runs.{corner_at, corners_between, box_of, AreRunsOf, IsCrossedAsChord}
+use Rattle.polygons.specs.Runs.{corner_at, box_of, AreRunsOf, IsCrossedAsChord}
 use Rattle.polygons.specs.Strip.{strip_sample}
 use Rattle.polygons.proofs.Boxes.{path_outside}
 use Rattle.polygons.proofs.Plotted.{winding-cons, ring_closed, nothing_yet}

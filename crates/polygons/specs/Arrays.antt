@@ -1,11 +1,13 @@
 -- Polygons in arrays: corners one ring's after another's, of each ring the index behind its last corner, and of each polygon the index
 -- behind its last ring.
-use Rattle.std.specs.Prelude.{◌≡◌, ℕ, ◌-◌, ◌^◌, ◌<◌, ◌≤◌, List, ◌∷◌, take, drop, length, slice_index, slice_index_or, pos}
+use Rattle.std.specs.Prelude.{◌≡◌, ℕ, ◌+◌, ◌-◌, ◌^◌, ◌<◌, ◌≤◌, List, ◌∷◌, take, drop, length, slice_index, slice_index_or, pos}
+use Rattle.std.specs.List.{All}
 use Rattle.grid.specs.Position.{Position, IsInGuardBand}
 use Rattle.polygons.specs.declared.arrays.ArraysError.{ArraysError}
-use Rattle.polygons.specs.declared.arrays.ArraysError.TheVariants.{TooManyCorners, Ring, CornersLeft, Polygon, RingsLeft, OutOfBand}
+use Rattle.polygons.specs.declared.arrays.ArraysError.TheVariants.{TooManyCorners, Ring, CornersLeft, Polygon, RingsLeft, OutOfBand, TooFewBoxes}
 use Rattle.polygons.specs.declared.corner.Corner.{Corner}
-use Rattle.polygons.specs.Rings.{position_of, rings_from, AreCornersInBand, AreAscendingEnds}
+use Rattle.polygons.specs.declared.extent.Extent.{Extent}
+use Rattle.polygons.specs.Rings.{position_of, rings_from, corners_between, AreCornersInBand, AreAscendingEnds, IsInClosedExtent, IsLeastExtent}
 
 -- Where part k begins: where the one before it ends.
 abbrev pub begin_of : List ℕ → ℕ → ℕ
@@ -28,12 +30,40 @@ pub record AreParts (ends : List ℕ) (n : ℕ) : Type 0 where
   pub rising : AreAscendingEnds 0 ends n
   pub whole : begin_of ends (length ends) ≡ n
 
--- The arrays are those of polygons.
-pub record ArePolygons (corners : List Corner) (ring_ends polygon_ends : List ℕ) : Type 0 where
+-- Where the corners of polygon k lie.
+abbrev pub polygon_corners : List Corner → List ℕ → List ℕ → ℕ → List Position
+polygon_corners corners ring_ends polygon_ends k = corners_between corners (first_corner ring_ends polygon_ends k) (first_corner ring_ends polygon_ends (k + 1))
+
+-- The corners of polygon k are inside of the guard band.
+abbrev pub IsPolygonInBand : List Corner → List ℕ → List ℕ → ℕ → Type 0
+IsPolygonInBand corners ring_ends polygon_ends k = All IsInGuardBand (polygon_corners corners ring_ends polygon_ends k)
+
+-- The arrays are those of polygons. There are no boxes, and all corners are inside of the guard band; or there is a box for each polygon,
+-- and of corners nothing is said.
+pub record ArePolygons (corners : List Corner) (ring_ends polygon_ends : List ℕ) (boxes : List Extent) : Type 0 where
   pub few : length corners < 2 ^ 32
   pub rings : AreParts ring_ends (length corners)
   pub polygons : AreParts polygon_ends (length ring_ends)
+  pub seen : length boxes ≡ 0 → AreCornersInBand corners
+  pub boxed : 0 < length boxes → length polygon_ends ≤ length boxes
+
+-- The box of number k.
+abbrev pub box_at : List Extent → ℕ → Extent
+box_at boxes k = slice_index_or boxes k (record { left = pos 0; top = pos 0; right = pos 0; bottom = pos 0 })
+
+-- All corners are inside of the guard band, and each of polygon k is in box k or on its border.
+pub record AreBoxesOf (boxes : List Extent) (corners : List Corner) (ring_ends polygon_ends : List ℕ) : Type 0 where
   pub seen : AreCornersInBand corners
+  pub held : (k : ℕ) → k < length polygon_ends → All (IsInClosedExtent (box_at boxes k)) (polygon_corners corners ring_ends polygon_ends k)
+
+-- If there are boxes, they are those of the polygons.
+abbrev pub BoxesFit : List Extent → List Corner → List ℕ → List ℕ → Type 0
+BoxesFit boxes corners ring_ends polygon_ends = 0 < length boxes → AreBoxesOf boxes corners ring_ends polygon_ends
+
+-- All corners are inside of the guard band, and box k is the least one that holds those of polygon k.
+pub record AreLeastBoxesOf (boxes : List Extent) (corners : List Corner) (ring_ends polygon_ends : List ℕ) : Type 0 where
+  pub seen : AreCornersInBand corners
+  pub least : (k : ℕ) → k < length polygon_ends → IsLeastExtent (box_at boxes k) (polygon_corners corners ring_ends polygon_ends k)
 
 -- Part k is the first that ends before it begins, or behind the whole, which has n elements.
 pub record IsFirstFall (ends : List ℕ) (n k : ℕ) : Type 0 where
@@ -53,14 +83,16 @@ pub record IsFirstOutside (corners : List Corner) (k : ℕ) : Type 0 where
   pub outside : ¬ IsInGuardBand (position_of (slice_index_or corners k (record { x = pos 0; y = pos 0 })))
 
 -- What is first wrong with the arrays. It is looked at in this order: that there are fewer than 2^32 corners; the ends of rings; the ends
--- of polygons; the corners.
-abbrev pub IsWrong : List Corner → List ℕ → List ℕ → ArraysError → Type 0
-IsWrong corners ring_ends polygon_ends TooManyCorners = 2 ^ 32 ≤ length corners
-IsWrong corners ring_ends polygon_ends (Ring k) = (length corners < 2 ^ 32) × IsFirstFall ring_ends (length corners) k
-IsWrong corners ring_ends polygon_ends CornersLeft = (length corners < 2 ^ 32) × IsShort ring_ends (length corners)
-IsWrong corners ring_ends polygon_ends (Polygon k) =
+-- of polygons; the corners, or how many boxes there are, if there are any.
+abbrev pub IsWrong : List Corner → List ℕ → List ℕ → List Extent → ArraysError → Type 0
+IsWrong corners ring_ends polygon_ends boxes TooManyCorners = 2 ^ 32 ≤ length corners
+IsWrong corners ring_ends polygon_ends boxes (Ring k) = (length corners < 2 ^ 32) × IsFirstFall ring_ends (length corners) k
+IsWrong corners ring_ends polygon_ends boxes CornersLeft = (length corners < 2 ^ 32) × IsShort ring_ends (length corners)
+IsWrong corners ring_ends polygon_ends boxes (Polygon k) =
     (length corners < 2 ^ 32) × AreParts ring_ends (length corners) × IsFirstFall polygon_ends (length ring_ends) k
-IsWrong corners ring_ends polygon_ends RingsLeft =
+IsWrong corners ring_ends polygon_ends boxes RingsLeft =
     (length corners < 2 ^ 32) × AreParts ring_ends (length corners) × IsShort polygon_ends (length ring_ends)
-IsWrong corners ring_ends polygon_ends (OutOfBand k) =
-    (length corners < 2 ^ 32) × AreParts ring_ends (length corners) × AreParts polygon_ends (length ring_ends) × IsFirstOutside corners k
+IsWrong corners ring_ends polygon_ends boxes (OutOfBand k) =
+    (length corners < 2 ^ 32) × AreParts ring_ends (length corners) × AreParts polygon_ends (length ring_ends) × (length boxes ≡ 0) × IsFirstOutside corners k
+IsWrong corners ring_ends polygon_ends boxes TooFewBoxes =
+    (length corners < 2 ^ 32) × AreParts ring_ends (length corners) × AreParts polygon_ends (length ring_ends) × (0 < length boxes) × (length boxes < length polygon_ends)

@@ -24,12 +24,16 @@
 --
 -- Rings.antt
 --   position_of: Where a corner lies.
+--   corners_between: Where the corners from index `begin` to before `end` lie.
 --   AreCornersInBand: All corners are inside of the guard band.
 --   AreAscendingEnds: Each ring, the first of which begins at `start`, ends no earlier than it begins, and the next one begins there.
 --   end_of: The index behind the last ring's last corner.
 --   rings_from: The rings of these corners, by where the first begins and by the index behind the last corner of each.
 --   IsInExtent: The point is in the box, whose right and lower sides are outside of it.
 --   IsInClosedExtent: The point is in the box or on its border.
+--   IsExtentWithin: All of the first box is in the second one.
+--   nothing: The box of no points.
+--   IsLeastExtent: The box is the least that holds these points: each other that holds them holds it.
 --   HoldsInside: By either rule the edges have nothing inside but in the box.
 --
 -- Arrays.antt
@@ -38,7 +42,13 @@
 --   ends_of: The ends of the rings of polygon k.
 --   rings_of: The rings of polygon k.
 --   AreParts: The parts end one after another, and the last one with the whole, which has n elements.
+--   polygon_corners: Where the corners of polygon k lie.
+--   IsPolygonInBand: The corners of polygon k are inside of the guard band.
 --   ArePolygons: The arrays are those of polygons.
+--   box_at: The box of number k.
+--   AreBoxesOf: All corners are inside of the guard band, and each of polygon k is in box k or on its border.
+--   BoxesFit: If there are boxes, they are those of the polygons.
+--   AreLeastBoxesOf: All corners are inside of the guard band, and box k is the least one that holds those of polygon k.
 --   IsFirstFall: Part k is the first that ends before it begins, or behind the whole, which has n elements.
 --   IsShort: The last part ends before the whole does, which has n elements.
 --   IsFirstOutside: Corner k is the first outside of the guard band.
@@ -129,7 +139,6 @@
 --
 -- Runs.antt
 --   corner_at: Where corner i lies.
---   corners_between: Where the corners from index `begin` to before `end` lie.
 --   IsCrossedAsChord: The path from a corner through others winds around p as the edge from its first corner to its last one does.
 --   box_of: The box of a run.
 --   AreRunsOf: Each box holds the corners of its run and the one behind it.

@@ -1,5 +1,5 @@
 -- Rings in a list of corners that stand one after another, and the box that holds them.
-use Rattle.std.specs.Prelude.{ℕ, ◌-◌, ◌<◌, ◌≤◌, ◌≤ℤ◌, ◌<ℤ◌, List, [], ◌∷◌, map, take, drop, length, slice_index}
+use Rattle.std.specs.Prelude.{◌≡◌, ℕ, pos, negsuc, ◌-◌, ◌<◌, ◌≤◌, ◌≤ℤ◌, ◌<ℤ◌, List, [], ◌∷◌, map, take, drop, length, slice_index}
 use Rattle.std.specs.List.{All}
 use Rattle.grid.specs.Position.{Position, IsInGuardBand}
 use Rattle.polygons.specs.declared.corner.Corner.{Corner}
@@ -11,6 +11,10 @@ use Rattle.polygons.specs.Crossing.{IsInside}
 -- Where a corner lies.
 abbrev pub position_of : Corner → Position
 position_of c = record { x = c.x; y = c.y }
+
+-- Where the corners from index `begin` to before `end` lie.
+abbrev pub corners_between : List Corner → ℕ → ℕ → List Position
+corners_between corners begin end = map position_of (take (end - begin) (drop begin corners))
 
 -- All corners are inside of the guard band.
 abbrev pub AreCornersInBand : List Corner → Type 0
@@ -45,6 +49,23 @@ pub record IsInClosedExtent (e : Extent) (p : Position) : Type 0 where
   pub right : p.x ≤ℤ e.right
   pub top : e.top ≤ℤ p.y
   pub bottom : p.y ≤ℤ e.bottom
+
+-- All of the first box is in the second one.
+pub record IsExtentWithin (e f : Extent) : Type 0 where
+  pub left : f.left ≤ℤ e.left
+  pub right : e.right ≤ℤ f.right
+  pub top : f.top ≤ℤ e.top
+  pub bottom : e.bottom ≤ℤ f.bottom
+
+-- The box of no points.
+abbrev pub nothing : Extent
+nothing = record { left = pos 2147483647; top = pos 2147483647; right = negsuc 2147483647; bottom = negsuc 2147483647 }
+
+-- The box is the least that holds these points: each other that holds them holds it.
+pub record IsLeastExtent (e : Extent) (ps : List Position) : Type 0 where
+  pub held : All (IsInClosedExtent e) ps
+  pub none : length ps ≡ 0 → e ≡ nothing
+  pub least : 0 < length ps → (f : Extent) → All (IsInClosedExtent f) ps → IsExtentWithin e f
 
 -- By either rule the edges have nothing inside but in the box.
 abbrev pub HoldsInside : Extent → List Edge → Type 0

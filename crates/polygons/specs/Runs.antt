@@ -1,5 +1,5 @@
 -- Runs of a polygon's corners, and the box of each.
-use Rattle.std.specs.Prelude.{◌≡◌, ℕ, ◌+◌, ◌-◌, ◌*◌, ◌<◌, ◌≤◌, pos, List, map, take, drop, slice_index_or}
+use Rattle.std.specs.Prelude.{◌≡◌, ℕ, ◌+◌, ◌*◌, ◌<◌, ◌≤◌, pos, List, slice_index_or}
 use Rattle.grid.specs.Position.{Position}
 use Rattle.polygons.specs.declared.corner.Corner.{Corner}
 use Rattle.polygons.specs.declared.extent.Extent.{Extent}
@@ -13,10 +13,6 @@ use Rattle.polygons.specs.Rings.{position_of, end_of, IsInClosedExtent}
 -- Where corner i lies.
 abbrev pub corner_at : List Corner → ℕ → Position
 corner_at corners i = position_of (slice_index_or corners i (record { x = pos 0; y = pos 0 }))
-
--- Where the corners from index `begin` to before `end` lie.
-abbrev pub corners_between : List Corner → ℕ → ℕ → List Position
-corners_between corners begin end = map position_of (take (end - begin) (drop begin corners))
 
 -- The path from a corner through others winds around p as the edge from its first corner to its last one does.
 abbrev pub IsCrossedAsChord : Position → List Position → Position → Type 0

@@ -1,13 +1,15 @@
 //! The box of a polygon's corners.
-ghost use Rattle.std.specs.Prelude.{map, IsTrue};
-ghost use Rattle.std.specs.List.{All};
+ghost use Rattle.std.specs.Prelude.{◌≡◌, map, IsTrue};
 ghost use Rattle.grid.specs.Position.{Position, IsInGuardBand};
-ghost use Rattle.polygons.specs.Rings.{position_of, IsInClosedExtent};
+ghost use Rattle.polygons.specs.declared.extent.Extent.{Extent as Box};
+ghost use Rattle.polygons.specs.Rings.{position_of, nothing, IsInClosedExtent, IsExtentWithin, IsLeastExtent};
 
 use crate::corner::Corner;
 use grid::Point;
 
-/// A box on the screen in 1/256 pixel, with coordinates from `left` and `top` to before `right` and `bottom`.
+/// A box on the screen in 1/256 pixel, with coordinates from `left` and `top` to before `right` and `bottom`, laid out as
+/// in C.
+#[repr(C)]
 #[derive(Clone, Copy, Debug, PartialEq, Eq)]
 pub struct Extent {
     pub left: i32,
@@ -27,7 +29,7 @@ pub(crate) const NOTHING: Extent = Extent {
 impl Extent {
     /// The box of some corners.
     pub(crate) fn of(corners: &[Corner]) -> Extent
-        ensures { All (IsInClosedExtent result) (map position_of corners.now) }
+        ensures { IsLeastExtent result (map position_of corners.now) }
     {
         let mut extent = NOTHING;
         for corner in corners {
@@ -61,6 +63,9 @@ impl Extent {
     pub(crate) fn with(self, corner: &Corner) -> Extent
         ensures corner { IsInClosedExtent result (position_of corner.now) }
         ensures others { (p : Position) → IsInClosedExtent self p → IsInClosedExtent result p }
+        ensures first { self ≡ nothing → (f : Box) → IsInClosedExtent f (position_of corner.now) → IsExtentWithin result f }
+        ensures least { (f : Box) → IsExtentWithin self f → IsInClosedExtent f (position_of corner.now) →
+            IsExtentWithin result f }
     {
         Extent {
             left: self.left.min(corner.x),

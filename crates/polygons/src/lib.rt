@@ -37,7 +37,7 @@ mod strip_masks;
 mod sum;
 mod walk;
 
-pub use arrays::{ArraysError, Polygons};
+pub use arrays::{ArraysError, Polygons, measure};
 pub use cells::{Counters, Flags};
 pub use corner::Corner;
 pub use crossings::{Crossings, count_edges};

@@ -24,6 +24,14 @@ impl PolygonRuns {
     ghost use Rattle.polygons.specs.Arrays.{AreParts};
     ghost use Rattle.polygons.specs.PolygonRuns.{run_box, HoldsPolygons};
 
+    /// Runs that are not used.
+    pub(crate) fn none() -> PolygonRuns {
+        PolygonRuns {
+            length: 1,
+            boxes: [NOTHING; RUNS],
+        }
+    }
+
     /// The runs of these polygons, and a box that holds all corners.
     pub(crate) fn of(
         corners: &[Corner],

@@ -1,7 +1,9 @@
 //! The rings of a polygon in a list of corners.
 ghost use Rattle.std.specs.Prelude.{◌≡◌, ◌≤◌, ◌^◌, ◌<◌, length};
 ghost use Rattle.polygons.specs.Polygon.{polygon_edges};
-ghost use Rattle.polygons.specs.Rings.{AreCornersInBand, AreAscendingEnds};
+ghost use Rattle.std.specs.List.{All};
+ghost use Rattle.grid.specs.Position.{IsInGuardBand};
+ghost use Rattle.polygons.specs.Rings.{AreAscendingEnds, corners_between, end_of};
 
 use crate::corner::Corner;
 use crate::extent::Extent;
@@ -15,13 +17,13 @@ pub struct Rings<'a> {
     pub start: u32,
     /// Of each ring the index behind its last corner. The next ring begins there.
     pub ends: &'a [u32],
-    pub ghost seen: { AreCornersInBand corners.now },
+    pub ghost seen: { All IsInGuardBand (corners_between corners.now start (end_of start ends.now)) },
     pub ghost rising: { AreAscendingEnds start ends.now (length corners.now) },
     pub ghost few: { length corners.now < 2 ^ 32 },
 }
 
 impl Rings<'_> {
-    ghost use Rattle.polygons.specs.Rings.{rings_from, end_of, HoldsInside};
+    ghost use Rattle.polygons.specs.Rings.{rings_from, HoldsInside};
 
     /// The index behind the last corner.
     pub(crate) fn end(&self) -> u32

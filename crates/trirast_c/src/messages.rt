@@ -72,6 +72,7 @@ fn batch_words(cause: u32) -> (&'static str, &'static str) {
         21 => ("", "no such blend factor"),
         22 => ("", "no such blend operation"),
         23 => ("", "no such fill rule"),
+        24 => ("", "there are fewer boxes than polygons"),
         _ => ("", Status::BadBatch.text()),
     }
 }

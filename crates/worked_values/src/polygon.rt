@@ -88,8 +88,8 @@ pub(crate) fn strip_of(words: &mut Words<'_>) -> Option<Answer> {
         };
     }
     let ends = [u32::try_from(ring.count).ok()?];
-    let polygons = Polygons::new(&corners[..ring.count], &ends, &[1]).ok()?;
-    if polygons.count() == 0 {
+    let polygons = Polygons::new(&corners[..ring.count], &ends, &[1], &[]).ok()?;
+    if polygons.count() == 0 || !polygons.are_seen() {
         return None;
     }
     let rings = polygons.rings(0);

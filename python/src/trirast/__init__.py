@@ -25,6 +25,7 @@ given if numpy is there.
 """
 
 from ._blend import BLENDS, Blend
+from ._boxes import polygon_boxes
 from ._canvas import Canvas, edges_at
 from ._clip import Clipped, clip
 from ._draw import Draw, State
@@ -63,6 +64,5 @@ __all__ = [
     "LimitError", "MemorySizeError", "OutOfMemoryError", "Picture", "PixelError", "PixelHistory", "PositionError",
     "SampleError", "SampleHistory", "State", "Stored", "StrideError", "StructSizeError", "TileError", "TileRowsError",
     "TileSizeError", "TriangleError", "TriangleSamples", "VERTEX", "__version__", "clip", "draw", "draw_file",
-    "edges_at", "image_info", "snap",
-    "triangle_samples", "why",
+    "edges_at", "image_info", "polygon_boxes", "snap", "triangle_samples", "why",
 ]

@@ -9,6 +9,7 @@ from typing import Any, Callable, Dict, List, Literal, Optional, Sequence, Suppo
 from ._arguments import between, color_of, flag, integer, named, number, of_length, signed, thread_count
 from ._batch import batch_of, draws_of
 from ._blend import Blend, Preset
+from ._boxes import add_boxes
 from ._buffers import Buffer, Form, check_writable, raw, readable
 from ._draw import EVERY_SAMPLE, Cull, DepthTest, Draw, state_in_c
 from ._errors import BatchError, CanvasError, PositionError, SampleError, TileError, adding
@@ -228,6 +229,7 @@ class Canvas:
         *,
         rule: Rule = "even-odd",
         depth: Optional[Any] = None,
+        boxes: Optional[Any] = None,
         blend: Union[Preset, Blend] = "none",
         depth_test: DepthTest = "always",
         depth_write: bool = False,
@@ -251,20 +253,31 @@ class Canvas:
         "nonzero" if it crosses more that run downwards than upwards, or fewer. This is exact: polygons that share
         their edges leave no gap and no overlap, and a triangle covers what `draw` draws of it.
 
+        `boxes` are those of these polygons, as `trirast.polygon_boxes` finds them: rows of left, top, right and bottom
+        in 1/256 pixel of the screen, one for each polygon. By them the library looks only at the corners of polygons
+        whose box meets the canvas, so a map that is drawn again and again, or by parts on several canvases, takes less
+        time. They are believed: with boxes that do not hold their polygons' corners, some polygons may be left out,
+        each as a whole, and no error says so. Without any the call finds them itself, once for all threads.
+
         All else is as for `draw`. With `first_id` each polygon is drawn in the colour of its id, whatever `colors` are.
         Arrays are copied.
 
-        Raises BatchError, and then nothing was drawn, if the ends fall or leave the arrays, or a corner lies outside of
-        -8388608 to 8388607; its element is the ring, the polygon or the corner. Raises PositionError if the canvas's
-        origin is not -32768 to 28672.
+        Raises BatchError, and then nothing was drawn, if the ends fall or leave the arrays; if there are boxes, but
+        fewer than polygons; or if there are none, and a corner lies outside of -8388608 to 8388607. Its element is the
+        ring, the polygon or the corner. With boxes a polygon that has such a corner is left out. Raises PositionError
+        if the canvas's origin is not -32768 to 28672.
         """
         state = state_in_c("none", depth_test, depth_write, keep, sample_mask, scissor, blend)
-        polygons = polygons_of(corners, ring_ends, polygon_ends, colors, depth, named("rule", RULES, rule), state)
+        polygons = polygons_of(
+            corners, ring_ends, polygon_ends, colors, depth, boxes, named("rule", RULES, rule), state
+        )
         ids = () if first_id is None else (between("first_id", first_id, 0, IDS),)
         call = library().trirast_canvas_draw_polygon_ids if ids else library().trirast_canvas_draw_polygons
         size = library().trirast_polygons_scratch(self._whole, polygons.fill_rule)
         for each in self.origin:
             between("origin", each, *ORIGINS, PositionError.of_line, " pixels")
+        if self._piece_count(threads) > 1:
+            add_boxes(polygons)
         with adding(BatchError, PolygonValues(polygons, *(ids or (None,))).of, without=OF_DRAWS):
             self._each(threads, lambda piece, _top: call(piece, polygons, *ids, scratch_of(size), size, CError()))
 
@@ -437,9 +450,14 @@ class Canvas:
             found.append((piece, first * TILE_SIZE))
         return found
 
+    def _piece_count(self, threads: SupportsIndex) -> int:
+        """The number of pieces on which a call by this number of threads is made."""
+        count: int = min(thread_count(threads), self._whole.end)
+        return count
+
     def _each(self, threads: SupportsIndex, call: Callable[[CCanvas, int], Any], *used: Buffer) -> None:
         """Makes the call on pieces of the canvas. ctypes lets Python's lock go meanwhile."""
-        count = min(thread_count(threads), self._whole.end)
+        count = self._piece_count(threads)
         with self._lock:
             share(call, self._pieces, count, used)
 

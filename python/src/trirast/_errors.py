@@ -61,7 +61,7 @@ class BatchError(PlacedError):
         7: "BadPosition", 8: "NotConvex", 9: "LeftOver", 10: "TooManyCorners", 11: "BadRing", 12: "BadPolygon",
         13: "TooFewColors", 14: "TooFewDepths", 15: "BadTopology", 16: "BadCull", 17: "BadDepthTest",
         18: "BadDepthWrite", 19: "BadKeep", 20: "BadScissorEnable", 21: "BadFactor", 22: "BadOperation",
-        23: "BadFillRule",
+        23: "BadFillRule", 24: "TooFewBoxes",
     }
 
 

@@ -73,7 +73,8 @@ class CPolygons(ctypes.Structure):
     _fields_ = [
         *fields(WORD, "struct_size fill_rule"), ("corners", POINTER), ("corner_count", COUNT), ("ring_ends", POINTER),
         ("ring_count", COUNT), ("polygon_ends", POINTER), ("polygon_count", COUNT), ("colors", POINTER),
-        ("color_count", COUNT), ("depths", POINTER), ("depth_count", COUNT), ("state", CDraw),
+        ("color_count", COUNT), ("depths", POINTER), ("depth_count", COUNT), ("boxes", POINTER), ("box_count", COUNT),
+        ("state", CDraw),
     ]
 
 
@@ -169,6 +170,7 @@ STATUSES: Dict[str, List[Any]] = {
     "trirast_canvas_clear": CANVAS + to(CClear),
     "trirast_canvas_draw": CANVAS + to(CBatch) + ERROR,
     "trirast_canvas_draw_ids": CANVAS + to(CBatch) + NUMBER + ERROR,
+    "trirast_polygons_measure": to(CPolygons) + BUFFER + ERROR,
     "trirast_canvas_draw_polygons": CANVAS + to(CPolygons) + BUFFER + ERROR,
     "trirast_canvas_draw_polygon_ids": CANVAS + to(CPolygons) + NUMBER + BUFFER + ERROR,
     "trirast_canvas_load": PIXELS,

@@ -34,7 +34,8 @@ class Column(NamedTuple):
 
     @property
     def is_position(self) -> bool:
-        return self.code == "i"
+        """Whether it is a coordinate of a vertex or a corner, which lies in the guard band."""
+        return self.name in ("x", "y")
 
     @property
     def unit(self) -> str:

@@ -68,6 +68,8 @@ class PolygonValues(NamedTuple):
         given, element = self.polygons, error.element
         if error.name == "TooManyIds":
             return f"the first is {self.first_id}, and there are {given.polygon_count}"
+        if error.name == "TooFewBoxes":
+            return f"{given.polygon_count}, and not {given.box_count}"
         if error.name == "BadPosition":
             return position_values(place_at(given.corners + CORNER_BYTES * (element or 0)), (0, 0))
         rings, polygons = ends_of(given.ring_ends, given.ring_count), ends_of(given.polygon_ends, given.polygon_count)

@@ -208,7 +208,7 @@ static void compare_messages(void) {
         expect(is_known == !!strcmp(name, "unknown status"), "%u: %s", number, name);
     }
     report("each status has a string of its own, which is its message");
-    for (uint32_t cause = 1; cause <= TRIRAST_BATCH_BAD_FILL_RULE; cause++)
+    for (uint32_t cause = 1; cause <= TRIRAST_BATCH_TOO_FEW_BOXES; cause++)
         for (uint32_t other = 1; other < cause; other++) {
             const trirast_error one = {TRIRAST_STATUS_BAD_BATCH, cause, 7, 9, TRIRAST_NONE},
                                 two = {TRIRAST_STATUS_BAD_BATCH, other, 7, 9, TRIRAST_NONE};

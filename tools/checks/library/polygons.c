@@ -5,7 +5,7 @@
 
 #include "canvases.h"
 
-enum { CORNERS = 11, RINGS = 3, POLYGONS = 2, REFUSED = 32, BY_COLOURS = 1, BY_IDS = 3, NO_ROOM = 8 };
+enum { CORNERS = 11, RINGS = 3, POLYGONS = 2, REFUSED = 34, BY_COLOURS = 1, BY_IDS = 3, NO_ROOM = 8 };
 
 // A triangle, and a ring with a hole that runs the other way round.
 static const trirast_corner PLACES[CORNERS] = {{0, 0},       {17920, 0},   {0, 33280},   {2560, 2560},
@@ -19,6 +19,7 @@ typedef struct {
     quad made;
     trirast_corner corners[CORNERS];
     uint32_t ring_ends[RINGS], polygon_ends[POLYGONS];
+    trirast_box boxes[POLYGONS];
     trirast_polygons polygons;
     marked scratch;
 } set;
@@ -38,6 +39,11 @@ static void make_set(set *all) {
 }
 
 static void free_set(set *all) { free(all->made.made.memory.all), free(all->scratch.all); }
+
+static void give_boxes(set *all) {
+    expect(!trirast_polygons_measure(&all->polygons, all->boxes, POLYGONS, NULL), "no boxes");
+    all->polygons.boxes = all->boxes, all->polygons.box_count = POLYGONS;
+}
 
 static trirast_status draw_set(set *all, int by_ids, uint32_t first_id, trirast_error *error) {
     trirast_canvas *canvas = &all->made.made.whole;
@@ -111,6 +117,95 @@ static void compare_with_triangle(void) {
     report("a polygon of three corners is the triangle of these");
 }
 
+// ---- Boxes
+
+static int is_box(const trirast_box *box, int32_t left, int32_t top, int32_t right, int32_t bottom) {
+    return box->left == left && box->top == top && box->right == right && box->bottom == bottom;
+}
+
+// The least and the greatest coordinates, of a polygon without corners too, and no box more.
+static void compare_boxes(void) {
+    set all;
+    make_set(&all);
+    trirast_box boxes[4] = {{0, 0, 0, 0}, {0, 0, 0, 0}, {0, 0, 0, 0}, {1, 2, 3, 4}};
+    const uint32_t ends[3] = {1, 1, 3};
+    all.polygons.polygon_ends = ends, all.polygons.polygon_count = 3;
+    expect(!trirast_polygons_measure(&all.polygons, boxes, 4, NULL), "not measured");
+    expect(is_box(&boxes[0], 0, 0, 17920, 33280) && is_box(&boxes[2], 2560, 2560, 7680, 7680), "other boxes");
+    expect(is_box(&boxes[1], INT32_MAX, INT32_MAX, INT32_MIN, INT32_MIN), "a box of no corners");
+    expect(is_box(&boxes[3], 1, 2, 3, 4), "a box behind the last polygon's");
+    free_set(&all);
+    report("boxes are the least and the greatest coordinates of each polygon's corners");
+}
+
+static int are_same(const trirast_canvas *drawn, const trirast_canvas *wanted, uint32_t sample) {
+    static uint32_t ids[2][PIXELS];
+    return !trirast_canvas_ids(drawn, sample, ids[0], PIXELS, 0) &&
+           !trirast_canvas_ids(wanted, sample, ids[1], PIXELS, 0) && !memcmp(ids[0], ids[1], sizeof ids[0]);
+}
+
+// Polygons are drawn in the same way with their boxes, whether they meet the canvas or not.
+static void compare_with_boxes(void) {
+    for (uint32_t rule = 0; rule < 2; rule++)
+        for (int by_ids = 0; by_ids < 2; by_ids++)
+            for (int32_t origin = -60; origin <= 60; origin += 30) {
+                set all, other;
+                make_set(&all), make_set(&other);
+                set *const both[2] = {&all, &other};
+                for (int k = 0; k < 2; k++) {
+                    trirast_canvas *canvas = &both[k]->made.made.whole;
+                    canvas->origin_x = origin, canvas->origin_y = -origin, both[k]->polygons.fill_rule = rule;
+                    expect(!trirast_canvas_clear(canvas, NULL), "not cleared");
+                }
+                give_boxes(&all);
+                expect(!draw_set(&all, by_ids, 70000, NULL) && !draw_set(&other, by_ids, 70000, NULL), "not drawn");
+                for (uint32_t s = 0; s < 4; s++)
+                    expect(are_same(&all.made.made.whole, &other.made.made.whole, s), "origin %d: sample %u", origin,
+                           s);
+                free_set(&all), free_set(&other);
+            }
+    report("polygons with their boxes are drawn as those without");
+}
+
+// By boxes of others, and with a corner outside of the guard band, a polygon is left out as a whole.
+static void compare_with_other_boxes(void) {
+    for (int change = 0; change < 2; change++) {
+        set all;
+        make_set(&all);
+        trirast_canvas *canvas = &all.made.made.whole;
+        expect(!trirast_canvas_clear(canvas, NULL), "not cleared");
+        give_boxes(&all);
+        if (change) all.corners[1].x = INT32_MAX;
+        else all.boxes[0] = (trirast_box){1 << 20, 0, 1 << 21, 256};
+        expect(!draw_set(&all, 1, 70000, NULL), "not drawn");
+        expect(id_at(canvas, 3, 0, 0) == 0 && id_at(canvas, 0, 12, 12) == 70001, "change %d: other polygons", change);
+        free_set(&all);
+    }
+    report("a polygon with the box of another, or with a corner out of range behind its box, is left out as a whole");
+}
+
+// What is wrong with the arrays is said before boxes are believed.
+static void compare_refused_boxes(void) {
+    set all;
+    trirast_error error = UNSET;
+    make_set(&all);
+    trirast_status status = trirast_polygons_measure(&all.polygons, all.boxes, POLYGONS - 1, &error);
+    expect(is_error(&error, status, TRIRAST_STATUS_BUFFER_TOO_SMALL), "room for one: status %u", status);
+    all.polygons.struct_size = sizeof all.polygons - 16;
+    status = trirast_polygons_measure(&all.polygons, all.boxes, POLYGONS, &error);
+    expect(is_error(&error, status, TRIRAST_STATUS_BAD_STRUCT_SIZE), "an older struct: status %u", status);
+    all.polygons.struct_size = sizeof all.polygons, all.corners[7].y = 8388608;
+    status = trirast_polygons_measure(&all.polygons, all.boxes, POLYGONS, &error);
+    expect(is_error(&error, status, TRIRAST_STATUS_BAD_BATCH) && error.cause == TRIRAST_BATCH_BAD_POSITION &&
+               error.element == 7,
+           "a corner: status %u, cause %u at %zu", status, error.cause, error.element);
+    all.ring_ends[2] = 10;
+    status = trirast_polygons_measure(&all.polygons, all.boxes, POLYGONS, NULL);
+    expect(status == TRIRAST_STATUS_BAD_BATCH, "a corner in no ring: status %u", status);
+    free_set(&all);
+    report("boxes are found if there is room for them and the arrays are right");
+}
+
 // ---- What is refused
 
 typedef struct {
@@ -176,7 +271,12 @@ static due break_set(set *all, int change, uint32_t *first_id) {
         polygons->polygon_ends = NULL, polygons->polygon_count = 0;
         return of_batch(TRIRAST_BATCH_LEFT_OVER, TRIRAST_NONE);
     case 22: all->made.made.whole.samples = 3; return (due){TRIRAST_STATUS_BAD_CANVAS, 0, TRIRAST_NONE};
-    default: return break_numbers(all, change - 23);
+    case 23: give_boxes(all), polygons->box_count = 1; return of_batch(TRIRAST_BATCH_TOO_FEW_BOXES, TRIRAST_NONE);
+    // Ends are looked at before boxes, and boxes before colours.
+    case 24:
+        give_boxes(all), polygons->box_count = 1, all->ring_ends[1] = 2;
+        return of_batch(TRIRAST_BATCH_BAD_RING, 1);
+    default: return break_numbers(all, change - 25);
     }
 }
 
@@ -267,6 +367,10 @@ static void compare_messages(void) {
 void compare_polygons(void) {
     compare_drawn();
     compare_with_triangle();
+    compare_boxes();
+    compare_with_boxes();
+    compare_with_other_boxes();
+    compare_refused_boxes();
     compare_refused_sets();
     compare_scratch();
     compare_scratch_sizes();

@@ -522,6 +522,7 @@ def test_tests_depths(test: int, passes: str) -> None:
         (in_batch(21, 0), "draw 0: no such blend factor"),
         (in_batch(22, 0), "draw 0: no such blend operation"),
         (in_batch(23), "no such fill rule"),
+        (in_batch(24), "there are fewer boxes than polygons"),
         (in_batch(9), "a vertex or an index is in no draw, or a corner or a ring in no polygon"),
         (alone(2), "input too long"),
         (alone(3), "out of memory"),

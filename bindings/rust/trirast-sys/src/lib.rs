@@ -75,6 +75,7 @@ pub const TRIRAST_BATCH_BAD_SCISSOR_ENABLE: u32 = 20;
 pub const TRIRAST_BATCH_BAD_FACTOR: u32 = 21;
 pub const TRIRAST_BATCH_BAD_OPERATION: u32 = 22;
 pub const TRIRAST_BATCH_BAD_FILL_RULE: u32 = 23;
+pub const TRIRAST_BATCH_TOO_FEW_BOXES: u32 = 24;
 
 // Which points are inside of a polygon, by the edges of its rings that a ray to the left crosses.
 pub const TRIRAST_FILL_EVEN_ODD: u32 = 0;
@@ -266,6 +267,16 @@ pub struct trirast_corner {
     pub y: i32,
 }
 
+/// The box of a polygon's corners, in 1/256 pixel of the screen.
+#[repr(C)]
+#[derive(Clone, Copy, Debug, Default, PartialEq, Eq, Hash)]
+pub struct trirast_box {
+    pub left: i32,
+    pub top: i32,
+    pub right: i32,
+    pub bottom: i32,
+}
+
 /// Polygons with their colours.
 #[repr(C)]
 #[derive(Clone, Copy, Debug)]
@@ -282,6 +293,8 @@ pub struct trirast_polygons {
     pub color_count: usize,
     pub depths: *const u16,
     pub depth_count: usize,
+    pub boxes: *const trirast_box,
+    pub box_count: usize,
     pub state: trirast_draw,
 }
 
@@ -480,6 +493,12 @@ extern "C" {
         error: *mut trirast_error,
     ) -> u32;
     pub fn trirast_polygons_scratch(canvas: *const trirast_canvas, fill_rule: u32) -> usize;
+    pub fn trirast_polygons_measure(
+        polygons: *const trirast_polygons,
+        boxes: *mut trirast_box,
+        box_count: usize,
+        error: *mut trirast_error,
+    ) -> u32;
     pub fn trirast_canvas_draw_polygons(
         canvas: *mut trirast_canvas,
         polygons: *const trirast_polygons,

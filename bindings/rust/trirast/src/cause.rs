@@ -102,6 +102,8 @@ causes! {
     TooFewColors = TRIRAST_BATCH_TOO_FEW_COLORS,
     /// There are depths, but fewer than polygons.
     TooFewDepths = TRIRAST_BATCH_TOO_FEW_DEPTHS,
+    /// There are boxes, but fewer than polygons.
+    TooFewBoxes = TRIRAST_BATCH_TOO_FEW_BOXES,
     /// There is no such topology. No function of this crate passes such a state, nor one of those that follow.
     BadTopology = TRIRAST_BATCH_BAD_TOPOLOGY,
     /// There is no such culling.
@@ -140,7 +142,7 @@ mod tests {
             assert_eq!((list.number(), batch.number()), (number, number));
             batches += usize::from(batch != BatchCause::Other(number));
         }
-        assert!(batches >= 23);
+        assert!(batches >= 24);
         assert_eq!(BatchCause::BadRing.to_string(), "one ring ends before it begins, or behind the last corner");
         assert_eq!(ListCause::BadIndex.to_string(), "list fault 6 BadIndex");
     }

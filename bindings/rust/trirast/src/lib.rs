@@ -57,6 +57,6 @@ pub use error::{Error, ErrorKind};
 pub use history::{triangle_samples, why, Event, Fragment, History, Listed, Outcome, Reason, SampleCounts};
 pub use list::{draw, draw_by_threads, draw_into, draw_rows_into, image_info};
 pub use picture::{ImageInfo, Picture, TileSize};
-pub use polygons::{FillRule, Polygons};
+pub use polygons::{FillRule, PolygonBox, Polygons};
 pub use state::{Channels, Cull, DepthTest, State, Topology};
 pub use tiles::CANVAS_TILE_SIZE;

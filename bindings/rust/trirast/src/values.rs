@@ -36,7 +36,7 @@ pub(crate) enum Values {
     Origin(Origin),
     /// Where a ring or a polygon begins and ends, among as many corners or rings.
     Ends { begin: u32, end: u32, count: usize, of: &'static str },
-    /// The number of polygons, and that of their colours or depths.
+    /// The number of polygons, and that of their colours, depths or boxes.
     Counts { given: usize, wanted: usize },
 }
 

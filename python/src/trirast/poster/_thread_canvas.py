@@ -121,7 +121,7 @@ class ThreadCanvas:
         rule = RULES.index(state.get("rule", RULES[0]))
         arrays = [np.ascontiguousarray(array) for array in polygons.arrays]
         corners, rings, ends, colors = [(array.ctypes.data, len(array)) for array in arrays]
-        in_c, canvas, (x, y) = CPolygons(0, rule, *corners, *rings, *ends, *colors, None, 0, draw), self._canvas, shift
+        in_c, canvas, (x, y) = CPolygons(0, rule, *corners, *rings, *ends, *colors, state=draw), self._canvas, shift
         in_c.state.scissor_left, in_c.state.scissor_right = draw.scissor_left - x, draw.scissor_right - x
         in_c.state.scissor_top, in_c.state.scissor_bottom = draw.scissor_top - y, draw.scissor_bottom - y
         size = self._quick.trirast_polygons_scratch(canvas, rule)

@@ -1,4 +1,4 @@
-use Rattle.std.proofs.Common.{◌≡◌, ◌⊎◌, ◌↔◌, ◌∙◌, inl, inr, refl, sym, ap, subst, rules, arith, ℕ, ◌+◌, ◌*◌, ◌/◌, ◌≤◌, Option, length, FitsSigned, w32, IsTrue}
+use Rattle.std.proofs.Common.{◌≡◌, ◌⊎◌, ◌↔◌, ◌∙◌, inl, inr, refl, sym, ap, subst, rules, arith, ℕ, ◌*◌, ◌≤◌, Option, length, FitsSigned, w32, IsTrue}
 use Rattle.std.proofs.lemmas.Int.{to_z-of_z}
 use Rattle.std.proofs.lemmas.List.{length-take}
 use Rattle.std.proofs.lemmas.Result.{err_from_is_err_and}
@@ -9,7 +9,7 @@ use Rattle.polygons.specs.declared.rule.Rule.TheVariants.{EvenOdd, NonZero}
 use Rattle.polygons.specs.Cells.{flags_by}
 use Rattle.canvas.specs.declared.canvas.Canvas.{Canvas}
 use Rattle.grid.specs.Samples.{parts_of, pattern_of}
-use Rattle.grid.specs.declared.sample_count.SampleCount.{SampleCount}
+use Rattle.painting.specs.Batches.{AreFit}
 use Rattle.painting.specs.Painting.{ArePainted, IsOriginInBand}
 use Rattle.painting.specs.Parts.{flag_columns_of, counter_columns_of}
 use Rattle.c_abi.specs.declared.status.Status.{Status}
@@ -24,7 +24,7 @@ use Rattle.canvas_c.proofs.polygon_batches.draw_into.Goals as goal
 
 abbrev later_checks : CanvasHead → Option ℕ → PolygonArrays → ℕ → ℕ → Checks Status
 later_checks head ids a flags counters =
-    check (IsOwnSize a.struct_size 144) BadStructSize (
+    check (IsOwnSize a.struct_size 160) BadStructSize (
     check (IsOriginInBand (origin_of head)) BadPosition (
     check (HasScratch head a flags counters) BufferTooSmall (
     check (AreGood ids a) BadBatch
@@ -65,7 +65,7 @@ pub returns-then-not-has_size-clause-judged : goal.returns-then-not-has_size-cla
 returns-then-not-has_size-clause-judged c =
     let head = c.args.head.now in
     let a = c.args.arrays.now in
-    let lacks : ¬ IsOwnSize a.struct_size 144 = search rules in
+    let lacks : ¬ IsOwnSize a.struct_size 160 = search rules in
     rw c.from.ensures (record {
       first = fails_later (piece_checks head (length c.args.planes.now)) (later_checks head c.args.ids a (length c.args.flags.now) (length c.args.counters.now)) BadStructSize c.in_ok-rows.ensures.judged.0 (inl (lacks, refl));
       fault = ((λ h. cc), (λ h. cc));
@@ -77,7 +77,7 @@ returns-then-not-is_in_band-clause-judged c =
     let a = c.args.arrays.now in
     let x : FitsSigned w32 head.origin_x = search rules in
     let y : FitsSigned w32 head.origin_y = search rules in
-    let size : IsOwnSize a.struct_size 144 = c.has_size.ensures.0 c.if-not-has_size.false in
+    let size : IsOwnSize a.struct_size 160 = c.has_size.ensures.0 c.if-not-has_size.false in
     let sees : IsTrue c.is_in_band.result ↔ IsOriginInBand (origin_of head) = rw (to_z-of_z w32 head.origin_x x, to_z-of_z w32 head.origin_y y) at c.is_in_band.ensures in
     let lacks : ¬ IsOriginInBand (origin_of head) = search rules in
     rw c.from-then-not-is_in_band.ensures (record {
@@ -93,7 +93,7 @@ returns-then-not-has_scratch-clause-judged c =
     let counters : ℕ = length c.args.counters.now in
     let x : FitsSigned w32 head.origin_x = search rules in
     let y : FitsSigned w32 head.origin_y = search rules in
-    let size : IsOwnSize a.struct_size 144 = c.has_size.ensures.0 c.if-not-has_size.false in
+    let size : IsOwnSize a.struct_size 160 = c.has_size.ensures.0 c.if-not-has_size.false in
     let sees : IsTrue c.is_in_band.result ↔ IsOriginInBand (origin_of head) = rw (to_z-of_z w32 head.origin_x x, to_z-of_z w32 head.origin_y y) at c.is_in_band.ensures in
     let band : IsOriginInBand (origin_of head) = sees.0 (search rules) in
     let are = c.in_ok-rows.ensures.judged.1 in
@@ -114,7 +114,7 @@ returns-in-Err-clause-judged c =
     let counters : ℕ = length c.args.counters.now in
     let x : FitsSigned w32 head.origin_x = search rules in
     let y : FitsSigned w32 head.origin_y = search rules in
-    let size : IsOwnSize a.struct_size 144 = c.has_size.ensures.0 c.if-not-has_size.false in
+    let size : IsOwnSize a.struct_size 160 = c.has_size.ensures.0 c.if-not-has_size.false in
     let sees : IsTrue c.is_in_band.result ↔ IsOriginInBand (origin_of head) = rw (to_z-of_z w32 head.origin_x x, to_z-of_z w32 head.origin_y y) at c.is_in_band.ensures in
     let band : IsOriginInBand (origin_of head) = sees.0 (search rules) in
     let are = c.in_ok-rows.ensures.judged.1 in
@@ -147,7 +147,7 @@ returns-clause-judged c =
     let counters : ℕ = length c.args.counters.now in
     let x : FitsSigned w32 head.origin_x = search rules in
     let y : FitsSigned w32 head.origin_y = search rules in
-    let size : IsOwnSize a.struct_size 144 = c.has_size.ensures.0 c.if-not-has_size.false in
+    let size : IsOwnSize a.struct_size 160 = c.has_size.ensures.0 c.if-not-has_size.false in
     let sees : IsTrue c.is_in_band.result ↔ IsOriginInBand (origin_of head) = rw (to_z-of_z w32 head.origin_x x, to_z-of_z w32 head.origin_y y) at c.is_in_band.ensures in
     let band : IsOriginInBand (origin_of head) = sees.0 (search rules) in
     let are = c.in_ok-rows.ensures.judged.1 in
@@ -165,11 +165,13 @@ returns-clause-drawn c =
     let y : FitsSigned w32 head.origin_y = search rules in
     let rows = c.in_ok-rows.rows in
     let good = c.in-Ok.ensures.good in
-    let drawn =
-    rw (to_z-of_z w32 head.origin_x x, to_z-of_z w32 head.origin_y y, c.over-piece.ensures.rows, c.over-piece.ensures.planes, good.1, good.2, good.3, c.rule_of-rule.ensures, c.state.ensures, c.has_alpha.ensures)
-    at c.draw_polygons.ensures.painted in
     record {
       rows = rows;
       are = c.in_ok-rows.ensures.judged.1;
-      holds = subst (ArePainted (shapes_listed (has_alpha head) c.args.ids a) (origin_of head) rows.canvas rows.first rows.end c.args.planes.now) (search rules) drawn;
+      holds = λ right.
+          let fit : AreFit c.in-Ok.polygons = rw (good.1, good.2, good.3, good.4) right in
+          let painted = c.draw_polygons.ensures.painted fit in
+          let drawn =
+          rw (to_z-of_z w32 head.origin_x x, to_z-of_z w32 head.origin_y y, c.over-piece.ensures.rows, c.over-piece.ensures.planes, good.1, good.2, good.3, c.rule_of-rule.ensures, c.state.ensures, c.has_alpha.ensures) at painted in
+          subst (ArePainted (shapes_listed (has_alpha head) c.args.ids a) (origin_of head) rows.canvas rows.first rows.end c.args.planes.now) (search rules) drawn;
     }

@@ -1,16 +1,17 @@
 use Rattle.std.proofs.Common.{arith}
-use Rattle.canvas.specs.Layout.{rows_of}
-use Rattle.painting.proofs.TileRows.{in_window}
+use Rattle.std.proofs.lemmas.Bool.{false≢true}
+use Rattle.painting.proofs.Groups.{fit_seen}
 use Rattle.painting.proofs.group.rows_of.Goals as goal
 
-pub returns-then-is_empty : goal.returns-then-is_empty
-returns-then-is_empty c i j s h m =
-    let canvas = c.args.canvas.now in
-    let inside = in_window c.args.polygon.now c.args.origin.now canvas c.extent.result c.of-window.result c.extent.ensures c.of-window.ensures.holds 0 (rows_of canvas) i j s (omega arith) h m in
+pub returns-in_default-clause-rows : goal.returns-in_default-clause-rows
+returns-in_default-clause-rows c fit style = absurd (false≢true (c.in_default.ensures.some.1 (fit_seen c.args.polygons.now c.args.number fit)))
+
+pub returns-then-is_empty-clause-rows : goal.returns-then-is_empty-clause-rows
+returns-then-is_empty-clause-rows c fit style i j s h m =
+    let inside = c.of-window.ensures.holds i j s h.column h.below (c.in-Some.ensures.holds style.rule _ m.covered) in
     absurd (omega (arith, inside.0, inside.1, inside.2, inside.3, c.is_empty.ensures.0 c.if-is_empty.true))
 
-pub returns : goal.returns
-returns c i j s h m =
-    let canvas = c.args.canvas.now in
-    let inside = in_window c.args.polygon.now c.args.origin.now canvas c.extent.result c.of-window.result c.extent.ensures c.of-window.ensures.holds 0 (rows_of canvas) i j s (omega arith) h m in
+pub returns-clause-rows : goal.returns-clause-rows
+returns-clause-rows c fit style i j s h m =
+    let inside = c.of-window.ensures.holds i j s h.column h.below (c.in-Some.ensures.holds style.rule _ m.covered) in
     (inside.2, inside.3)

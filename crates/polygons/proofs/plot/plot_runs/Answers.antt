@@ -2,8 +2,10 @@ use Rattle.std.proofs.Common.{◌≡◌, sym, ap, ◌∙◌, arith, ◌+◌, ◌
 use Rattle.grid.specs.Position.{Position}
 use Rattle.polygons.specs.Crossing.{winding}
 use Rattle.polygons.specs.Polygon.{path_edges, path_end}
-use Rattle.polygons.specs.Runs.{corner_at, corners_between}
+use Rattle.polygons.specs.Rings.{corners_between, end_of}
+use Rattle.polygons.specs.Runs.{corner_at}
 use Rattle.polygons.proofs.Plotted.{plotted_none, plotted_both, plotted_as, one_more, nothing_left}
+use Rattle.polygons.proofs.Seen.{corner_seen, part_seen}
 use Rattle.polygons.proofs.RunBoxes.{between_none, last_between, run_step, end_step, crossed_as_chord, from_first}
 use Rattle.polygons.proofs.plot.plot_runs.Goals as goal
 
@@ -19,6 +21,19 @@ loop-next-init g c =
       plotted = plotted_none c.args.starts.now.strip _ c.args.cells.now (from_first (corner_at corners c.args.begin) c.at-from.result rest c.at-from.ensures);
       path = ap (λ (q : Position). path_end q rest) (sym c.at-from.ensures);
     }
+
+pub at-from-requires : goal.at-from-requires
+at-from-requires g c =
+    let rings = c.args.rings.now in
+    corner_seen rings.corners.now rings.start (end_of rings.start rings.ends.now) rings.seen c.args.begin c.requires.first (omega (arith, c.requires.some, c.requires.last)) (omega (arith, c.requires.some, c.requires.within))
+
+pub plot_run-from-requires-clause-corners : goal.plot_run-from-requires-clause-corners
+plot_run-from-requires-clause-corners g c =
+    let rings = c.args.rings.now in
+    let v = c.loop-next.invariant in
+    let run = c.run_of-run.ensures in
+    let rise : c.loop-next.next ≤ c.min-behind.result = omega (arith, v.first, c.requires.first, c.loop-next-test.true, run.ends, c.min-behind.ensures) in
+    part_seen rings.corners.now rings.start (end_of rings.start rings.ends.now) rings.seen c.loop-next.next c.min-behind.result (omega (arith, v.first, c.requires.first)) rise (omega (arith, c.requires.last, c.min-behind.ensures))
 
 pub plot_run-from-requires-clause-chord : goal.plot_run-from-requires-clause-chord
 plot_run-from-requires-clause-chord g c t s row k h l =

@@ -2,7 +2,8 @@ use Rattle.std.proofs.Common.{◌≡◌, ◌+◌, ◌-◌, ◌<◌, ◌≤◌, �
 use Rattle.polygons.specs.Crossing.{winding}
 use Rattle.polygons.specs.Polygon.{path_edges, path_end}
 use Rattle.polygons.specs.Plotting.{ArePlotted}
-use Rattle.polygons.specs.Runs.{corner_at, corners_between}
+use Rattle.polygons.specs.Rings.{corners_between}
+use Rattle.polygons.specs.Runs.{corner_at}
 use Rattle.polygons.proofs.plot.plot_runs.Given as goal
 
 abbrev pub invariant-loop-next : goal.invariant-loop-next

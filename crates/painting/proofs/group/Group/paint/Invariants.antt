@@ -1,10 +1,10 @@
 use Rattle.polygons.specs.Cells.{AreZeros}
-use Rattle.painting.specs.Batches.{shapes_between}
+use Rattle.painting.specs.Batches.{AreFit, shapes_between}
 use Rattle.painting.proofs.TileRows.{ArePaintedBefore}
 use Rattle.painting.proofs.group.Group.paint.Given as goal
 
 abbrev pub invariant-loop-row : goal.invariant-loop-row
 invariant-loop-row l = record {
-  painted : ArePaintedBefore (shapes_between l.polygons l.style l.self.first l.self.end) l.origin l.rows.canvas l.rows.first l.rows.end l.row l.fn.samples l.samples;
+  painted : AreFit l.polygons → ArePaintedBefore (shapes_between l.polygons l.style l.self.first l.self.end) l.origin l.rows.canvas l.rows.first l.rows.end l.row l.fn.samples l.samples;
   flags : AreZeros l.flags;
 }

@@ -1,10 +1,12 @@
 use Rattle.std.proofs.Common.{◌≡◌}
-use Rattle.painting.specs.Groups.{SaysRowsOf}
+use Rattle.painting.specs.declared.batch.Style.{Style}
+use Rattle.painting.specs.Groups.{SaysRowsOf, HasSeen}
 use Rattle.painting.proofs.group.Group.take.Given as goal
 
 abbrev pub invariant-loop-number : goal.invariant-loop-number
 invariant-loop-number l = record {
   first : l.self.first ≡ l.first;
   end : l.self.end ≡ l.number;
-  rows : SaysRowsOf l.self l.polygons l.style l.origin l.canvas;
+  rows : (style : Style) → SaysRowsOf l.self l.polygons style l.origin l.canvas;
+  seen : HasSeen l.self l.polygons;
 }

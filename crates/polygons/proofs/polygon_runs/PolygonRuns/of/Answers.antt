@@ -1,8 +1,7 @@
 use Rattle.std.proofs.Common.{◌≡◌, ap, subst, ◌∙◌, arith, rules, ◌+◌, ◌*◌, ◌≤◌, length, length-set}
 use Rattle.std.specs.List.{All}
 use Rattle.polygons.specs.Arrays.{first_corner}
-use Rattle.polygons.specs.Rings.{IsInClosedExtent}
-use Rattle.polygons.specs.Runs.{corners_between}
+use Rattle.polygons.specs.Rings.{IsInClosedExtent, corners_between}
 use Rattle.polygons.proofs.BoxesOfPolygons.{all_corners, all_joined, corners_rise, corners_within, enough_runs, last_corner, one_run_more}
 use Rattle.polygons.proofs.polygon_runs.PolygonRuns.of.Goals as goal
 
@@ -47,7 +46,7 @@ loop-run-preserved c =
     let v = c.loop-run.invariant in
     let sum : (run + 1) * n ≡ run * n + n = grind arith in
     let rises = corners_rise corners ring_ends polygon_ends rings polygons first end (omega (arith, v.polygon, c.min-polygon.ensures)) (omega (arith, c.min-polygon.ensures)) in
-    let from : All (IsInClosedExtent c.of-extent.result) (corners_between corners (first_corner ring_ends polygon_ends first) c.first_corner-behind.result) = subst (λ b. All (IsInClosedExtent c.of-extent.result) (corners_between corners b c.first_corner-behind.result)) v.corner c.of-extent.ensures in
+    let from : All (IsInClosedExtent c.of-extent.result) (corners_between corners (first_corner ring_ends polygon_ends first) c.first_corner-behind.result) = subst (λ b. All (IsInClosedExtent c.of-extent.result) (corners_between corners b c.first_corner-behind.result)) v.corner c.of-extent.ensures.held in
     let here : All (IsInClosedExtent c.of-extent.result) (corners_between corners (first_corner ring_ends polygon_ends first) (first_corner ring_ends polygon_ends end)) =
     subst (λ b. All (IsInClosedExtent c.of-extent.result) (corners_between corners (first_corner ring_ends polygon_ends first) b)) c.first_corner-behind.ensures from in
     record {
@@ -55,7 +54,7 @@ loop-run-preserved c =
       polygon = omega (arith, v.polygon, c.min-polygon.ensures, sum);
       corner = c.first_corner-behind.ensures;
       held = one_run_more corners ring_ends polygon_ends rings polygons c.loop-run.boxes n run first end c.of-extent.result (omega (arith, c.max-length.ensures)) (omega (arith, v.many, c.loop-run-test.true)) v.polygon c.min-polygon.ensures here v.held;
-      all = all_joined corners c.loop-run.corner c.first_corner-behind.result c.loop-run.all c.of-extent.result c.joined-all.result (omega (arith, v.corner, c.first_corner-behind.ensures, rises)) c.joined-all.ensures.first c.joined-all.ensures.second v.all c.of-extent.ensures;
+      all = all_joined corners c.loop-run.corner c.first_corner-behind.result c.loop-run.all c.of-extent.result c.joined-all.result (omega (arith, v.corner, c.first_corner-behind.ensures, rises)) c.joined-all.ensures.first c.joined-all.ensures.second v.all c.of-extent.ensures.held;
     }
 
 pub returns-clause-held : goal.returns-clause-held

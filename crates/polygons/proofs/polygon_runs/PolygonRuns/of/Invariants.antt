@@ -1,8 +1,7 @@
 use Rattle.std.proofs.Common.{◌≡◌, ℕ, ◌*◌, ◌/◌, ◌<◌, length, min, pos, slice_index_or}
 use Rattle.std.specs.List.{All}
 use Rattle.polygons.specs.Arrays.{first_corner, rings_of}
-use Rattle.polygons.specs.Rings.{HoldsInside, IsInClosedExtent}
-use Rattle.polygons.specs.Runs.{corners_between}
+use Rattle.polygons.specs.Rings.{HoldsInside, IsInClosedExtent, corners_between}
 use Rattle.polygons.specs.Polygon.{polygon_edges}
 use Rattle.polygons.proofs.polygon_runs.PolygonRuns.of.Given as goal
 

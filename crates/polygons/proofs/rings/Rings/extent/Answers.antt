@@ -7,4 +7,4 @@ use Rattle.polygons.proofs.rings.Rings.extent.Goals as goal
 pub returns : goal.returns
 returns c =
     let rings = c.args.self.now in
-    holds_inside c.of.result (polygon_edges (rings_from rings.corners.now rings.start rings.ends.now)) (λ p out. rings_outside c.of.result rings.corners.now rings.start rings.ends.now _ p rings.rising (rw c.end.ensures.value at c.of.ensures) out)
+    holds_inside c.of.result (polygon_edges (rings_from rings.corners.now rings.start rings.ends.now)) (λ p out. rings_outside c.of.result rings.corners.now rings.start rings.ends.now _ p rings.rising (rw c.end.ensures.value at c.of.ensures.held) out)

@@ -15,7 +15,7 @@ loop-run-preserved c =
     record {
       length = c.loop-run.invariant.length;
       held = one_box_more self.boxes c.loop-run.run rings.corners.now rings.start self.length (end_of rings.start rings.ends.now) first c.min-behind.result c.of.result
-          (search rules) refl (c.min-behind.ensures ∙ ap (min (first + self.length + 1)) c.end-end.ensures.value) (omega (arith, c.end-end.ensures.value, c.end-end.ensures.within)) c.of.ensures c.loop-run.invariant.held;
+          (search rules) refl (c.min-behind.ensures ∙ ap (min (first + self.length + 1)) c.end-end.ensures.value) (omega (arith, c.end-end.ensures.value, c.end-end.ensures.within)) c.of.ensures.held c.loop-run.invariant.held;
     }
 
 pub invariant_of-self-2 : goal.invariant_of-self-2
