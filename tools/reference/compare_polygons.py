@@ -34,6 +34,8 @@ COUNTS = (16, 8, 4, 16, 8, 2, 16, 8, 1)
 
 def draw(canvas: Any, call: Call, threads: int) -> None:
     """Makes a call on a canvas of the package."""
+    from trirast import polygon_boxes
+
     if isinstance(call, Clear):
         canvas.clear(call.colour, call.depth, threads=threads)
     elif isinstance(call, Picture):
@@ -45,8 +47,11 @@ def draw(canvas: Any, call: Call, threads: int) -> None:
     elif isinstance(call, Triangles):
         canvas.draw(call.vertices, first_id=call.first_id, threads=threads, **named_arguments(call.state))
     else:
+        rings = flat(call.polygons)
+        # One call of two has the boxes of its polygons. By several threads the package finds them for the others.
+        boxes = polygon_boxes(*rings) if len(rings[0]) % 2 else None
         canvas.draw_polygons(
-            *flat(call.polygons), call.colours, rule=call.rule, depth=call.depths, first_id=call.first_id,
+            *rings, call.colours, rule=call.rule, depth=call.depths, first_id=call.first_id, boxes=boxes,
             threads=threads, **named_arguments(call.state),
         )
 

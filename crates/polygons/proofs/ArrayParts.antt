@@ -3,7 +3,7 @@ use Rattle.std.proofs.Common.{◌≡◌, inl, inr, refl, ap, ◌∙◌, arith, �
 use Rattle.std.proofs.lemmas.Bool.{cases_lt}
 use Rattle.std.proofs.lemmas.List.{get_or-take, get_or-drop, length-take}
 use Rattle.polygons.specs.Rings.{AreAscendingEnds, end_of}
-use Rattle.polygons.specs.Arrays.{begin_of}
+use Rattle.polygons.specs.Arrays.{begin_of, AreAscending}
 
 pub next_begin : (ends : List ℕ) (k : ℕ) → begin_of ends (k + 1) ≡ slice_index ends k
 next_begin ends k = let e : k + 1 ≡ suc k = omega arith in ap (λ n. slice_index (0 ∷ ends) n) e
@@ -101,3 +101,35 @@ ends_more ends n k inside rises fits before =
                 omega (arith, e, q, fits)
           ];
     }
+
+-- ---- ends of which none falls
+ascending_to : (ends : List ℕ) → AreAscending ends → (i d : ℕ) → i + d < length ends → slice_index ends i ≤ slice_index ends (i + d)
+ascending_to ends h i zero l = let e : i + 0 ≡ i = omega arith in let same = ap (slice_index ends) e in omega (arith, same)
+ascending_to ends h i (suc d) l =
+    let e : i + suc d ≡ i + d + 1 = omega arith in
+    let same = ap (slice_index ends) e in
+    let before = ascending_to ends h i d (omega (arith, l)) in
+    let next = h (i + d) (omega (arith, l)) in
+    omega (arith, same, before, next)
+
+module _ (ends : List ℕ) (n : ℕ) (h : AreAscending ends) (fits : begin_of ends (length ends) ≤ n) where
+  rises_next : (k : ℕ) → k < length ends → begin_of ends k ≤ slice_index ends k
+  rises_next zero l = omega arith
+  rises_next (suc k) l =
+      let e : k + 1 ≡ suc k = omega arith in
+      let same = ap (slice_index ends) e in
+      let next = h k (omega (arith, l)) in
+      omega (arith, same, next)
+
+  last_fits : (k : ℕ) → k < length ends → slice_index ends k ≤ n
+  last_fits k l =
+      let m = length ends - 1 in
+      let e : length ends ≡ suc m = omega (arith, l) in
+      let last : begin_of ends (length ends) ≡ slice_index ends m = ap (begin_of ends) e in
+      let f : k + (m - k) ≡ m = omega (arith, l) in
+      let same = ap (slice_index ends) f in
+      let to = ascending_to ends h k (m - k) (omega (arith, l)) in
+      omega (arith, last, same, to, fits)
+
+  pub ends_ascending : AreAscendingEnds 0 ends n
+  ends_ascending = record { begins = omega arith; rising = rises_next; within = last_fits }

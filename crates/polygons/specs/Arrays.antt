@@ -25,6 +25,10 @@ ends_of ring_ends polygon_ends k = take (slice_index polygon_ends k - begin_of p
 abbrev pub rings_of : List Corner → List ℕ → List ℕ → ℕ → List (List Position)
 rings_of corners ring_ends polygon_ends k = rings_from corners (begin_of ring_ends (begin_of polygon_ends k)) (ends_of ring_ends polygon_ends k)
 
+-- No part ends before the one before it.
+abbrev pub AreAscending : List ℕ → Type 0
+AreAscending ends = (k : ℕ) → k + 1 < length ends → slice_index ends k ≤ slice_index ends (k + 1)
+
 -- The parts end one after another, and the last one with the whole, which has n elements.
 pub record AreParts (ends : List ℕ) (n : ℕ) : Type 0 where
   pub rising : AreAscendingEnds 0 ends n

@@ -41,6 +41,7 @@
 --   first_corner: The index of the first corner of polygon k.
 --   ends_of: The ends of the rings of polygon k.
 --   rings_of: The rings of polygon k.
+--   AreAscending: No part ends before the one before it.
 --   AreParts: The parts end one after another, and the last one with the whole, which has n elements.
 --   polygon_corners: Where the corners of polygon k lie.
 --   IsPolygonInBand: The corners of polygon k are inside of the guard band.

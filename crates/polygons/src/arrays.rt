@@ -3,7 +3,7 @@ ghost use Rattle.std.specs.Prelude.{ℕ, ◌≡◌, ◌↔◌, ◌+◌, ◌-◌,
 ghost use Rattle.std.specs.Prelude.{None as Nothing};
 ghost use Rattle.std.specs.List.{All};
 ghost use Rattle.polygons.specs.Rings.{AreCornersInBand, AreAscendingEnds, IsInClosedExtent, position_of};
-ghost use Rattle.polygons.specs.Arrays.{ArePolygons, AreParts, AreLeastBoxesOf, BoxesFit, IsFirstFall, IsFirstOutside, IsWrong};
+ghost use Rattle.polygons.specs.Arrays.{AreAscending, ArePolygons, AreParts, AreLeastBoxesOf, BoxesFit, IsFirstFall, IsFirstOutside, IsWrong};
 ghost use Rattle.polygons.specs.Arrays.{begin_of as begin, first_corner as corner_at};
 ghost use Rattle.polygons.specs.PolygonRuns.{HoldsPolygons};
 ghost use Rattle.polygons.specs.declared.extent.Extent.{Extent as Box};
@@ -50,11 +50,26 @@ pub enum ArraysError {
     TooFewBoxes,
 }
 
+/// Whether no part ends before the one before it. Nothing is decided for a single one, so that many are compared at
+/// once.
+fn are_ascending(ends: &[u32]) -> bool
+    ensures { IsTrue result ↔ AreAscending ends.now }
+{
+    let mut falls = false;
+    for k in 1..ends.len() {
+        falls |= ends[k] < ends[k - 1];
+    }
+    !falls
+}
+
 /// The index of the first part that ends before it begins, or behind the whole, which has `whole` elements.
 fn first_fall(ends: &[u32], whole: usize) -> Option<usize>
     ensures some { IfSome result (λ k. IsFirstFall ends.now whole k) }
     ensures none { result ≡ Nothing → AreAscendingEnds 0 ends.now whole }
 {
+    if begin_of(ends, ends.len()) as usize <= whole && are_ascending(ends) {
+        return None;
+    }
     let mut begin = 0;
     for (k, end) in ends.iter().enumerate() {
         if *end < begin || whole < *end as usize {

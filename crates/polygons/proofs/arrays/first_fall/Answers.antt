@@ -1,6 +1,6 @@
 use Rattle.std.proofs.Common.{sym, arith, ◌≤◌, slice_index}
 use Rattle.polygons.specs.Arrays.{begin_of}
-use Rattle.polygons.proofs.ArrayParts.{next_begin, ends_more}
+use Rattle.polygons.proofs.ArrayParts.{next_begin, ends_ascending, ends_more}
 use Rattle.polygons.proofs.arrays.first_fall.Goals as goal
 
 pub loop-k-preserved : goal.loop-k-preserved
@@ -13,3 +13,7 @@ loop-k-preserved c =
       begins = sym (next_begin ends k);
       rising = ends_more ends c.args.whole k c.loop-k-test.true rises (omega (arith, c.if-whole-end.false)) v.rising;
     }
+
+pub returns-then-are_ascending-clause-none : goal.returns-then-are_ascending-clause-none
+returns-then-are_ascending-clause-none c none =
+    ends_ascending c.args.ends.now c.args.whole (c.are_ascending.ensures.0 c.if-are_ascending.true) (omega (arith, c.begin_of.ensures, c.if-begin_of-whole.true))
