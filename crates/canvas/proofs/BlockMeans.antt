@@ -26,6 +26,7 @@ use Rattle.canvas.specs.Palettes.{palette_number, sample_numbered, palette_sampl
 use Rattle.canvas.specs.Lanes.{channel_of}
 use Rattle.canvas.specs.Colours.{IsMeanOf, HasMeansOf}
 use Rattle.canvas.proofs.MaskLanes.{AreLanes, zipped, splat, itself, total_next}
+use Rattle.canvas.proofs.MaskBits.{AreBitSums}
 use Rattle.canvas.proofs.Pairs.{sample_of, chosen_by}
 use Rattle.canvas.proofs.Cut.{part_of}
 use Rattle.canvas.proofs.Palettes.{below_four}
@@ -338,55 +339,60 @@ means_of_four count k xs palette mean has means i j here =
     let p : ℕ = pixel_in_block i j in
     mean_same count (λ s. palette_sample palette s p) (λ s. stored_in_tile count xs i j s) (stored_at mean p) (λ s l. sym (has i j s l here)) (means p (omega arith))
 
--- the sums of a channel of the first m numbers of a palette
-pub record ArePartSums (count : SampleCount) (palette : Palette) (channel : Channel) (m : ℕ) (sums : List ℕ) : Type 0 where
-  pub long : length sums ≡ 64
-  pub each : (p : ℕ) → p < 64 → slice_index sums p ≡ by_numbers palette p (λ n. channel_of channel (sample_numbered palette.samples n)) (count_of count) m
-  pub most : (p : ℕ) → p < 64 → slice_index sums p ≤ 255 * by_numbers palette p (λ n. 1) (count_of count) m
-
-pub no_part : (count : SampleCount) (palette : Palette) (channel : Channel) → ArePartSums count palette channel 0 (replicate 64 0)
-no_part count palette channel = record { long = (splat 0).long; each = (splat 0).each; most = λ p l. omega (arith, (splat 0).each p l) }
-
-part_low : (count : SampleCount) (palette : Palette) (p m : ℕ) → m < 4 → by_numbers palette p (λ n. 1) (count_of count) m ≤ 48
-part_low count palette p m l =
-    let most = few_samples count in
-    let few = λ (n : ℕ). few_numbered palette p n (count_of count) in
-    by_cases m l
-  where
-    by_cases : (m : ℕ) → m < 4 → by_numbers palette p (λ n. 1) (count_of count) m ≤ 48
-    by_cases zero l = omega arith
-    by_cases (suc zero) l = omega (arith, few_numbered palette p 0 (count_of count), few_samples count)
-    by_cases (suc (suc zero)) l = omega (arith, few_numbered palette p 0 (count_of count), few_numbered palette p 1 (count_of count), few_samples count)
-    by_cases (suc (suc (suc zero))) l = omega (arith, few_numbered palette p 0 (count_of count), few_numbered palette p 1 (count_of count), few_numbered palette p 2 (count_of count), few_samples count)
-    by_cases (suc (suc (suc (suc m)))) l = absurd (omega (arith, l))
-
-pub part_room : (count : SampleCount) (palette : Palette) (channel : Channel) (m : ℕ) (sums : List ℕ) → m < 4 → ArePartSums count palette channel m sums → (p : ℕ) → p < 64 → slice_index sums p ≤ 12240
-part_room count palette channel m sums l is p h = (let low = part_low count palette p m l in omega (arith, low, is.most p h))
-
--- with those of one number more
-pub part_more : (count : SampleCount) (palette : Palette) (channel : Channel) (m byte : ℕ) (sums many more : List ℕ) → ((p : ℕ) → p < 64 → slice_index many p ≡ numbered palette p (count_of count) m)
-    → byte ≡ channel_of channel (sample_numbered palette.samples m) → AreMore sums many byte more → ArePartSums count palette channel m sums → ArePartSums count palette channel (m + 1) more
-part_more count palette channel m byte sums many more is_many is_byte is before =
-    let g : ℕ → ℕ = λ n. channel_of channel (sample_numbered palette.samples n) in
-    record {
-      long = is.long;
-      each = λ p l.
-          is.each p l
-          ∙ (λ i. before.each p l i + is_many p l i * is_byte i)
-          ∙ total_next m (λ n. numbered palette p (count_of count) n * g n);
-      most = λ p l.
-          let next : by_numbers palette p (λ n. 1) (count_of count) m + numbered palette p (count_of count) m * 1 ≡ by_numbers palette p (λ n. 1) (count_of count) (m + 1) = total_next m (λ n. numbered palette p (count_of count) n * 1) in
-          omega (arith, is.most p l, before.most p l, is_many p l, next);
-    }
-
 -- how many samples of pixels have the number of which these are the masks
 pub many_numbered : (count : SampleCount) (palette : Palette) (n : ℕ) (pixels many : List ℕ) → ((s p : ℕ) → s < count_of count → p < 64 → HasNumbers palette n s p (slice_index pixels s))
     → ((p : ℕ) → p < 64 → slice_index many p ≡ total (count_of count) (λ s. bit_at (slice_index pixels s) p)) → (p : ℕ) → p < 64 → slice_index many p ≡ numbered palette p (count_of count) n
 many_numbered count palette n pixels many has is p l = is p l ∙ total_same (count_of count) _ _ (λ s h. bit_of_number palette p n s (slice_index pixels s) (has s p h l))
 
--- of all four numbers
-pub part_all : (count : SampleCount) (palette : Palette) (channel : Channel) (sums : List ℕ) → ArePartSums count palette channel 4 sums → (p : ℕ) → p < 64
-    → (slice_index sums p ≡ total (count_of count) (λ s. channel_of channel (palette_sample palette s p))) × (slice_index sums p ≤ 255 * count_of count)
-part_all count palette channel sums is p l =
+-- each sample has one of the four numbers
+pub four_numbers : (count : SampleCount) (palette : Palette) (p : ℕ)
+    → numbered palette p (count_of count) 0 + numbered palette p (count_of count) 1 + numbered palette p (count_of count) 2 + numbered palette p (count_of count) 3 ≡ count_of count
+four_numbers count palette p =
     let all : by_numbers palette p (λ n. 1) (count_of count) 4 ≡ count_of count = of_four palette p (λ n. 1) (count_of count) ∙ total_of_ones (count_of count) in
-    (is.each p l ∙ of_four palette p (λ n. channel_of channel (sample_numbered palette.samples n)) (count_of count), omega (arith, is.most p l, all))
+    omega (arith, all)
+
+-- the mean of a channel, by how many samples have each number
+pub mean_of_numbers : (count : SampleCount) (palette : Palette) (channel : Channel) (p a b d e mean : ℕ) → a + b + d + e ≡ count_of count
+    → b ≡ numbered palette p (count_of count) 1 → d ≡ numbered palette p (count_of count) 2 → e ≡ numbered palette p (count_of count) 3
+    → mean
+    ≡ (a * channel_of channel (sample_numbered palette.samples 0) + b * channel_of channel (sample_numbered palette.samples 1) + d * channel_of channel (sample_numbered palette.samples 2)
+    + e * channel_of channel (sample_numbered palette.samples 3)
+    + count_of count / 2)
+    / count_of count
+    → IsResolved count (λ s. channel_of channel (palette_sample palette s p)) mean
+mean_of_numbers count palette channel p a b d e mean all is_b is_d is_e is =
+    let n : ℕ = count_of count in
+    let g : ℕ → ℕ = λ m. channel_of channel (sample_numbered palette.samples m) in
+    let is_a : a ≡ numbered palette p n 0 = omega (arith, all, is_b, is_d, is_e, four_numbers count palette p) in
+    let all_four : by_numbers palette p g n 4 ≡ total n (λ s. g (palette_number palette s p)) = of_four palette p g n in
+    let same : a * g 0 + b * g 1 + d * g 2 + e * g 3 ≡ numbered palette p n 0 * g 0 + numbered palette p n 1 * g 1 + numbered palette p n 2 * g 2 + numbered palette p n 3 * g 3 =
+    λ i. is_a i * g 0 + is_b i * g 1 + is_d i * g 2 + is_e i * g 3 in
+    mean_by_sum count (λ s. g (palette_number palette s p)) n (a * g 0 + b * g 1 + d * g 2 + e * g 3) mean refl (omega (arith, same, all_four)) is
+
+-- ---- means of the same
+alike : (count : SampleCount) (x : ℕ) → (x * count_of count + count_of count / 2) / count_of count ≡ x
+alike One x = omega arith
+alike Two x = omega arith
+alike Four x = omega arith
+alike Eight x = omega arith
+alike Sixteen x = omega arith
+
+pub both_alike : (count : SampleCount) (x bits : ℕ) → bits ≤ count_of count → mean_of_both count bits x x ≡ x
+both_alike count x bits few = ap (λ sum. (sum + count_of count / 2) / count_of count) (parts_of x (count_of count) bits few) ∙ alike count x
+
+pub four_alike : (count : SampleCount) (x a b d e : ℕ) → a + b + d + e ≡ count_of count → (a * x + b * x + d * x + e * x + count_of count / 2) / count_of count ≡ x
+four_alike count x a b d e all =
+    let sum : a * x + b * x + d * x + e * x ≡ x * (a + b + d + e) = grind arith in
+    ap (λ m. (m + count_of count / 2) / count_of count) (sum ∙ ap (λ m. x * m) all) ∙ alike count x
+
+-- what is left of n in each lane
+pub left_of : (count : SampleCount) (n : ℕ) (a b d : List ℕ) → n ≡ count_of count → length a ≡ 64 → length b ≡ 64 → length d ≡ 64 → ((p : ℕ) → p < 64 → slice_index a p + slice_index b p + slice_index d p ≤ count_of count)
+    → (length (zip2 minus (zip2 minus (zip2 minus (replicate 64 n) a) b) d) ≡ 64)
+    × ((p : ℕ) → p < 64 → slice_index (zip2 minus (zip2 minus (zip2 minus (replicate 64 n) a) b) d) p + slice_index a p + slice_index b p + slice_index d p ≡ count_of count)
+left_of count n a b d is long_a long_b long_d few =
+    let lanes = zipped minus _ d _ _ (zipped minus _ b _ _ (zipped minus (replicate 64 n) a _ _ (splat n) (itself a long_a)) (itself b long_b)) (itself d long_d) in
+    (lanes.long, λ p l. omega (arith, lanes.each p l, few p l, is, few_samples count))
+
+-- sums of the bits of masks, by what they are
+pub bit_sums : (n : ℕ) (mask : ℕ → ℕ) (sums : List ℕ) → length sums ≡ 64 → ((p : ℕ) → p < 64 → slice_index sums p ≡ total n (λ s. bit_at (mask s) p)) → AreBitSums n mask sums
+bit_sums n mask sums long is = record { long = long; each = is; most = λ p l. omega (arith, is p l, few_bits mask p n) }

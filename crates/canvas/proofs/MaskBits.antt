@@ -5,7 +5,7 @@ use Rattle.std.proofs.lemmas.Bool.{cases_lt, cases_eq}
 use Rattle.std.proofs.lemmas.List.{get_or-set_same, get_or-set_other}
 use Rattle.shade.specs.Resolve.{total}
 use Rattle.std.specs.Simd.Lanes.{zip2}
-use Rattle.canvas.proofs.MaskLanes.{zipped, splat, itself, total_next}
+use Rattle.canvas.proofs.MaskLanes.{AreLanes, zipped, splat, itself, total_next}
 use Rattle.std.proofs.lemmas.Nat.Bits.{bit_at-zero, bit_at-lt, bit_at_and, bit_at_or, bit_at_not, bit_at_ones, bit_at_ones_above, bit_at_above, same_from_bits, same_from_bits_below}
 
 abbrev pub full : ℕ
@@ -146,3 +146,18 @@ one_mask_added n mask sums bits few long is before =
       each = λ p l. sum p l ∙ ap (λ x. x + bit_at (mask n) p) (before.each p l) ∙ total_next n (λ s. bit_at (mask s) p);
       most = λ p l. (let low = bit_at-lt (mask n) p in let small = before.most p l in omega (arith, sum p l, low, small));
     }
+
+-- of four masks more
+pub four_masks_added : (n : ℕ) (mask : ℕ → ℕ) (sums a b d e : List ℕ) → n ≤ 12 → AreLanes a (λ p. bit_at (mask n) p) → AreLanes b (λ p. bit_at (mask (n + 1)) p) → AreLanes d (λ p. bit_at (mask (n + 2)) p)
+    → AreLanes e (λ p. bit_at (mask (n + 3)) p) → AreBitSums n mask sums
+    → AreBitSums (n + 4) mask (zip2 (λ x y. (x + y) % 256) (zip2 (λ x y. (x + y) % 256) (zip2 (λ x y. (x + y) % 256) (zip2 (λ x y. (x + y) % 256) sums a) b) d) e)
+four_masks_added n mask sums a b d e few is_a is_b is_d is_e before =
+    let one = one_mask_added n mask sums a (omega (arith, few)) is_a.long is_a.each before in
+    let two = one_mask_added (n + 1) mask _ b (omega (arith, few)) is_b.long is_b.each one in
+    let second : n + 1 + 1 ≡ n + 2 = omega arith in
+    let three = one_mask_added (n + 2) mask _ d (omega (arith, few)) is_d.long is_d.each (subst (λ m. AreBitSums m mask (zip2 (λ x y. (x + y) % 256) (zip2 (λ x y. (x + y) % 256) sums a) b)) second two) in
+    let third : n + 2 + 1 ≡ n + 3 = omega arith in
+    let four = one_mask_added (n + 3) mask _ e (omega (arith, few)) is_e.long is_e.each
+    (subst (λ m. AreBitSums m mask (zip2 (λ x y. (x + y) % 256) (zip2 (λ x y. (x + y) % 256) (zip2 (λ x y. (x + y) % 256) sums a) b) d)) third three) in
+    let fourth : n + 3 + 1 ≡ n + 4 = omega arith in
+    subst (λ m. AreBitSums m mask (zip2 (λ x y. (x + y) % 256) (zip2 (λ x y. (x + y) % 256) (zip2 (λ x y. (x + y) % 256) (zip2 (λ x y. (x + y) % 256) sums a) b) d) e)) fourth four

@@ -9,6 +9,8 @@ ghost use Rattle.canvas.specs.declared.way.Way.TheVariants.{Pair as AsPair, Own 
 ghost use Rattle.canvas.specs.Layout.{planes_of_tile, in_list, way_in_tile};
 ghost use Rattle.canvas.specs.Lanes.{channel_of};
 ghost use Rattle.canvas.specs.Colours.{IsMeanOf, HasMeansOf};
+ghost use Rattle.canvas.specs.Palettes.{sample_numbered};
+ghost use Rattle.canvas.specs.declared.block_means.Channel.TheVariants.{Alpha as AlphaChannel};
 
 use crate::flat_block::spread;
 use crate::mask_lanes::lanes_of_mask;
@@ -18,6 +20,7 @@ use crate::place::place_by;
 use crate::way::{Way, way_of};
 use grid::SampleCount;
 use lanes::BlockSamples;
+use shade::CanvasSample;
 use std::simd::prelude::*;
 
 /// A channel of samples.
@@ -27,6 +30,22 @@ enum Channel {
     Green,
     Blue,
     Alpha,
+}
+
+/// The count, whose number of samples is known when it is compiled.
+#[inline(always)]
+fn known<const COUNT: u32>(count: SampleCount) -> SampleCount
+    requires { count_of count ≡ COUNT }
+    ensures { result ≡ count }
+{
+    match COUNT {
+        1 => SampleCount::One,
+        2 => SampleCount::Two,
+        4 => SampleCount::Four,
+        8 => SampleCount::Eight,
+        16 => SampleCount::Sixteen,
+        _ => count,
+    }
 }
 
 /// The bytes of the 64 pixels in lanes of 16 bits.
@@ -127,6 +146,41 @@ fn means_of_own(count: SampleCount, planes: &[BlockSamples], k: usize) -> BlockS
     }
 }
 
+/// These sums of the bits of the masks before number `s`, with those of four masks more.
+#[inline(always)]
+fn four_more(bits: u8x64, masks: &[u64; 16], s: usize) -> u8x64
+    requires masks { s ≤ 12 }
+    requires whole { length bits ≡ 64 }
+    requires each { (p : ℕ) → p < 64 → slice_index bits p ≡ total s (λ t. bit_at (slice_index masks.now t) p) }
+    ensures whole { length result ≡ 64 }
+    ensures each { (p : ℕ) → p < 64 → slice_index result p ≡
+        total (s + 4) (λ t. bit_at (slice_index masks.now t) p) }
+{
+    bits + lanes_of_mask(masks[s])
+        + lanes_of_mask(masks[s + 1])
+        + lanes_of_mask(masks[s + 2])
+        + lanes_of_mask(masks[s + 3])
+}
+
+/// How many of the masks have the bit of each pixel, in bytes. They are summed by fours, since no loop over each of them
+/// is unrolled.
+#[inline(always)]
+fn sum_bits(count: SampleCount, masks: &[u64; 16]) -> u8x64
+    ensures whole { length result ≡ 64 }
+    ensures each { (p : ℕ) → p < 64 → slice_index result p ≡
+        total (count_of count) (λ s. bit_at (slice_index masks.now s) p) }
+{
+    let many = count.count() as usize;
+    let mut bits = u8x64::splat(0);
+    for part in 0..many / 4 {
+        bits = four_more(bits, masks, 4 * part);
+    }
+    for s in many / 4 * 4..many {
+        bits = bits + lanes_of_mask(masks[s]);
+    }
+    bits
+}
+
 /// How many of the masks have the bit of each pixel.
 #[inline(always)]
 fn count_bits(count: SampleCount, masks: &[u64; 16]) -> u16x64
@@ -134,11 +188,7 @@ fn count_bits(count: SampleCount, masks: &[u64; 16]) -> u16x64
     ensures each { (p : ℕ) → p < 64 → slice_index result p ≡
         total (count_of count) (λ s. bit_at (slice_index masks.now s) p) }
 {
-    let mut bits = u8x64::splat(0);
-    for s in 0..count.count() {
-        bits = bits + lanes_of_mask(masks[s as usize]);
-    }
-    bits.cast::<u16>()
+    sum_bits(count, masks).cast::<u16>()
 }
 
 /// The means of bytes in lanes: `bits` samples of each pixel have the second, and the others the first.
@@ -182,13 +232,19 @@ fn channel_of_both(
 }
 
 /// The means of the samples of block `k` of a tile with these planes, if the block is kept as a pair.
-#[inline(never)]
-fn means_of_pair(count: SampleCount, planes: &[BlockSamples], k: usize) -> BlockSamples
+#[inline(always)]
+fn means_of_pair<const COUNT: u32>(
+    count: SampleCount,
+    planes: &[BlockSamples],
+    k: usize,
+) -> BlockSamples
+    requires count { count_of count ≡ COUNT }
     requires block { k < 64 }
     requires planes { length planes.now ≡ planes_of_tile count }
     requires way { way_in_tile planes.now k ≡ AsPair }
     ensures { HasMeansOf count planes.now k result }
 {
+    let count = known::<COUNT>(count);
     let many = count.count();
     let first = &planes[place_by(count, Way::Pair, k, 0)];
     let second = &planes[place_by(count, Way::Pair, k, many / 2)];
@@ -217,14 +273,35 @@ fn means_of_bytes(count: SampleCount, bits: u16x64, first: u8, second: u8) -> [u
     means_of_both(count, bits, first, second)
 }
 
+/// What `means_of_bytes` does, for bytes that are mostly the same.
+#[inline(always)]
+fn means_of_alphas(count: SampleCount, bits: u16x64, first: u8, second: u8) -> [u8; 64]
+    requires bits { length bits ≡ 64 }
+    requires few { (p : ℕ) → p < 64 → slice_index bits p ≤ count_of count }
+    ensures { (p : ℕ) → p < 64 → slice_index result p ≡
+        (first * (count_of count - slice_index bits p) + second * slice_index bits p + count_of count / 2) /
+        count_of count }
+{
+    if first == second {
+        return [first; 64];
+    }
+    means_of_bytes(count, bits, first, second)
+}
+
 /// The means of the samples of block `k` of a tile with these planes, if the block is kept in two samples.
-#[inline(never)]
-fn means_of_flat(count: SampleCount, planes: &[BlockSamples], k: usize) -> BlockSamples
+#[inline(always)]
+fn means_of_flat<const COUNT: u32>(
+    count: SampleCount,
+    planes: &[BlockSamples],
+    k: usize,
+) -> BlockSamples
+    requires count { count_of count ≡ COUNT }
     requires block { k < 64 }
     requires planes { length planes.now ≡ planes_of_tile count }
     requires way { way_in_tile planes.now k ≡ AsFlatPair }
     ensures { HasMeansOf count planes.now k result }
 {
+    let count = known::<COUNT>(count);
     let many = count.count();
     let first = planes[place_by(count, Way::FlatPair, k, 0)].sample(k);
     let second = planes[place_by(count, Way::FlatPair, k, many / 2)].sample(k);
@@ -235,7 +312,7 @@ fn means_of_flat(count: SampleCount, planes: &[BlockSamples], k: usize) -> Block
         r: means_of_bytes(count, bits, first.r, second.r),
         g: means_of_bytes(count, bits, first.g, second.g),
         b: means_of_bytes(count, bits, first.b, second.b),
-        alpha: means_of_bytes(count, bits, first.alpha, second.alpha),
+        alpha: means_of_alphas(count, bits, first.alpha, second.alpha),
     }
 }
 
@@ -253,49 +330,142 @@ fn added(sums: u16x64, many: u16x64, byte: u8) -> u16x64
     sums + many * u16x64::splat(u16::from(byte))
 }
 
+/// How many samples of each pixel have the number 0, by how many have the others.
+#[inline(always)]
+fn others(count: SampleCount, ones: u16x64, twos: u16x64, threes: u16x64) -> u16x64
+    requires ones { length ones ≡ 64 }
+    requires twos { length twos ≡ 64 }
+    requires threes { length threes ≡ 64 }
+    requires few { (p : ℕ) → p < 64 →
+        slice_index ones p + slice_index twos p + slice_index threes p ≤ count_of count }
+    ensures whole { length result ≡ 64 }
+    ensures each { (p : ℕ) → p < 64 →
+        slice_index result p + slice_index ones p + slice_index twos p + slice_index threes p ≡ count_of count }
+{
+    u16x64::splat(count.count() as u16) - ones - twos - threes
+}
+
+/// A channel of a sample.
+#[inline(always)]
+fn byte_of(sample: CanvasSample, channel: Channel) -> u8
+    ensures { result ≡ channel_of channel sample }
+{
+    match channel {
+        Channel::Red => sample.r,
+        Channel::Green => sample.g,
+        Channel::Blue => sample.b,
+        Channel::Alpha => sample.alpha,
+    }
+}
+
+/// The means of a channel, by how many samples of each pixel have each number of these four.
+#[inline(always)]
+fn means_of_four(
+    count: SampleCount,
+    noughts: u16x64,
+    ones: u16x64,
+    twos: u16x64,
+    threes: u16x64,
+    samples: &[CanvasSample; 4],
+    channel: Channel,
+) -> [u8; 64]
+    requires noughts { length noughts ≡ 64 }
+    requires ones { length ones ≡ 64 }
+    requires twos { length twos ≡ 64 }
+    requires threes { length threes ≡ 64 }
+    requires all { (p : ℕ) → p < 64 →
+        slice_index noughts p + slice_index ones p + slice_index twos p + slice_index threes p ≡ count_of count }
+    ensures { (p : ℕ) → p < 64 → slice_index result p ≡
+        (slice_index noughts p * channel_of channel (sample_numbered samples.now 0) +
+        slice_index ones p * channel_of channel (sample_numbered samples.now 1) +
+        slice_index twos p * channel_of channel (sample_numbered samples.now 2) +
+        slice_index threes p * channel_of channel (sample_numbered samples.now 3) + count_of count / 2) / count_of count }
+{
+    let sums = added(u16x64::splat(0), noughts, byte_of(samples[0], channel));
+    let sums = added(sums, ones, byte_of(samples[1], channel));
+    let sums = added(sums, twos, byte_of(samples[2], channel));
+    means_of_sums(count, added(sums, threes, byte_of(samples[3], channel)))
+}
+
+/// What `means_of_four` does for alpha, which is mostly the same in all samples.
+#[inline(always)]
+fn alphas_of_four(
+    count: SampleCount,
+    noughts: u16x64,
+    ones: u16x64,
+    twos: u16x64,
+    threes: u16x64,
+    samples: &[CanvasSample; 4],
+) -> [u8; 64]
+    requires noughts { length noughts ≡ 64 }
+    requires ones { length ones ≡ 64 }
+    requires twos { length twos ≡ 64 }
+    requires threes { length threes ≡ 64 }
+    requires all { (p : ℕ) → p < 64 →
+        slice_index noughts p + slice_index ones p + slice_index twos p + slice_index threes p ≡ count_of count }
+    ensures { (p : ℕ) → p < 64 → slice_index result p ≡
+        (slice_index noughts p * channel_of AlphaChannel (sample_numbered samples.now 0) +
+        slice_index ones p * channel_of AlphaChannel (sample_numbered samples.now 1) +
+        slice_index twos p * channel_of AlphaChannel (sample_numbered samples.now 2) +
+        slice_index threes p * channel_of AlphaChannel (sample_numbered samples.now 3) + count_of count / 2) / count_of count }
+{
+    let alpha = samples[0].alpha;
+    if samples[1].alpha == alpha && samples[2].alpha == alpha && samples[3].alpha == alpha {
+        return [alpha; 64];
+    }
+    means_of_four(count, noughts, ones, twos, threes, samples, Channel::Alpha)
+}
+
 /// The means of the samples of block `k` of a tile with these planes, if the block is kept in up to four samples.
-#[inline(never)]
-fn means_of_palette(count: SampleCount, planes: &[BlockSamples], k: usize) -> BlockSamples
+#[inline(always)]
+fn means_of_palette<const COUNT: u32>(
+    count: SampleCount,
+    planes: &[BlockSamples],
+    k: usize,
+) -> BlockSamples
+    requires count { count_of count ≡ COUNT }
     requires block { k < 64 }
     requires planes { length planes.now ≡ planes_of_tile count }
     requires way { way_in_tile planes.now k ≡ AsFour }
     ensures { HasMeansOf count planes.now k result }
 {
+    let count = known::<COUNT>(count);
     let palette = Palette::stored(count, k, planes);
-    let mut red = u16x64::splat(0);
-    let mut green = u16x64::splat(0);
-    let mut blue = u16x64::splat(0);
-    let mut alpha = u16x64::splat(0);
-    for number in 0..4 {
-        let many = count_bits(count, &palette.pixels_of(count, number));
-        let sample = palette.samples[number];
-        red = added(red, many, sample.r);
-        green = added(green, many, sample.g);
-        blue = added(blue, many, sample.b);
-        alpha = added(alpha, many, sample.alpha);
-    }
+    let samples = &palette.samples;
+    let ones = count_bits(count, &palette.pixels_of(count, 1));
+    let twos = count_bits(count, &palette.pixels_of(count, 2));
+    let threes = count_bits(count, &palette.pixels_of(count, 3));
+    let noughts = others(count, ones, twos, threes);
     BlockSamples {
         z: [0; 64],
-        r: means_of_sums(count, red),
-        g: means_of_sums(count, green),
-        b: means_of_sums(count, blue),
-        alpha: means_of_sums(count, alpha),
+        r: means_of_four(count, noughts, ones, twos, threes, samples, Channel::Red),
+        g: means_of_four(count, noughts, ones, twos, threes, samples, Channel::Green),
+        b: means_of_four(count, noughts, ones, twos, threes, samples, Channel::Blue),
+        alpha: alphas_of_four(count, noughts, ones, twos, threes, samples),
     }
 }
 
-/// The means of the samples of block `k` of a tile with these planes.
-pub(crate) fn means_of_block(count: SampleCount, planes: &[BlockSamples], k: usize) -> BlockSamples
+/// Makes a plane the means of the samples of block `k` of a tile with these planes. The number of samples of a pixel is
+/// known when this is compiled, so that loops over these are unrolled.
+#[inline(never)]
+pub(crate) fn means_of_block<const COUNT: u32>(
+    count: SampleCount,
+    planes: &[BlockSamples],
+    k: usize,
+    means: &mut BlockSamples,
+)
+    requires count { count_of count ≡ COUNT }
     requires block { k < 64 }
     requires planes { length planes.now ≡ planes_of_tile count }
-    ensures { HasMeansOf count planes.now k result }
+    ensures { HasMeansOf count planes.now k means.new }
 {
     let way = way_of(&planes[0], k);
     match way {
-        Way::Cleared | Way::Single => planes[place_by(count, way, k, 0)],
-        Way::Flat => spread(planes[place_by(count, way, k, 0)].sample(k)),
-        Way::FlatPair => means_of_flat(count, planes, k),
-        Way::FlatFour => means_of_palette(count, planes, k),
-        Way::Pair => means_of_pair(count, planes, k),
-        Way::Own => means_of_own(count, planes, k),
+        Way::Cleared | Way::Single => *means = planes[place_by(count, way, k, 0)],
+        Way::Flat => *means = spread(planes[place_by(count, way, k, 0)].sample(k)),
+        Way::FlatPair => *means = means_of_flat::<COUNT>(count, planes, k),
+        Way::FlatFour => *means = means_of_palette::<COUNT>(count, planes, k),
+        Way::Pair => *means = means_of_pair::<COUNT>(count, planes, k),
+        Way::Own => *means = means_of_own(count, planes, k),
     }
 }

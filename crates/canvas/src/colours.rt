@@ -192,9 +192,40 @@ fn resolve_block_by(
     }
 }
 
-/// What `resolve_block` does, by the means of the block's samples. It is a function of its own, since its plane of means is
-/// made anew in each call.
+/// What `resolve_means` does, with the number of samples of a pixel known when it is compiled.
 #[inline(never)]
+fn write_means<const COUNT: u32>(
+    rows: &PixelRows,
+    planes: &[BlockSamples],
+    across: u32,
+    down: u32,
+    format: Format,
+    bytes: &mut [u8],
+)
+    requires count { count_of rows.now.tile_rows.canvas.count ≡ COUNT }
+    requires column { 8 * across < rows.now.tile_rows.canvas.width }
+    requires row { 8 * down < shown_rows rows.now.tile_rows.canvas rows.now.tile_rows.first rows.now.tile_rows.end }
+    requires planes { length planes.now ≡ planes_of_tile rows.now.tile_rows.canvas.count }
+    requires unit { rows.now.unit ≡ pixel_bytes format }
+    requires size { rows.now.size ≡ length bytes.old }
+    ensures { AreWrittenTo rows.now (LiesInBlock rows.now.tile_rows.first across down)
+        (λ i j bytes. IsPixelWith rows.now.tile_rows.canvas.count
+        (stored_in_tile rows.now.tile_rows.canvas.count planes.now i j) format bytes) bytes.old bytes.new }
+{
+    let k = block_in_tile(8 * across, 8 * down);
+    let mut means = BlockSamples {
+        z: [0; 64],
+        r: [0; 64],
+        g: [0; 64],
+        b: [0; 64],
+        alpha: [0; 64],
+    };
+    means_of_block::<COUNT>(rows.tile_rows.canvas.count, planes, k, &mut means);
+    resolve_block_by(rows, &means, across, down, format, bytes);
+}
+
+/// What `resolve_block` does, by the means of the block's samples. They are made in a function of its own, since its plane
+/// of means is made anew in each call.
 fn resolve_means(
     rows: &PixelRows,
     planes: &[BlockSamples],
@@ -212,9 +243,13 @@ fn resolve_means(
         (λ i j bytes. IsPixelWith rows.now.tile_rows.canvas.count
         (stored_in_tile rows.now.tile_rows.canvas.count planes.now i j) format bytes) bytes.old bytes.new }
 {
-    let k = block_in_tile(8 * across, 8 * down);
-    let means = means_of_block(rows.tile_rows.canvas.count, planes, k);
-    resolve_block_by(rows, &means, across, down, format, bytes);
+    match rows.tile_rows.canvas.count {
+        SampleCount::One => write_means::<1>(rows, planes, across, down, format, bytes),
+        SampleCount::Two => write_means::<2>(rows, planes, across, down, format, bytes),
+        SampleCount::Four => write_means::<4>(rows, planes, across, down, format, bytes),
+        SampleCount::Eight => write_means::<8>(rows, planes, across, down, format, bytes),
+        SampleCount::Sixteen => write_means::<16>(rows, planes, across, down, format, bytes),
+    }
 }
 
 /// Writes the pixels of the picture in a block of these rows, by its column `across` and its row `down`, from the planes
