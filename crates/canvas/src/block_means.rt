@@ -13,6 +13,7 @@ ghost use Rattle.canvas.specs.Palettes.{sample_numbered};
 ghost use Rattle.canvas.specs.declared.block_means.Channel.TheVariants.{Alpha as AlphaChannel};
 
 use crate::flat_block::spread;
+use crate::known_count::known;
 use crate::mask_lanes::lanes_of_mask;
 use crate::pair::masks_of;
 use crate::palette::Palette;
@@ -30,22 +31,6 @@ enum Channel {
     Green,
     Blue,
     Alpha,
-}
-
-/// The count, whose number of samples is known when it is compiled.
-#[inline(always)]
-fn known<const COUNT: u32>(count: SampleCount) -> SampleCount
-    requires { count_of count ≡ COUNT }
-    ensures { result ≡ count }
-{
-    match COUNT {
-        1 => SampleCount::One,
-        2 => SampleCount::Two,
-        4 => SampleCount::Four,
-        8 => SampleCount::Eight,
-        16 => SampleCount::Sixteen,
-        _ => count,
-    }
 }
 
 /// The bytes of the 64 pixels in lanes of 16 bits.

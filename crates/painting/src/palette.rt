@@ -6,23 +6,9 @@ ghost use Rattle.painting.specs.Parts.{number_in_tile, IsInWords, IsPaletteDrawn
 ghost use Rattle.painting.specs.FewSamples.{IsNotDrawnInFour, LeavesNoPalette};
 
 use crate::covered_block::CoveredBlock;
-use canvas::Palette;
+use canvas::{Palette, known};
 use grid::SampleCount;
 use lanes::BlockSamples;
-
-/// The count, whose number of samples is known when it is compiled.
-#[inline(always)]
-fn known<const COUNT: u32>(count: SampleCount) -> SampleCount
-    requires { count_of count ≡ COUNT }
-    ensures { result ≡ count }
-{
-    match COUNT {
-        4 => SampleCount::Four,
-        8 => SampleCount::Eight,
-        16 => SampleCount::Sixteen,
-        _ => count,
-    }
-}
 
 impl CoveredBlock<'_> {
     /// What the triangle makes of the block's samples that are in the masks, if they are at most four then.
