@@ -16,7 +16,7 @@ from tools.checks.web.explorer import FOLDER, HEIGHT, SECONDS, WIDTH, Explorer
 from tools.checks.web.figure import NAMES, figure_in, run_program
 from tools.checks.web.positions import check_shown
 
-MAX_BYTES = 410_000
+MAX_BYTES = 450_000
 PHONE = (390, 844)
 MAX_FUNCTION_LINES = 40
 SIGNS = {"+": "1", "0": "0", "−": "-1"}
