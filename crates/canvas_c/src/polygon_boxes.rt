@@ -1,6 +1,6 @@
 //! The boxes of polygons, which all calls that draw them may share.
 ghost use Rattle.std.specs.Prelude.{◌≡◌, [], length, OnOk, ⊤};
-ghost use Rattle.polygons.specs.Arrays.{AreLeastBoxesOf};
+ghost use Rattle.polygons.specs.Arrays.{AreLeastBoxesOf, KeepsBoxesFrom};
 ghost use Rattle.c_abi.specs.Calls.{IsCall, IsReport};
 ghost use Rattle.canvas_c.specs.PolygonChecks.{measure_checks, IsFirstOfArrays};
 
@@ -13,6 +13,7 @@ fn measure_into(arrays: &PolygonArrays<'_>, boxes: &mut [Extent]) -> Result<(), 
     ensures judged { IsCall (measure_checks arrays.now (length boxes.old)) (IsFirstOfArrays arrays.now) (λ done. ⊤) result }
     ensures measured { OnOk result (AreLeastBoxesOf boxes.new arrays.now.corners.now arrays.now.ring_ends.now
         arrays.now.polygon_ends.now) }
+    ensures behind { KeepsBoxesFrom (length arrays.now.polygon_ends.now) boxes.old boxes.new }
 {
     if !arrays.has_size() {
         return Err(CallError::from(Status::BadStructSize));
@@ -27,7 +28,7 @@ fn measure_into(arrays: &PolygonArrays<'_>, boxes: &mut [Extent]) -> Result<(), 
 }
 
 /// Checks the corners and the ends of rings and polygons, and writes the box of each polygon's corners. Returns the
-/// status, and writes the error. If the status is not 0, what is in the boxes is unspecified.
+/// status, and writes the error. If the status is not 0, what is in these boxes is unspecified. Those behind are unchanged.
 #[unsafe(no_mangle)]
 pub extern "C" fn trirast_proved_polygons_measure(
     polygons: &PolygonArrays<'_>,
@@ -38,6 +39,7 @@ pub extern "C" fn trirast_proved_polygons_measure(
         error.new }
     ensures measured { result ≡ 0 → AreLeastBoxesOf boxes.new polygons.now.corners.now polygons.now.ring_ends.now
         polygons.now.polygon_ends.now }
+    ensures behind { KeepsBoxesFrom (length polygons.now.polygon_ends.now) boxes.old boxes.new }
 {
     report(measure_into(polygons, boxes), error)
 }

@@ -69,6 +69,10 @@ pub record AreLeastBoxesOf (boxes : List Extent) (corners : List Corner) (ring_e
   pub seen : AreCornersInBand corners
   pub least : (k : ℕ) → k < length polygon_ends → IsLeastExtent (box_at boxes k) (polygon_corners corners ring_ends polygon_ends k)
 
+-- The boxes from number n on are unchanged.
+abbrev pub KeepsBoxesFrom : ℕ → List Extent → List Extent → Type 0
+KeepsBoxesFrom n old new = (k : ℕ) → n ≤ k → box_at new k ≡ box_at old k
+
 -- Part k is the first that ends before it begins, or behind the whole, which has n elements.
 pub record IsFirstFall (ends : List ℕ) (n k : ℕ) : Type 0 where
   pub inside : k < length ends

@@ -50,6 +50,7 @@
 --   AreBoxesOf: All corners are inside of the guard band, and each of polygon k is in box k or on its border.
 --   BoxesFit: If there are boxes, they are those of the polygons.
 --   AreLeastBoxesOf: All corners are inside of the guard band, and box k is the least one that holds those of polygon k.
+--   KeepsBoxesFrom: The boxes from number n on are unchanged.
 --   IsFirstFall: Part k is the first that ends before it begins, or behind the whole, which has n elements.
 --   IsShort: The last part ends before the whole does, which has n elements.
 --   IsFirstOutside: Corner k is the first outside of the guard band.

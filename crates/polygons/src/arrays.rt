@@ -3,7 +3,7 @@ ghost use Rattle.std.specs.Prelude.{ℕ, ◌≡◌, ◌↔◌, ◌+◌, ◌-◌,
 ghost use Rattle.std.specs.Prelude.{None as Nothing};
 ghost use Rattle.std.specs.List.{All};
 ghost use Rattle.polygons.specs.Rings.{AreCornersInBand, AreAscendingEnds, IsInClosedExtent, position_of};
-ghost use Rattle.polygons.specs.Arrays.{AreAscending, ArePolygons, AreParts, AreLeastBoxesOf, BoxesFit, IsFirstFall, IsFirstOutside, IsWrong};
+ghost use Rattle.polygons.specs.Arrays.{AreAscending, ArePolygons, AreParts, AreLeastBoxesOf, BoxesFit, KeepsBoxesFrom, IsFirstFall, IsFirstOutside, IsWrong};
 ghost use Rattle.polygons.specs.Arrays.{begin_of as begin, first_corner as corner_at};
 ghost use Rattle.polygons.specs.PolygonRuns.{HoldsPolygons};
 ghost use Rattle.polygons.specs.declared.extent.Extent.{Extent as Box};
@@ -153,6 +153,7 @@ pub fn measure(
 ) -> Result<(), ArraysError>
     requires { length polygon_ends.now ≤ length boxes.old }
     ensures measured { IfOk result (λ done. AreLeastBoxesOf boxes.new corners.now ring_ends.now polygon_ends.now) }
+    ensures behind { KeepsBoxesFrom (length polygon_ends.now) boxes.old boxes.new }
     ensures checked { IfOk result (λ done. ArePolygons corners.now ring_ends.now polygon_ends.now []) }
     ensures wrong { IfErr result (λ e. IsWrong corners.now ring_ends.now polygon_ends.now [] e) }
 {
@@ -173,9 +174,9 @@ pub fn measure(
 }
 
 impl<'a> Polygons<'a> {
-    ghost use Rattle.polygons.specs.Arrays.{rings_of, IsPolygonInBand};
+    ghost use Rattle.polygons.specs.Arrays.{polygon_corners, rings_of, IsPolygonInBand};
     ghost use Rattle.polygons.specs.Polygon.{polygon_edges};
-    ghost use Rattle.polygons.specs.Rings.{rings_from, HoldsInside};
+    ghost use Rattle.polygons.specs.Rings.{rings_from, HoldsInside, IsLeastExtent};
 
     /// The polygons in these arrays, or what is wrong first. If the caller has boxes, no corner is looked at.
     pub fn new(
@@ -241,12 +242,14 @@ impl<'a> Polygons<'a> {
         self.boxes.is_empty()
     }
 
-    /// The box of the corners of the polygon of this number, or `None` if one is outside of the guard band. By either rule
+    /// The least box of the corners of the polygon of this number, or `None` if one is outside of the guard band. By either rule
     /// the polygon has nothing inside but in the box.
     pub fn extent(&self, number: usize) -> Option<Extent>
         requires { number < length self.now.polygon_ends.now }
         ensures some { IsSome result ↔
             IsPolygonInBand self.now.corners.now self.now.ring_ends.now self.now.polygon_ends.now number }
+        ensures least { IfSome result (λ e. IsLeastExtent e
+            (polygon_corners self.now.corners.now self.now.ring_ends.now self.now.polygon_ends.now number)) }
         ensures holds { IfSome result (λ e. HoldsInside e
             (polygon_edges (rings_of self.now.corners.now self.now.ring_ends.now self.now.polygon_ends.now number))) }
     {

@@ -23,7 +23,7 @@ pub struct Rings<'a> {
 }
 
 impl Rings<'_> {
-    ghost use Rattle.polygons.specs.Rings.{rings_from, HoldsInside};
+    ghost use Rattle.polygons.specs.Rings.{rings_from, HoldsInside, IsLeastExtent};
 
     /// The index behind the last corner.
     pub(crate) fn end(&self) -> u32
@@ -36,9 +36,11 @@ impl Rings<'_> {
         }
     }
 
-    /// The box of the corners: by either rule the polygon has nothing inside but in the box.
+    /// The least box of the corners: by either rule the polygon has nothing inside but in the box.
     pub fn extent(&self) -> Extent
-        ensures { HoldsInside result (polygon_edges (rings_from self.now.corners.now self.now.start self.now.ends.now)) }
+        ensures least { IsLeastExtent result
+            (corners_between self.now.corners.now self.now.start (end_of self.now.start self.now.ends.now)) }
+        ensures holds { HoldsInside result (polygon_edges (rings_from self.now.corners.now self.now.start self.now.ends.now)) }
     {
         Extent::of(&self.corners[self.start as usize..self.end() as usize])
     }

@@ -33,7 +33,7 @@ returns-then-window-clause-painted c =
     let w = c.of-window.result in
     polygon_painted polygon origin rows.canvas rows.first rows.end c.args.samples.now c.args.samples.now rows.within
     (rows_none _ rows.canvas rows.first rows.end (MeetsHere polygon origin rows.canvas.count) c.args.samples.now
-    (λ i j s h m. let inside = in_window polygon origin rows.canvas c.extent.result w c.extent.ensures c.of-window.ensures.holds rows.first rows.end i j s rows.within h m in omega (arith, inside.0, inside.1, c.if-window.true)))
+    (λ i j s h m. let inside = in_window polygon origin rows.canvas c.extent.result w c.extent.ensures.holds c.of-window.ensures.holds rows.first rows.end i j s rows.within h m in omega (arith, inside.0, inside.1, c.if-window.true)))
 
 pub loop-row-init : goal.loop-row-init
 loop-row-init c =
@@ -43,7 +43,7 @@ loop-row-init c =
     let w = c.of-window.result in
     record {
       painted = rows_none c.new-triangle.result rows.canvas rows.first rows.end (λ i j s. (j / 64 < c.max-row.result) × MeetsHere polygon origin rows.canvas.count i j s) c.args.samples.now
-          (λ i j s h p. let inside = in_window polygon origin rows.canvas c.extent.result w c.extent.ensures c.of-window.ensures.holds rows.first rows.end i j s rows.within h p.1 in let from = h.from in omega (arith, inside.2, from, p.0, c.max-row.ensures));
+          (λ i j s h p. let inside = in_window polygon origin rows.canvas c.extent.result w c.extent.ensures.holds c.of-window.ensures.holds rows.first rows.end i j s rows.within h p.1 in let from = h.from in omega (arith, inside.2, from, p.0, c.max-row.ensures));
       flags = c.requires.flags;
     }
 
@@ -66,7 +66,7 @@ paint_row-requires-clause-held c i j s h m =
     let w = c.of-window.result in
     let row = c.loop-row.row in
     let below : row < rows.end = omega (arith, c.loop-row-test.true, c.min-row-end.ensures) in
-    let inside = in_window polygon origin rows.canvas c.extent.result w c.extent.ensures c.of-window.ensures.holds row (row + 1) i j s (let within = rows.within in omega (arith, below, within)) h m in
+    let inside = in_window polygon origin rows.canvas c.extent.result w c.extent.ensures.holds c.of-window.ensures.holds row (row + 1) i j s (let within = rows.within in omega (arith, below, within)) h m in
     (inside.0, omega (arith, inside.1, c.if-window.false))
 
 pub paint_row-requires-clause-flags : goal.paint_row-requires-clause-flags
@@ -106,7 +106,7 @@ returns-clause-painted c =
     let past : min rows.end w.bottom ≤ row = omega (arith, c.loop-row-test.false, c.min-row-end.ensures) in
     let all : RowsPaint t rows.canvas rows.first rows.end (MeetsHere polygon origin rows.canvas.count) c.args.samples.now c.loop-row.samples =
     rows_same t rows.canvas rows.first rows.end (λ i j s. (j / 64 < row) × MeetsHere polygon origin rows.canvas.count i j s) (MeetsHere polygon origin rows.canvas.count) c.args.samples.now c.loop-row.samples c.loop-row.invariant.painted
-    (λ i j s h m. let inside = in_window polygon origin rows.canvas c.extent.result w c.extent.ensures c.of-window.ensures.holds rows.first rows.end i j s rows.within h m in let end = h.below in (omega (arith, inside.3, end, past), m))
+    (λ i j s h m. let inside = in_window polygon origin rows.canvas c.extent.result w c.extent.ensures.holds c.of-window.ensures.holds rows.first rows.end i j s rows.within h m in let end = h.below in (omega (arith, inside.3, end, past), m))
     (λ i j s h p. p.1) in
     polygon_painted polygon origin rows.canvas rows.first rows.end c.args.samples.now c.loop-row.samples rows.within
     (subst (λ (u : Placed). RowsPaint u rows.canvas rows.first rows.end (MeetsHere polygon origin rows.canvas.count) c.args.samples.now c.loop-row.samples) (c.new-triangle.ensures ∙ c.over_screen.ensures.value) all)

@@ -3,7 +3,7 @@ use Rattle.std.proofs.lemmas.Bool.{cases_lt}
 use Rattle.std.proofs.lemmas.Result.{err_from_is_err_and}
 use Rattle.polygons.specs.declared.corner.Corner.{Corner}
 use Rattle.polygons.specs.declared.extent.Extent.{Extent}
-use Rattle.polygons.specs.Arrays.{box_at, polygon_corners, first_corner}
+use Rattle.polygons.specs.Arrays.{box_at, polygon_corners, first_corner, KeepsBoxesFrom}
 use Rattle.polygons.specs.Rings.{corners_between, IsLeastExtent}
 use Rattle.polygons.proofs.BoxesOfPolygons.{all_corners, all_joined, corners_rise, corners_within, last_corner}
 use Rattle.polygons.proofs.arrays.measure.Goals as goal
@@ -20,6 +20,12 @@ least_more boxes box corners ring_ends polygon_ends polygon room here before k l
       subst (λ n. IsLeastExtent (box_at (set boxes polygon box) n) (polygon_corners corners ring_ends polygon_ends n)) same
       (subst (λ (b : Extent). IsLeastExtent b (polygon_corners corners ring_ends polygon_ends polygon)) (sym (get_or-set_same boxes polygon box _ room)) here)
 ]
+
+-- boxes behind are unchanged
+kept_behind : (old boxes : List Extent) (box : Extent) (polygon n : ℕ) → polygon < n → KeepsBoxesFrom n old boxes → KeepsBoxesFrom n old (set boxes polygon box)
+kept_behind old boxes box polygon n less kept k l =
+    let other : k ≢ polygon = λ e. omega (arith, e, less, l) in
+    get_or-set_other boxes polygon k box _ other ∙ kept k l
 
 pub returns-in_err-check_ends-clause-wrong : goal.returns-in_err-check_ends-clause-wrong
 returns-in_err-check_ends-clause-wrong c =
@@ -59,6 +65,7 @@ loop-polygon-preserved c =
     record {
       corner = c.first_corner-behind.ensures;
       least = least_more c.loop-polygon.boxes c.of-extent.result corners ring_ends polygon_ends polygon (omega (arith, c.loop-polygon-test.true, c.loop-polygon.auto.boxes, c.requires)) here v.least;
+      behind = kept_behind c.args.boxes.now c.loop-polygon.boxes c.of-extent.result polygon (length polygon_ends) (omega (arith, c.loop-polygon-test.true)) v.behind;
       all = all_joined corners c.loop-polygon.corner c.first_corner-behind.result c.loop-polygon.all c.of-extent.result c.joined-all.result from c.joined-all.ensures.first c.joined-all.ensures.second v.all c.of-extent.ensures.held;
     }
 

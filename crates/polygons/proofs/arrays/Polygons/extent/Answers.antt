@@ -30,6 +30,9 @@ returns-in-None-clause-some c =
     let seen : All IsInGuardBand (corners_between p.corners.now (first_corner p.ring_ends.now p.polygon_ends.now number) (first_corner p.ring_ends.now p.polygon_ends.now (number + 1))) = rw (← c.first_corner-first.ensures, ← c.first_corner-behind.ensures) all in
     ((λ yes. seen), (λ s. refl))
 
+pub returns-in-None-clause-least : goal.returns-in-None-clause-least
+returns-in-None-clause-least c = rw (← c.first_corner-first.ensures, ← c.first_corner-behind.ensures) c.of-extent.ensures
+
 pub returns-in-None-clause-holds : goal.returns-in-None-clause-holds
 returns-in-None-clause-holds c =
     let p = c.args.self.now in
