@@ -1,10 +1,11 @@
 -- Blocks that have up to four samples, and what is drawn at them.
-use Rattle.std.proofs.Common.{◌≡◌, ◌∙◌, inl, inr, sym, subst, arith, Bool, true, false, ℕ, zero, suc, ◌+◌, ◌<◌, ◌*◌, List, slice_index}
+use Rattle.std.proofs.Common.{refl, ◌≡◌, ◌∙◌, inl, inr, sym, subst, arith, Bool, true, false, ℕ, zero, suc, ◌+◌, ◌<◌, ◌*◌, List, [], ◌∷◌, slice_index}
 use Rattle.std.specs.Prelude.{◌==◌, if◌then◌else◌}
 use Rattle.std.specs.Int.{bit_at}
 use Rattle.grid.specs.Position.{Position}
 use Rattle.grid.specs.Samples.{sample_position}
 use Rattle.grid.specs.declared.pixels.TileSide.TheVariants.{T64}
+use Rattle.grid.specs.declared.sample_count.SampleCount.{SampleCount}
 use Rattle.lanes.specs.declared.block_samples.BlockSamples.{BlockSamples}
 use Rattle.shade.specs.declared.placed.Placed.{Placed}
 use Rattle.shade.specs.declared.sample.CanvasSample.{CanvasSample}
@@ -16,7 +17,7 @@ use Rattle.canvas.specs.declared.flat_block.FlatBlock.{FlatBlock}
 use Rattle.canvas.specs.declared.palette.Palette.{Palette}
 use Rattle.canvas.specs.Layout.{block_in_tile, pixel_in_block, stored_in_tile, chosen, KeepsOtherSamples}
 use Rattle.canvas.specs.Palettes.{palette_number, sample_numbered, palette_sample, HasPalette}
-use Rattle.canvas.proofs.Palettes.{below_four}
+use Rattle.canvas.proofs.Palettes.{below_four, sample_chosen}
 use Rattle.canvas.specs.FlatBlocks.{flat_sample, with_samples, HasFlat, HasOne, IsFlatReplaced}
 use Rattle.canvas.proofs.Pairs.{chosen_set, chosen_clear}
 use Rattle.canvas.proofs.TilePlanes.{cases_eq}
@@ -80,6 +81,26 @@ module _ (t : Placed) (tile : Tile) (side : tile.side ≡ T64) (bx by : ℕ) (bl
   pub flat_painted : TilePaints t tile (IsInWords tile bx by words) old new
   flat_painted = record { met = λ row column s h p. met row column s h p; missed = λ row column s h other. missed row column s h other }
 
+-- ---- one sample as a block of two
+one_of : (b : Bool) (x : CanvasSample) → (if b then x else x) ≡ x
+one_of true x = refl
+one_of false x = refl
+
+module _ (sample drawn : CanvasSample) (words : List ℕ) where
+  abbrev pub as_two : FlatBlock
+  as_two = record { first = sample; second = sample; masks = words }
+
+  abbrev pub drawn_in_words : FlatBlock
+  drawn_in_words = record { first = sample; second = drawn; masks = words }
+
+  pub has_two : (count : SampleCount) (k : ℕ) (samples : List BlockSamples) → HasOne count k sample samples → HasFlat count k as_two samples
+  has_two count k samples one i j s l here = one i j s l here ∙ sym (one_of (bit_at (slice_index words s) (pixel_in_block i j) == 1) sample)
+
+  pub one_replaced : (count : SampleCount) → IsFlatReplaced count as_two words drawn drawn drawn_in_words
+  one_replaced count s p l m =
+      let b : Bool = bit_at (slice_index words s) p == 1 in
+      λ i. chosen (slice_index words s) p (sym (one_of b drawn) i) (sym (one_of b sample) i)
+
 -- drawn at each of four samples
 pub each_drawn : (t : Placed) (old new : List CanvasSample) → DrawsSample t (sample_numbered old 0) (sample_numbered new 0) → DrawsSample t (sample_numbered old 1) (sample_numbered new 1) → DrawsSample t (sample_numbered old 2) (sample_numbered new 2) → DrawsSample t (sample_numbered old 3) (sample_numbered new 3)
     → (number : ℕ) → number < 4 → DrawsSample t (sample_numbered old number) (sample_numbered new number)
@@ -88,6 +109,33 @@ each_drawn t old new first second third fourth (suc zero) l = second
 each_drawn t old new first second third fourth (suc (suc zero)) l = third
 each_drawn t old new first second third fourth (suc (suc (suc zero))) l = fourth
 each_drawn t old new first second third fourth (suc (suc (suc (suc number)))) l = absurd (omega (arith, l))
+
+-- ---- one sample or two as four
+module _ (flat : FlatBlock) (words : List ℕ) (first second : CanvasSample) where
+  abbrev pub as_palette : Palette
+  as_palette = record { samples = flat.first ∷ flat.second ∷ flat.first ∷ flat.second ∷ []; low = flat.masks; high = words }
+
+  abbrev pub drawn_in_four : Palette
+  drawn_in_four = record { samples = flat.first ∷ flat.second ∷ first ∷ second ∷ []; low = flat.masks; high = words }
+
+  abbrev drawn_twice : List CanvasSample
+  drawn_twice = first ∷ second ∷ first ∷ second ∷ []
+
+  of_two : (x y : CanvasSample) (s p : ℕ) → sample_numbered (x ∷ y ∷ x ∷ y ∷ []) (palette_number as_palette s p) ≡ chosen (slice_index flat.masks s) p y x
+  of_two x y s p =
+      sym (sample_chosen (slice_index flat.masks s) (slice_index words s) p (x ∷ y ∷ x ∷ y ∷ [])) ∙ one_of (bit_at (slice_index words s) p == 1) (chosen (slice_index flat.masks s) p y x)
+
+  pub has_palette : (count : SampleCount) (k : ℕ) (samples : List BlockSamples) → HasFlat count k flat samples → HasPalette count k as_palette samples
+  has_palette count k samples has i j s l here = has i j s l here ∙ sym (of_two flat.first flat.second s (pixel_in_block i j))
+
+  pub four_drawn : (t : Placed) (count : SampleCount) → DrawsSample t flat.first first → DrawsSample t flat.second second → IsPaletteDrawn t count as_palette words drawn_in_four
+  four_drawn t count draws_first draws_second = (
+    drawn_twice,
+    each_drawn t as_palette.samples drawn_twice draws_first draws_second draws_first draws_second,
+    (λ s p l m.
+        sym (sample_chosen (slice_index flat.masks s) (slice_index words s) p drawn_in_four.samples)
+        ∙ (λ i. chosen (slice_index words s) p (sym (of_two first second s p) i) (sym (of_two flat.first flat.second s p) i))),
+  )
 
 module _ (t : Placed) (tile : Tile) (side : tile.side ≡ T64) (bx by : ℕ) (block : LiesIn tile bx by 8) (words : List ℕ) (palette made : Palette) (old new : List BlockSamples)
     (has : HasPalette tile.count (number_in_tile tile bx by) palette old) (is : IsPaletteDrawn t tile.count palette words made)

@@ -2,6 +2,7 @@
 ghost use Rattle.std.specs.Prelude.{◌≡◌, ◌↔◌, ◌⊎◌, ◌<◌, ◌≤◌, false, length, IsTrue, IsSome, IfSome};
 ghost use Rattle.grid.specs.Samples.{count_of};
 ghost use Rattle.canvas.specs.Layout.{planes_of_tile};
+ghost use Rattle.canvas.specs.FlatBlocks.{HasOne};
 ghost use Rattle.canvas.specs.Tiles.{HasBytes};
 ghost use Rattle.painting.specs.Parts.{number_in_tile, DrawsSample, IsFlatDrawn, IsInBlock, TilePaints};
 ghost use Rattle.painting.specs.FewSamples.{IsNotDrawnFlat, IsNotDrawnInFour, IsSmallOfFour, StaysFlatDrawn};
@@ -99,6 +100,42 @@ impl CoveredBlock<'_> {
         flat.replaced(count, words, first, second)
     }
 
+    /// Draws the triangle at those samples of the block whose bits are set, in column `k` of the masks. All samples of the
+    /// block are this one. Most blocks are so, and most of these are covered whole, which needs no masks.
+    #[inline(always)]
+    fn paint_one(
+        &self,
+        count: SampleCount,
+        sample: CanvasSample,
+        masks: &Masks<'_>,
+        k: usize,
+        samples: &mut [BlockSamples],
+    )
+        requires count { count ≡ self.now.tile.now.count }
+        requires some { 4 ≤ count_of count }
+        requires masks { masks.now.count ≡ self.now.tile.now.count }
+        requires column { k < masks.now.columns }
+        requires whole { IsTrue self.now.whole }
+        requires samples { length samples.old ≡ planes_of_tile self.now.tile.now.count }
+        requires one { let b = self.now in HasOne count (number_in_tile b.tile.now b.bx b.by) sample samples.old }
+        ensures { let b = self.now in TilePaints b.triangle.now b.tile.now
+            (IsInBlock b.triangle.now.state b.tile.now b.bx b.by masks.now k) samples.old samples.new }
+    {
+        let number = self.number();
+        let row = (self.by - self.tile.by) as usize;
+        let drawn = self.drawn(sample);
+        if masks.is_full(count, k, row) {
+            make_flat(count, number, drawn, samples);
+            return;
+        }
+        let both = FlatBlock {
+            first: sample,
+            second: drawn,
+            masks: masks.words(count, k, row),
+        };
+        both.store(count, number, samples);
+    }
+
     /// What `paint_flat` does, with the number of samples known if this is inlined.
     #[inline(always)]
     fn paint_flat_by(
@@ -125,12 +162,9 @@ impl CoveredBlock<'_> {
     {
         let number = self.number();
         let row = (self.by - self.tile.by) as usize;
-        // Most blocks are of one sample and covered whole, which needs no masks.
-        if masks.is_full(count, k, row) {
-            if let Some(sample) = one_sample(count, number, samples) {
-                make_flat(count, number, self.drawn(sample), samples);
-                return true;
-            }
+        if let Some(sample) = one_sample(count, number, samples) {
+            self.paint_one(count, sample, masks, k, samples);
+            return true;
         }
         let words = masks.words(count, k, row);
         if let Some(flat) = FlatBlock::of(count, number, samples) {

@@ -3,10 +3,10 @@ ghost use Rattle.std.specs.Prelude.{◌≡◌, ◌≤◌, false, length, IsTrue,
 ghost use Rattle.grid.specs.Samples.{count_of};
 ghost use Rattle.canvas.specs.Layout.{planes_of_tile};
 ghost use Rattle.painting.specs.Parts.{number_in_tile, IsInWords, IsPaletteDrawn, TilePaints};
-ghost use Rattle.painting.specs.FewSamples.{IsNotDrawnInFour, LeavesNoPalette};
+ghost use Rattle.painting.specs.FewSamples.{IsNotDrawnInFour, IsNotKeptFlat, LeavesNoPalette};
 
 use crate::covered_block::CoveredBlock;
-use canvas::{Palette, known};
+use canvas::{FlatBlock, Palette, known};
 use grid::SampleCount;
 use lanes::BlockSamples;
 
@@ -33,6 +33,35 @@ impl CoveredBlock<'_> {
         palette.replaced(count, words, &drawn)
     }
 
+    /// Draws the triangle at those samples of the block that are in the masks, if it is kept in one sample or two. Beside
+    /// these it has what is made of each afterwards. Returns whether it was drawn; else all planes are unchanged.
+    #[inline(always)]
+    fn paint_two(&self, count: SampleCount, words: &[u64; 16], samples: &mut [BlockSamples]) -> bool
+        requires count { count ≡ self.now.tile.now.count }
+        requires some { 4 ≤ count_of count }
+        requires samples { length samples.old ≡ planes_of_tile self.now.tile.now.count }
+        ensures painted { let b = self.now in IsTrue result → TilePaints b.triangle.now b.tile.now
+            (IsInWords b.tile.now b.bx b.by words.now) samples.old samples.new }
+        ensures unchanged { result ≡ false → samples.new ≡ samples.old }
+        ensures flat { let b = self.now in result ≡ false →
+            IsNotKeptFlat b.tile.now.count (number_in_tile b.tile.now b.bx b.by) samples.old }
+    {
+        let number = self.number();
+        let Some(flat) = FlatBlock::of(count, number, samples) else {
+            return false;
+        };
+        let first = self.drawn(flat.first);
+        let second = self.drawn_beside(flat.second, flat.first, first);
+        let (low, high) = (flat.masks, *words);
+        let palette = Palette {
+            samples: [flat.first, flat.second, first, second],
+            low,
+            high,
+        };
+        palette.store(count, number, samples);
+        true
+    }
+
     /// What `paint_palette` does, with the number of samples of a pixel known when it is compiled, so that loops over these
     /// are unrolled. It is too long to be inlined, so a parameter would be known only when it runs.
     #[inline(never)]
@@ -49,6 +78,9 @@ impl CoveredBlock<'_> {
             (number_in_tile b.tile.now b.bx b.by) samples.old }
     {
         let count = known::<COUNT>(self.tile.count);
+        if self.paint_two(count, words, samples) {
+            return true;
+        }
         let number = self.number();
         let Some(palette) = Palette::of(count, number, samples) else {
             return false;

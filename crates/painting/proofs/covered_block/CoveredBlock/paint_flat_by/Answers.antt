@@ -1,28 +1,16 @@
-use Rattle.std.proofs.Common.{refl, ◌≡◌, ◌≤◌, inr, subst}
+use Rattle.std.proofs.Common.{◌≡◌, ◌≤◌, inr, subst}
 use Rattle.grid.specs.Samples.{count_of}
 use Rattle.canvas.specs.Layout.{KeepsOtherSamples}
-use Rattle.canvas.specs.FlatBlocks.{HasFlat, HasOne}
+use Rattle.canvas.specs.FlatBlocks.{HasFlat}
 use Rattle.painting.specs.Parts.{number_in_tile, IsFlatDrawn, IsInBlock, IsInWords}
 use Rattle.painting.proofs.FewSamples.{flat_not_kept, flat_not_left, not_flat, not_in_block}
-use Rattle.painting.proofs.FlatBlocks.{flat_painted, one_painted}
-use Rattle.painting.proofs.OnePlane.{full_painted}
+use Rattle.painting.proofs.FlatBlocks.{flat_painted}
 use Rattle.painting.proofs.PairBlocks.{block_painted, words_painted}
 use Rattle.painting.proofs.covered_block.CoveredBlock.paint_flat_by.Goals as goal
 use Rattle.painting.proofs.covered_block.CoveredBlock.paint_flat_by.Goals.{in-Some-of+in_default-flat_drawn, in_default-of}
 
 pub returns-in-Some-clause-painted : goal.returns-in-Some-clause-painted
-returns-in-Some-clause-painted c true_is =
-    let b = c.args.self.now in
-    let tile = b.tile.now in
-    let sample = c.in-Some.sample in
-    let made = c.drawn.result in
-    let old = c.args.samples.now in
-    let new = c.make_flat.new.samples in
-    let same : c.number-number.result ≡ number_in_tile tile b.bx b.by = c.number-number.ensures.value in
-    full_painted b.triangle.now tile b.side b.bx b.by b.block c.args.masks.now c.args.k (b.allows c.requires.whole) (λ s bit h l. c.is_full.ensures c.if-is_full.true s bit (rw c.requires.masks h) l)
-    old old new (λ i j s p end h drawn. drawn) (λ i j s h other. refl)
-    (one_painted b.triangle.now tile b.side b.bx b.by b.block sample made old new (subst (λ n. HasOne n (number_in_tile tile b.bx b.by) sample old) c.requires.count (subst (λ k. HasOne c.args.count k sample old) same c.in-Some.ensures.one)) c.drawn.ensures
-    (subst (λ n. HasOne n (number_in_tile tile b.bx b.by) made new) c.requires.count (subst (λ k. HasOne c.args.count k made new) same c.make_flat.ensures.made)) (subst (λ n. KeepsOtherSamples n (number_in_tile tile b.bx b.by) old new) c.requires.count (subst (λ k. KeepsOtherSamples c.args.count k old new) same c.make_flat.ensures.others)))
+returns-in-Some-clause-painted c true_is = c.paint_one.ensures
 
 pub returns-in-Some-flat_drawn-clause-painted : goal.returns-in-Some-flat_drawn-clause-painted
 returns-in-Some-flat_drawn-clause-painted c true_is =
