@@ -1,6 +1,6 @@
 //! The samples of a block.
 ghost use Rattle.std.specs.Prelude.{◌≡◌, ◌<◌, false, length, IsTrue};
-ghost use Rattle.grid.specs.Samples.{IsPart};
+ghost use Rattle.grid.specs.Samples.{IsPart, count_of};
 ghost use Rattle.raster.specs.Drawing.{IsChosen, IsInSquare};
 ghost use Rattle.canvas.specs.declared.way.Way.TheVariants.{Own, Single};
 ghost use Rattle.canvas.specs.Layout.{planes_of_tile, way_in_tile};
@@ -99,7 +99,14 @@ impl CoveredBlock<'_> {
 
     /// Draws the triangle at those samples of the block whose bits are set, in column `k` of the masks. A block that can
     /// be kept in one sample or two is; else one that can be kept in one plane or two.
-    pub(crate) fn paint_block(&self, masks: &Masks<'_>, k: usize, samples: &mut [BlockSamples])
+    #[inline(always)]
+    pub(crate) fn paint_block<const COUNT: u32>(
+        &self,
+        masks: &Masks<'_>,
+        k: usize,
+        samples: &mut [BlockSamples],
+    )
+        requires known { count_of self.now.tile.now.count ≡ COUNT }
         requires count { masks.now.count ≡ self.now.tile.now.count }
         requires column { k < masks.now.columns }
         requires samples { length samples.old ≡ planes_of_tile self.now.tile.now.count }
@@ -107,7 +114,8 @@ impl CoveredBlock<'_> {
             (IsInBlock b.triangle.now.state b.tile.now b.bx b.by masks.now k) samples.old samples.new }
     {
         if self.whole
-            && (self.paint_flat(masks, k, samples) || self.paint_planes(masks, k, samples))
+            && (self.paint_flat::<COUNT>(masks, k, samples)
+                || self.paint_planes(masks, k, samples))
         {
             return;
         }

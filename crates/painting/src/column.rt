@@ -1,5 +1,6 @@
 //! The samples of a column of blocks.
 ghost use Rattle.std.specs.Prelude.{◌≡◌, ◌+◌, ◌<◌, ◌≤◌, length};
+ghost use Rattle.grid.specs.Samples.{count_of};
 ghost use Rattle.grid.specs.declared.pixels.TileSide.TheVariants.{T64};
 ghost use Rattle.canvas.specs.Layout.{planes_of_tile};
 ghost use Rattle.painting.specs.declared.change.Change.TheVariants.{Replaces as AsReplaces, BlendsOver as AsBlendsOver};
@@ -10,13 +11,14 @@ use crate::allowed::allows_tile;
 use crate::change::Change;
 use crate::covered_block::CoveredBlock;
 use crate::masks::Masks;
+use canvas::known;
 use lanes::{BlockSamples, Interpolants};
 use raster::Tile;
 
 /// Draws a triangle that covers the screen, in one colour and at one depth, at those samples of a column of blocks of the
 /// tile whose bits are set, in column `k` of the masks. A block without any is not touched. It is known how the triangle
-/// changes samples.
-pub(crate) fn paint_column(
+/// changes samples. The number of samples of a pixel is known when this is compiled, so that loops over these are unrolled.
+pub(crate) fn paint_column<const COUNT: u32>(
     triangle: &Interpolants,
     tile: &Tile,
     bx: u32,
@@ -25,6 +27,7 @@ pub(crate) fn paint_column(
     change: Change,
     samples: &mut [BlockSamples],
 )
+    requires known { count_of tile.now.count ≡ COUNT }
     requires side { tile.now.side ≡ T64 }
     requires count { masks.now.count ≡ tile.now.count }
     requires left { tile.now.bx ≤ bx }
@@ -38,9 +41,9 @@ pub(crate) fn paint_column(
         samples.new }
 {
     let whole = allows_tile(&triangle.placed().state, tile);
-    let some = masks.some_rows(k);
+    let count = known::<COUNT>(tile.count);
     for row in 0..8u32 {
-        if some[row as usize] {
+        if masks.has_some(count, k, row as usize) {
             let block = CoveredBlock {
                 triangle,
                 tile,
@@ -49,7 +52,7 @@ pub(crate) fn paint_column(
                 whole,
                 change,
             };
-            block.paint_block(masks, k, samples);
+            block.paint_block::<COUNT>(masks, k, samples);
         }
     }
 }

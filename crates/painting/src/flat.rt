@@ -10,7 +10,7 @@ ghost use Rattle.painting.specs.FewSamples.{IsNotDrawnFlat, IsNotDrawnInFour, Is
 use crate::change::Change;
 use crate::covered_block::CoveredBlock;
 use crate::masks::Masks;
-use canvas::{FlatBlock, make_flat, one_sample};
+use canvas::{FlatBlock, known, make_flat, one_sample};
 use grid::SampleCount;
 use lanes::BlockSamples;
 use shade::{CanvasSample, Shaded, apply_on_canvas, over};
@@ -136,17 +136,16 @@ impl CoveredBlock<'_> {
         both.store(count, number, samples);
     }
 
-    /// What `paint_flat` does, with the number of samples known if this is inlined.
+    /// What `paint_flat` does with four samples of a pixel or more.
     #[inline(always)]
-    fn paint_flat_by(
+    fn paint_flat_by<const COUNT: u32>(
         &self,
-        count: SampleCount,
         masks: &Masks<'_>,
         k: usize,
         samples: &mut [BlockSamples],
     ) -> bool
-        requires count { count ≡ self.now.tile.now.count }
-        requires some { 4 ≤ count_of count }
+        requires count { count_of self.now.tile.now.count ≡ COUNT }
+        requires some { 4 ≤ COUNT }
         requires masks { masks.now.count ≡ self.now.tile.now.count }
         requires column { k < masks.now.columns }
         requires whole { IsTrue self.now.whole }
@@ -160,6 +159,7 @@ impl CoveredBlock<'_> {
             IsNotDrawnInFour b.triangle.now b.tile.now (IsInBlock b.triangle.now.state b.tile.now b.bx b.by masks.now k)
             (number_in_tile b.tile.now b.bx b.by) samples.old }
     {
+        let count = known::<COUNT>(self.tile.count);
         let number = self.number();
         let row = (self.by - self.tile.by) as usize;
         if let Some(sample) = one_sample(count, number, samples) {
@@ -178,18 +178,20 @@ impl CoveredBlock<'_> {
         if count == SampleCount::Four && masks.columns < 4 {
             return false;
         }
-        self.paint_palette(&words, samples)
+        self.paint_few::<COUNT>(&words, samples)
     }
 
     /// Draws the triangle at those samples of the block whose bits are set, in column `k` of the masks, if it has at most
     /// four samples before and afterwards; with four samples of a pixel and fewer than four columns of masks at most two.
     /// Returns whether it was drawn; else all planes are unchanged.
-    pub(crate) fn paint_flat(
+    #[inline(always)]
+    pub(crate) fn paint_flat<const COUNT: u32>(
         &self,
         masks: &Masks<'_>,
         k: usize,
         samples: &mut [BlockSamples],
     ) -> bool
+        requires known { count_of self.now.tile.now.count ≡ COUNT }
         requires count { masks.now.count ≡ self.now.tile.now.count }
         requires column { k < masks.now.columns }
         requires whole { IsTrue self.now.whole }
@@ -203,12 +205,9 @@ impl CoveredBlock<'_> {
             IsNotDrawnInFour b.triangle.now b.tile.now (IsInBlock b.triangle.now.state b.tile.now b.bx b.by masks.now k)
             (number_in_tile b.tile.now b.bx b.by) samples.old }
     {
-        // Each count by itself, so that the loops over the samples of a pixel are unrolled.
-        match self.tile.count {
-            SampleCount::One | SampleCount::Two => false,
-            SampleCount::Four => self.paint_flat_by(SampleCount::Four, masks, k, samples),
-            SampleCount::Eight => self.paint_flat_by(SampleCount::Eight, masks, k, samples),
-            SampleCount::Sixteen => self.paint_flat_by(SampleCount::Sixteen, masks, k, samples),
+        if COUNT < 4 {
+            return false;
         }
+        self.paint_flat_by::<COUNT>(masks, k, samples)
     }
 }

@@ -1,9 +1,10 @@
 //! The masks of the blocks of a tile row.
-ghost use Rattle.std.specs.Prelude.{◌≡◌, ℕ, ◌+◌, ◌*◌, ◌<◌, ◌≤◌, false, length, slice_index, slice_index_or, IsBitSet, IsTrue};
+ghost use Rattle.std.specs.Prelude.{◌≡◌, ℕ, ◌+◌, ◌*◌, ◌<◌, ◌≤◌, false, length, slice_index, IsBitSet, IsTrue};
 ghost use Rattle.grid.specs.Samples.{count_of, parts_of};
 
 use grid::SampleCount;
 use polygons::Flags;
+use std::simd::prelude::*;
 
 /// The masks of the blocks of a tile row, of all samples of a pixel. For each part of at most four samples there are
 /// a column of words for each column of blocks, part by part.
@@ -26,10 +27,10 @@ pub(crate) struct Masks<'a> {
 pub(crate) fn has_some(words: &[u64; 4]) -> bool
     ensures { result ≡ false → (s : ℕ) → s < 4 → slice_index words.now s ≡ 0 }
 {
-    match words {
-        [0, 0, 0, 0] => false,
-        _ => true,
-    }
+    u64x4::from_slice(words)
+        .simd_ne(u64x4::splat(0))
+        .to_bitmask()
+        != 0
 }
 
 /// Whether all bits of the first words are set.
@@ -64,7 +65,7 @@ impl Masks<'_> {
 
     /// Whether a bit of the block in a column and a row of blocks is set.
     #[inline(always)]
-    fn has_some(&self, count: SampleCount, column: usize, row: usize) -> bool
+    pub(crate) fn has_some(&self, count: SampleCount, column: usize, row: usize) -> bool
         requires count { count ≡ self.now.count }
         requires column { column < self.now.columns }
         requires row { row < 8 }
@@ -76,37 +77,6 @@ impl Masks<'_> {
             }
         }
         false
-    }
-
-    /// Of each row of blocks whether a bit of the block in this column is set, with the number of samples known if this
-    /// is inlined.
-    #[inline(always)]
-    fn rows_with_some(&self, count: SampleCount, column: usize) -> [bool; 8]
-        requires count { count ≡ self.now.count }
-        requires column { column < self.now.columns }
-        ensures { (row : ℕ) → row < 8 → slice_index_or result row false ≡ false → (s : ℕ) → s < count_of self.now.count →
-            block_mask self.now column row s ≡ 0 }
-    {
-        let mut rows = [true; 8];
-        for row in 0..8 {
-            rows[row] = self.has_some(count, column, row);
-        }
-        rows
-    }
-
-    /// Of each row of blocks whether a bit of the block in this column is set.
-    pub(crate) fn some_rows(&self, column: usize) -> [bool; 8]
-        requires column { column < self.now.columns }
-        ensures { (row : ℕ) → row < 8 → slice_index_or result row false ≡ false → (s : ℕ) → s < count_of self.now.count →
-            block_mask self.now column row s ≡ 0 }
-    {
-        match self.count {
-            SampleCount::One => self.rows_with_some(SampleCount::One, column),
-            SampleCount::Two => self.rows_with_some(SampleCount::Two, column),
-            SampleCount::Four => self.rows_with_some(SampleCount::Four, column),
-            SampleCount::Eight => self.rows_with_some(SampleCount::Eight, column),
-            SampleCount::Sixteen => self.rows_with_some(SampleCount::Sixteen, column),
-        }
     }
 
     /// Whether all bits of the block in a column and a row of blocks are set.

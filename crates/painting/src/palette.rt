@@ -62,10 +62,16 @@ impl CoveredBlock<'_> {
         true
     }
 
-    /// What `paint_palette` does, with the number of samples of a pixel known when it is compiled, so that loops over these
-    /// are unrolled. It is too long to be inlined, so a parameter would be known only when it runs.
+    /// Draws the triangle at those samples of the block that are in the masks, if it has at most four samples before and
+    /// afterwards. Returns whether it was drawn; else all planes are unchanged. The number of samples of a pixel is known when
+    /// this is compiled, so that loops over these are unrolled. It is too long to be inlined for each, so a parameter would be
+    /// known only when it runs.
     #[inline(never)]
-    fn paint_few<const COUNT: u32>(&self, words: &[u64; 16], samples: &mut [BlockSamples]) -> bool
+    pub(crate) fn paint_few<const COUNT: u32>(
+        &self,
+        words: &[u64; 16],
+        samples: &mut [BlockSamples],
+    ) -> bool
         requires count { count_of self.now.tile.now.count ≡ COUNT }
         requires some { 4 ≤ COUNT }
         requires whole { IsTrue self.now.whole }
@@ -91,27 +97,6 @@ impl CoveredBlock<'_> {
                 drawn.store(count, number, samples);
                 true
             }
-        }
-    }
-
-    /// Draws the triangle at those samples of the block that are in the masks, if it has at most four samples before and
-    /// afterwards. Returns whether it was drawn; else all planes are unchanged.
-    #[inline(never)]
-    pub(crate) fn paint_palette(&self, words: &[u64; 16], samples: &mut [BlockSamples]) -> bool
-        requires whole { IsTrue self.now.whole }
-        requires samples { length samples.old ≡ planes_of_tile self.now.tile.now.count }
-        ensures painted { let b = self.now in IsTrue result → TilePaints b.triangle.now b.tile.now
-            (IsInWords b.tile.now b.bx b.by words.now) samples.old samples.new }
-        ensures unchanged { result ≡ false → samples.new ≡ samples.old }
-        ensures few { let b = self.now in result ≡ false → 4 ≤ count_of b.tile.now.count →
-            IsNotDrawnInFour b.triangle.now b.tile.now (IsInWords b.tile.now b.bx b.by words.now)
-            (number_in_tile b.tile.now b.bx b.by) samples.old }
-    {
-        match self.tile.count {
-            SampleCount::One | SampleCount::Two => false,
-            SampleCount::Four => self.paint_few::<4>(words, samples),
-            SampleCount::Eight => self.paint_few::<8>(words, samples),
-            SampleCount::Sixteen => self.paint_few::<16>(words, samples),
         }
     }
 }

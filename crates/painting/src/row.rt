@@ -11,7 +11,7 @@ ghost use Rattle.painting.specs.Parts.{over_screen, AreMasksOfRow, MeetsHere, Ro
 use crate::masks::Masks;
 use crate::polygon::Polygon;
 use crate::scratch::clear_masks;
-use crate::strip::paint_strip;
+use crate::strip::paint_masks;
 use canvas::{Canvas, Origin};
 use lanes::{BlockSamples, Interpolants};
 use polygons::{Counters, Flags, Runs, Strip, cover_parts};
@@ -110,6 +110,6 @@ pub(crate) fn paint_row(
         each,
         count: canvas.count,
     };
-    paint_strip(canvas, row, first, triangle, &masks, samples);
+    paint_masks(canvas, row, first, triangle, &masks, samples);
     clear_masks(flags, canvas.count.parts() as usize, many, each);
 }

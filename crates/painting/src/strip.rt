@@ -1,5 +1,6 @@
 //! The samples of a tile row, in columns of blocks.
 ghost use Rattle.std.specs.Prelude.{◌≡◌, ◌+◌, ◌*◌, ◌<◌, ◌≤◌, length};
+ghost use Rattle.grid.specs.Samples.{count_of};
 ghost use Rattle.canvas.specs.Layout.{columns_of, rows_of, planes_of_row};
 ghost use Rattle.painting.specs.Parts.{FillsScreen, IsFlagged, RowsPaint};
 
@@ -8,12 +9,13 @@ use crate::column::paint_column;
 use crate::masks::Masks;
 use crate::whole::{is_whole, paint_whole};
 use canvas::Canvas;
+use grid::SampleCount;
 use lanes::{BlockSamples, Interpolants};
 
 /// Draws a triangle that covers the screen, in one colour and at one depth, at those samples of a tile row whose bits
 /// are set. There are masks of columns of blocks from column `first` on. The eight columns of a tile that is drawn
 /// whole are drawn at once.
-pub(crate) fn paint_strip(
+fn paint_strip<const COUNT: u32>(
     canvas: &Canvas,
     row: u32,
     first: u32,
@@ -21,6 +23,7 @@ pub(crate) fn paint_strip(
     masks: &Masks<'_>,
     samples: &mut [BlockSamples],
 )
+    requires known { count_of canvas.now.count ≡ COUNT }
     requires row { row < rows_of canvas.now }
     requires count { masks.now.count ≡ canvas.now.count }
     requires columns { first + masks.now.columns ≤ 8 * columns_of canvas.now }
@@ -40,7 +43,7 @@ pub(crate) fn paint_strip(
             paint_whole(triangle, &tile, &mut samples[at..at + each]);
             k += 8;
         } else {
-            paint_column(
+            paint_column::<COUNT>(
                 triangle,
                 &tile,
                 bx,
@@ -51,5 +54,31 @@ pub(crate) fn paint_strip(
             );
             k += 1;
         }
+    }
+}
+
+/// What `paint_strip` does, by code for this number of samples of a pixel.
+pub(crate) fn paint_masks(
+    canvas: &Canvas,
+    row: u32,
+    first: u32,
+    triangle: &Interpolants,
+    masks: &Masks<'_>,
+    samples: &mut [BlockSamples],
+)
+    requires row { row < rows_of canvas.now }
+    requires count { masks.now.count ≡ canvas.now.count }
+    requires columns { first + masks.now.columns ≤ 8 * columns_of canvas.now }
+    requires fills { FillsScreen triangle.now }
+    requires samples { length samples.old ≡ planes_of_row canvas.now }
+    ensures { RowsPaint triangle.now canvas.now row (row + 1)
+        (IsFlagged triangle.now.state first masks.now.columns masks.now) samples.old samples.new }
+{
+    match canvas.count {
+        SampleCount::One => paint_strip::<1>(canvas, row, first, triangle, masks, samples),
+        SampleCount::Two => paint_strip::<2>(canvas, row, first, triangle, masks, samples),
+        SampleCount::Four => paint_strip::<4>(canvas, row, first, triangle, masks, samples),
+        SampleCount::Eight => paint_strip::<8>(canvas, row, first, triangle, masks, samples),
+        SampleCount::Sixteen => paint_strip::<16>(canvas, row, first, triangle, masks, samples),
     }
 }

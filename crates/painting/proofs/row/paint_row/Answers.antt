@@ -6,8 +6,8 @@ use Rattle.painting.proofs.RowMasks.{all_met}
 use Rattle.painting.proofs.Screen.{fills_screen}
 use Rattle.painting.proofs.row.paint_row.Goals as goal
 
-pub paint_strip-requires-clause-fills : goal.paint_strip-requires-clause-fills
-paint_strip-requires-clause-fills c = subst (λ (t : Placed). FillsScreen t) (sym c.requires.triangle) (fills_screen c.args.polygon.now c.args.origin.now)
+pub paint_masks-requires-clause-fills : goal.paint_masks-requires-clause-fills
+paint_masks-requires-clause-fills c = subst (λ (t : Placed). FillsScreen t) (sym c.requires.triangle) (fills_screen c.args.polygon.now c.args.origin.now)
 
 pub returns-clause-painted : goal.returns-clause-painted
 returns-clause-painted c =
@@ -17,6 +17,6 @@ returns-clause-painted c =
     let row = c.args.row in
     let high = canvas.height_fits in
     let met =
-    all_met polygon origin canvas row c.args.first c.args.many (flags_by polygon.rule * c.args.many) _ (ap (λ k. k * c.args.many) c.flags.ensures.value) c.requires.columns (omega (arith, high, c.requires.row)) c.cover_row.ensures.masks c.requires.held c.args.samples.now c.paint_strip.new.samples
-    (rw c.requires.triangle at c.paint_strip.ensures) in
-    subst (λ (t : Placed). RowsPaint t canvas row (row + 1) (MeetsHere polygon origin canvas.count) c.args.samples.now c.paint_strip.new.samples) (sym c.requires.triangle) met
+    all_met polygon origin canvas row c.args.first c.args.many (flags_by polygon.rule * c.args.many) _ (ap (λ k. k * c.args.many) c.flags.ensures.value) c.requires.columns (omega (arith, high, c.requires.row)) c.cover_row.ensures.masks c.requires.held c.args.samples.now c.paint_masks.new.samples
+    (rw c.requires.triangle at c.paint_masks.ensures) in
+    subst (λ (t : Placed). RowsPaint t canvas row (row + 1) (MeetsHere polygon origin canvas.count) c.args.samples.now c.paint_masks.new.samples) (sym c.requires.triangle) met

@@ -8,7 +8,7 @@ use Rattle.painting.proofs.WholeTiles.{one_tile_more}
 use Rattle.painting.proofs.strip.paint_strip.Goals as goal
 
 pub loop-k-init : goal.loop-k-init
-loop-k-init c =
+loop-k-init g c =
     let t = c.args.triangle.now in
     let canvas = c.args.canvas.now in
     record {
@@ -18,10 +18,10 @@ loop-k-init c =
     }
 
 pub paint_whole-requires-clause-allows : goal.paint_whole-requires-clause-allows
-paint_whole-requires-clause-allows c = c.if-is_whole.ensures.allows refl
+paint_whole-requires-clause-allows g c = c.if-is_whole.ensures.allows refl
 
 pub slice_bounds-is_whole-end : goal.slice_bounds-is_whole-end
-slice_bounds-is_whole-end c =
+slice_bounds-is_whole-end g c =
     let v = c.loop-k.invariant in
     let canvas = c.args.canvas.now in
     let k : ℕ = c.loop-k.k in
@@ -34,7 +34,7 @@ slice_bounds-is_whole-end c =
     omega (arith, room, at, c.planes_of_tile-each.ensures.value, v.samples, c.requires.samples)
 
 pub loop-k-preserved-then-is_whole : goal.loop-k-preserved-then-is_whole
-loop-k-preserved-then-is_whole c =
+loop-k-preserved-then-is_whole g c =
     let v = c.loop-k.invariant in
     let canvas = c.args.canvas.now in
     let k : ℕ = c.loop-k.k in
@@ -54,7 +54,7 @@ loop-k-preserved-then-is_whole c =
     }
 
 pub loop-k-preserved : goal.loop-k-preserved
-loop-k-preserved c =
+loop-k-preserved g c =
     let v = c.loop-k.invariant in
     let canvas = c.args.canvas.now in
     let k : ℕ = c.loop-k.k in
@@ -73,7 +73,7 @@ loop-k-preserved c =
     }
 
 pub returns : goal.returns
-returns c =
+returns g c =
     let v = c.loop-k.invariant in
     let all : c.loop-k.k ≡ c.args.masks.now.columns = omega (arith, c.loop-k-test.false, v.within) in
     subst (λ (k : ℕ). RowsPaint c.args.triangle.now c.args.canvas.now c.args.row (c.args.row + 1) (IsFlagged c.args.triangle.now.state c.args.first k c.args.masks.now) c.args.samples.now c.loop-k.samples) all v.painted

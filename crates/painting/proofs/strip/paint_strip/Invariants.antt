@@ -3,11 +3,11 @@ use Rattle.painting.specs.Parts.{IsFlagged, RowsPaint}
 use Rattle.painting.proofs.strip.paint_strip.Given as goal
 
 abbrev pub invariant-loop-k : goal.invariant-loop-k
-invariant-loop-k l = record {
+invariant-loop-k g l = record {
   within : l.k ≤ l.masks.columns;
   samples : length l.samples ≡ length l.fn.samples;
   painted : RowsPaint l.triangle l.canvas l.row (l.row + 1) (IsFlagged l.triangle.state l.first l.k l.masks) l.fn.samples l.samples;
 }
 
 abbrev pub decreases-loop-k : goal.decreases-loop-k
-decreases-loop-k l = l.masks.columns - l.k
+decreases-loop-k g l = l.masks.columns - l.k

@@ -1,5 +1,4 @@
-use Rattle.std.proofs.Common.{◌≡◌, ◌≤◌, inr, subst}
-use Rattle.grid.specs.Samples.{count_of}
+use Rattle.std.proofs.Common.{◌≡◌, inr, subst}
 use Rattle.canvas.specs.Layout.{KeepsOtherSamples}
 use Rattle.canvas.specs.FlatBlocks.{HasFlat}
 use Rattle.painting.specs.Parts.{number_in_tile, IsFlatDrawn, IsInBlock, IsInWords}
@@ -10,65 +9,65 @@ use Rattle.painting.proofs.covered_block.CoveredBlock.paint_flat_by.Goals as goa
 use Rattle.painting.proofs.covered_block.CoveredBlock.paint_flat_by.Goals.{in-Some-of+in_default-flat_drawn, in_default-of}
 
 pub returns-in-Some-clause-painted : goal.returns-in-Some-clause-painted
-returns-in-Some-clause-painted c true_is = c.paint_one.ensures
+returns-in-Some-clause-painted g c true_is = c.paint_one.ensures
 
 pub returns-in-Some-flat_drawn-clause-painted : goal.returns-in-Some-flat_drawn-clause-painted
-returns-in-Some-flat_drawn-clause-painted c true_is =
+returns-in-Some-flat_drawn-clause-painted g c true_is =
     let b = c.args.self.now in
     let tile = b.tile.now in
     let flat = c.in-Some-of.flat in
     let drawn = c.in-Some-flat_drawn.drawn in
-    let is = subst (λ n. IsFlatDrawn b.triangle.now n flat c.words-words.result drawn) c.requires.count c.in-Some-flat_drawn.ensures.drawn in
+    let is = subst (λ n. IsFlatDrawn b.triangle.now n flat c.words-words.result drawn) c.known-count.ensures c.in-Some-flat_drawn.ensures.drawn in
     let old = c.args.samples.now in
     let new = c.store.new.samples in
     let words = c.words-words.result in
     let same : c.number-number.result ≡ number_in_tile tile b.bx b.by = c.number-number.ensures.value in
     words_painted b.triangle.now tile b.bx b.by b.block c.args.masks.now c.args.k (b.allows c.requires.whole) words (λ s h. c.words-words.ensures s (rw c.requires.masks h)) old new
-    (flat_painted b.triangle.now tile b.side b.bx b.by b.block words flat drawn is.0 is.1 old new (subst (λ n. HasFlat n (number_in_tile tile b.bx b.by) flat old) c.requires.count (subst (λ k. HasFlat c.args.count k flat old) same c.in-Some-of.ensures.flat)) is.2 is.3 is.4
-    (subst (λ n. HasFlat n (number_in_tile tile b.bx b.by) drawn new) c.requires.count (subst (λ k. HasFlat c.args.count k drawn new) same c.store.ensures.made)) (subst (λ n. KeepsOtherSamples n (number_in_tile tile b.bx b.by) old new) c.requires.count (subst (λ k. KeepsOtherSamples c.args.count k old new) same c.store.ensures.others)))
+    (flat_painted b.triangle.now tile b.side b.bx b.by b.block words flat drawn is.0 is.1 old new (subst (λ n. HasFlat n (number_in_tile tile b.bx b.by) flat old) c.known-count.ensures (subst (λ k. HasFlat c.known-count.result k flat old) same c.in-Some-of.ensures.flat)) is.2 is.3 is.4
+    (subst (λ n. HasFlat n (number_in_tile tile b.bx b.by) drawn new) c.known-count.ensures (subst (λ k. HasFlat c.known-count.result k drawn new) same c.store.ensures.made)) (subst (λ n. KeepsOtherSamples n (number_in_tile tile b.bx b.by) old new) c.known-count.ensures (subst (λ k. KeepsOtherSamples c.known-count.result k old new) same c.store.ensures.others)))
 
 pub returns-clause-painted : goal.returns-clause-painted
-returns-clause-painted c drawn =
+returns-clause-painted g c drawn =
     let b = c.args.self.now in
-    words_painted b.triangle.now b.tile.now b.bx b.by b.block c.args.masks.now c.args.k (b.allows c.requires.whole) c.words-words.result (λ s h. c.words-words.ensures s (rw c.requires.masks h)) c.args.samples.now c.paint_palette.new.samples
-    (c.paint_palette.ensures.painted drawn)
+    words_painted b.triangle.now b.tile.now b.bx b.by b.block c.args.masks.now c.args.k (b.allows c.requires.whole) c.words-words.result (λ s h. c.words-words.ensures s (rw c.requires.masks h)) c.args.samples.now c.paint_few.new.samples
+    (c.paint_few.ensures.painted drawn)
 
 pub returns-clause-few : goal.returns-clause-few
-returns-clause-few c gave_up =
+returns-clause-few g c gave_up =
     let b = c.args.self.now in
     let tile = b.tile.now in
     let old = c.args.samples.now in
     let words = c.words-words.result in
     inr (not_in_block b.triangle.now tile (number_in_tile tile b.bx b.by) old (IsInWords tile b.bx b.by words) (IsInBlock b.triangle.now.state tile b.bx b.by c.args.masks.now c.args.k)
     (λ new. block_painted b.triangle.now tile b.bx b.by b.block c.args.masks.now c.args.k (b.allows c.requires.whole) words (λ s h. c.words-words.ensures s (rw c.requires.masks h)) old new)
-    (c.paint_palette.ensures.few gave_up (subst (λ n. 4 ≤ count_of n) c.requires.count c.requires.some)))
+    (c.paint_few.ensures.few gave_up))
 
 pub returns-clause-flat : goal.returns-clause-flat
-returns-clause-flat c gave_up =
+returns-clause-flat g c gave_up =
     let b = c.args.self.now in
     let tile = b.tile.now in
     let old = c.args.samples.now in
     let masks = c.args.masks.now in
     elim c.match-of.branch [
       | in-Some-of+in_default-flat_drawn w ↦
-          flat_not_left b.triangle.now tile b.bx b.by masks c.args.k old c.args.count c.number-number.result c.requires.count c.number-number.ensures.value w.in-Some-of.flat c.words-words.result w.in-Some-of.ensures.flat
+          flat_not_left b.triangle.now tile b.bx b.by masks c.args.k old c.known-count.result c.number-number.result c.known-count.ensures c.number-number.ensures.value w.in-Some-of.flat c.words-words.result w.in-Some-of.ensures.flat
           (λ s h. c.words-words.ensures s (rw c.requires.masks h)) w.in_default-flat_drawn.ensures.some.1
       | in_default-of w ↦
-          flat_not_kept b.triangle.now tile b.bx b.by masks c.args.k old c.args.count c.number-number.result c.requires.count c.number-number.ensures.value
-          (not_flat c.args.count c.number-number.result old w.in_default-of.ensures.one w.in_default-of.ensures.some)
+          flat_not_kept b.triangle.now tile b.bx b.by masks c.args.k old c.known-count.result c.number-number.result c.known-count.ensures c.number-number.ensures.value
+          (not_flat c.known-count.result c.number-number.result old w.in_default-of.ensures.one w.in_default-of.ensures.some)
     ]
 
 pub returns-then-masks-lt4-clause-flat : goal.returns-then-masks-lt4-clause-flat
-returns-then-masks-lt4-clause-flat c gave_up =
+returns-then-masks-lt4-clause-flat g c gave_up =
     let b = c.args.self.now in
     let tile = b.tile.now in
     let old = c.args.samples.now in
     let masks = c.args.masks.now in
     elim c.match-of.branch [
       | in-Some-of+in_default-flat_drawn w ↦
-          flat_not_left b.triangle.now tile b.bx b.by masks c.args.k old c.args.count c.number-number.result c.requires.count c.number-number.ensures.value w.in-Some-of.flat c.words-words.result w.in-Some-of.ensures.flat
+          flat_not_left b.triangle.now tile b.bx b.by masks c.args.k old c.known-count.result c.number-number.result c.known-count.ensures c.number-number.ensures.value w.in-Some-of.flat c.words-words.result w.in-Some-of.ensures.flat
           (λ s h. c.words-words.ensures s (rw c.requires.masks h)) w.in_default-flat_drawn.ensures.some.1
       | in_default-of w ↦
-          flat_not_kept b.triangle.now tile b.bx b.by masks c.args.k old c.args.count c.number-number.result c.requires.count c.number-number.ensures.value
-          (not_flat c.args.count c.number-number.result old w.in_default-of.ensures.one w.in_default-of.ensures.some)
+          flat_not_kept b.triangle.now tile b.bx b.by masks c.args.k old c.known-count.result c.number-number.result c.known-count.ensures c.number-number.ensures.value
+          (not_flat c.known-count.result c.number-number.result old w.in_default-of.ensures.one w.in_default-of.ensures.some)
     ]
