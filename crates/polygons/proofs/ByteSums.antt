@@ -1,5 +1,5 @@
 -- Sums of rows in lanes of a byte.
-use Rattle.std.proofs.Common.{◌≡◌, inl, inr, refl, sym, subst, ap, ◌∙◌, arith, ℕ, zero, suc, ◌+◌, ◌-◌, ◌*◌, ◌/◌, ◌%◌, ◌^◌, ◌<◌, ◌≤◌, Bool, true, false, cond, ltb, List, [], ◌∷◌, ◌++◌, length, slice_index, get_or, take, drop, map, replicate, w8, w32}
+use Rattle.std.proofs.Common.{◌≡◌, inl, inr, refl, sym, subst, ap, ◌∙◌, arith, ℕ, zero, suc, ◌+◌, ◌-◌, ◌*◌, ◌/◌, ◌%◌, ◌^◌, ◌<◌, ◌≤◌, Bool, true, false, not, eqb, cond, ltb, IsTrue, ◌↔◌, List, [], ◌∷◌, ◌++◌, length, slice_index, get_or, take, drop, map, replicate, w8, w32}
 use Rattle.std.specs.Int.{bit_at}
 use Rattle.std.specs.Simd.Lanes.{Each1, zip2, mask_l, top, number_l, chunk, put_chunk}
 use Rattle.std.proofs.lemmas.Simd.{tops_compared, length-zip2, get_or-zip2, mask_l-mod, bit_mask_l, put_chunk_whole, length-chunk, get_or-chunk}
@@ -8,7 +8,7 @@ use lib.Seq.{length-take-le}
 use mir.Val.{bits, hbits}
 use borrow.Rule.Slice.PartMut.{mid_of, put_mid}
 use Rattle.std.proofs.Math.Nat.{pow-suc}
-use Rattle.std.proofs.lemmas.Bool.{cases_lt, lt-ltb, le-ltb}
+use Rattle.std.proofs.lemmas.Bool.{cases_lt, lt-ltb, le-ltb, eqb-true, eq-eqb}
 use Rattle.std.proofs.lemmas.Nat.{shr-shr, pow-add}
 use Rattle.std.proofs.lemmas.Nat.Bits.{bit_at-zero, same_from_bits_below}
 use borrow.Rule.Simd.Lanes.{act2}
@@ -58,6 +58,21 @@ no_lane w t n v u f g few a b none =
           ap (λ ms. bit_at (mask_l ms % 2 ^ 64) i) (tops_compared w t v u) ∙ ap (λ m. bit_at m i) (mask_l-mod (zip2 t v u) 64 (omega (arith, long, few))) ∙ bit_mask_l (zip2 t v u) i
           ∙ ap (λ m. cond {A = ℕ} m 1 0) (get_or_past (zip2 t v u) i false (omega (arith, long, l))) ∙ sym (bit_at-zero i)
     ])
+
+-- no lane differs
+pub none_differ : (w : Width) (n : ℕ) (v u : List ℕ) (f g : ℕ → ℕ) → n ≤ 64 → AreLanes n v f → AreLanes n u g
+    → (IsTrue (eqb (mask_l (map (top (hbits w)) (zip2 (λ a b. cond (not (eqb a b)) (2 ^ bits w - 1) 0) v u)) % 2 ^ 64) 0) ↔ ((i : ℕ) → i < n → f i ≡ g i))
+none_differ w n v u f g few a b = (
+  λ t i l. same _ _ (sym (bit_of_test w (λ x y. not (eqb x y)) n v u f g few a b i l) ∙ ap (λ m. bit_at m i) (eqb-true _ 0 t) ∙ bit_at-zero i),
+  λ all. eq-eqb _ 0 (no_lane w (λ x y. not (eqb x y)) n v u f g few a b (λ i l. ap not (eq-eqb (f i) (g i) (all i l)))),
+)
+  where
+    by_test : (t : Bool) → cond {A = ℕ} (not t) 1 0 ≡ 0 → t ≡ true
+    by_test true h = refl
+    by_test false h = absurd (omega (arith, h))
+
+    same : (x y : ℕ) → cond {A = ℕ} (not (eqb x y)) 1 0 ≡ 0 → x ≡ y
+    same x y h = eqb-true x y (by_test (eqb x y) h)
 
 -- ---- n numbers of a list
 -- those of a part that was set

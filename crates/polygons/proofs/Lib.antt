@@ -23,6 +23,7 @@ pub mod SetBits
 pub mod Sixteen
 pub mod LowestBit
 pub mod MaskLanes
+mod SignedLanes
 pub mod ShortRows
 pub mod Division
 pub mod Exact
@@ -40,3 +41,4 @@ pub mod Seen
 pub mod BoxesOfPolygons
 pub mod Walks
 pub mod BitPlanes
+mod LoneFlags

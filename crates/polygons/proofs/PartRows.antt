@@ -1,12 +1,17 @@
 -- A row of pixels in which an edge is counted by one sample of a part after another.
-use Rattle.std.proofs.Common.{◌≡◌, ◌↔◌, ◌⊎◌, inl, inr, refl, sym, subst, ap, ◌∙◌, arith, ℕ, ◌+◌, ◌*◌, ◌/◌, ◌%◌, ◌<◌, ◌≤◌, Bool, true, false, cond, IsTrue, List, length, slice_index, slice_index_or, ℤ, pos, ◌+ℤ◌, ◌≤ℤ◌, ◌<ℤ◌, w32, to_z, of_z}
+use Rattle.std.proofs.Common.{◌≡◌, ◌↔◌, ◌⊎◌, inl, inr, refl, sym, subst, ap, ◌∙◌, arith, ℕ, ◌+◌, ◌*◌, ◌/◌, ◌%◌, ◌^◌, ◌<◌, ◌≤◌, Bool, true, false, cond, IsTrue, List, length, set, bit_and, slice_index, slice_index_or, ℤ, pos, ◌+ℤ◌, ◌≤ℤ◌, ◌<ℤ◌, w32, to_z, of_z}
 use Rattle.std.proofs.lemmas.Int.{ints}
-use Rattle.std.proofs.lemmas.Bool.{cases_lt, false≢true, true≢false}
-use Rattle.std.specs.Int.{int_max}
+use Rattle.std.proofs.lemmas.Bool.{cases_eq, cases_lt, false≢true}
+use Rattle.std.proofs.lemmas.List.{length-set}
+use Rattle.std.proofs.lemmas.Nat.Bits.{bit_at-zero, bit_at-pow_other}
+use Rattle.std.specs.Int.RustNames.{bit_xor}
+use Rattle.polygons.specs.ManyRows.{row_of}
+use Rattle.polygons.proofs.RowLists.{row-here, row-other}
+use Rattle.std.specs.Int.{bit_at, int_max}
 use Rattle.polygons.specs.declared.rule.Rule.{Rule}
 use Rattle.polygons.specs.declared.rule.Rule.TheVariants.{EvenOdd, NonZero}
 use Rattle.polygons.specs.Rows.{from_column}
-use Rattle.polygons.specs.Cells.{flag_of, running_sum, columns_in, modulus, signed, IsAlike, IsAdded, AreMarked}
+use Rattle.polygons.specs.Cells.{word_of, bit_in_block, flag_of, running_sum, columns_in, modulus, signed, HasCounters, IsAlike, IsAdded, AreMarked}
 use Rattle.polygons.specs.Plotting.{HasRow, IsRowCounted}
 use Rattle.polygons.specs.Short.{AreNearRows}
 use Rattle.polygons.specs.declared.strip.Strip.{Strip}
@@ -15,7 +20,7 @@ use Rattle.grid.specs.Position.{Position}
 use Rattle.grid.specs.Samples.{part_size}
 use Rattle.polygons.proofs.Triangle.{above_or_not}
 use Rattle.polygons.proofs.Counters.{sum-same}
-use Rattle.polygons.proofs.Totals.{flipped_added, added_right}
+use Rattle.polygons.proofs.Totals.{word-here, word-other, flip_here, flip_other, clear_bit, flipped_added, added_right}
 use Rattle.polygons.proofs.Windings.{cell_same, first_added, flag_place}
 use Rattle.polygons.proofs.Plotted.{alike_from, alike_moved, alike_none, part_small, same_columns, AreRowsAdded}
 
@@ -110,47 +115,7 @@ all_right rule row columns from to down f c places column place one beside = rec
   marked = λ h. h;
 }
 
--- ---- four samples whose columns lie in one column of blocks
-module _ (rule : Rule) (row : ℕ) (columns from to : List ℤ) (down : Bool) (f c : List (List ℕ)) (places : List ℕ) (crossed : List Bool) (column block : ℕ) (low : row < 64)
-    (place : (s : ℕ) → s < 4 → pos (slice_index places s) ≡ int_max (slice_index_or columns s (pos 0)) (pos 0)) (one : (s : ℕ) → s < 4 → slice_index places s / 8 ≡ column)
-    (tells : (s : ℕ) → s < 4 → (IsTrue (slice_index_or crossed s false) ↔ HasRow from to row s)) where
-  -- what holds when the flags of the first n samples are flipped
-  pub record AreFlipped (n : ℕ) (f' : List (List ℕ)) : Type 0 where
-    pub counted : IsRowCounted rule n row columns from to down f c f' c
-    pub left : (s j k : ℕ) → s < 4 → n ≤ s → j < 64 → flag_of f' s j k ≡ flag_of f s j k
-
-  pub none_flipped : AreFlipped 0 f
-  none_flipped = record { counted = none_counted rule row columns from to down f c; left = λ s j k h l m. refl }
-
-  -- the flag of sample s
-  abbrev place_of : ℕ → ℕ
-  place_of s = 8 * block + slice_index places s % 8
-
-  pub one_flipped : column < columns_in rule f c → (rule ≡ EvenOdd → block ≡ column) → (rule ≡ NonZero → block ≡ column + cond down 0 (length c))
-      → (rule ≡ NonZero → (s : ℕ) → s < 4 → IsTrue (slice_index_or crossed s false) → flag_of f s row (place_of s) ≡ 0) → (s : ℕ) (f' f'' : List (List ℕ)) → s < 4 → length f'' ≡ length f'
-      → (IsTrue (slice_index_or crossed s false) → flag_of f'' s row (place_of s) ≡ (flag_of f' s row (place_of s) + 1) % 2)
-      → ((r j k : ℕ) → r < 4 → j < 64 → (IsTrue (slice_index_or crossed s false) → r ≡ s → j ≡ row → k ≡ place_of s → ⊥) → flag_of f'' r j k ≡ flag_of f' r j k)
-      → AreFlipped s f' → AreFlipped (s + 1) f''
-  one_flipped within even_odd nonzero clear s f' f'' small long flipped kept v = record {
-    counted = one_counted rule s row columns from to down (slice_index_or crossed s false) f c f' c f'' c small low (tells s small) v.counted (at (slice_index_or crossed s false) refl);
-    left = λ r j k h l m. kept r j k h m (λ _ e _ _. omega arith) ∙ v.left r j k h (omega arith) m;
-  }
-    where
-      by_rule : (q : Rule) → q ≡ rule → column < columns_in q f c → IsTrue (slice_index_or crossed s false) → IsAdded q s row (row + 1) (added_from columns s down) f' c f'' c
-      by_rule EvenOdd is inside x =
-          let e = even_odd (sym is) in let o = one s small in
-          flipped_added s row (slice_index places s) (place_of s) (slice_index_or columns s (pos 0)) down f' c f'' small low (place s small) (omega arith) long (flipped x) (λ r j k h l n. kept r j k h l (λ _. n))
-      by_rule NonZero is inside x =
-          let o = one s small in
-          first_added down f' c f'' s row (slice_index places s) (place_of s) (slice_index_or columns s (pos 0)) small low (omega arith) (place s small)
-          (flag_place down (slice_index places s) (length c) block (nonzero (sym is) ∙ ap (λ n. n + cond down 0 (length c)) (sym o))) long (v.left s row (place_of s) small (omega arith) low ∙ clear (sym is) s small x) (flipped x)
-          (λ r j k h l n. kept r j k h l (λ _. n))
-
-      at : (x : Bool) → slice_index_or crossed s false ≡ x → IsAdded rule s row (row + cond x 1 0) (added_from columns s down) f' c f'' c
-      at true is = by_rule rule refl within is
-      at false is = subst (λ (n : ℕ). IsAdded rule s row n (added_from columns s down) f' c f'' c) (omega arith) (unchanged rule s row (added_from columns s down) f' c f'' long (λ r j k h l. kept r j k h l (λ x. absurd (true≢false (sym x ∙ is)))))
-
--- ---- the rows of a part, one after another
+-- whether a sample's rows hold a row
 has_or_not : (from to : List ℤ) (row s : ℕ) → HasRow from to row s ⊎ (HasRow from to row s → ⊥)
 has_or_not from to row s = elim (above_or_not (pos row) (slice_index_or from s (pos 0))) [
   | inl a ↦ inr (λ h. let l = h.0 in omega (arith, ints))
@@ -160,6 +125,116 @@ has_or_not from to row s = elim (above_or_not (pos row) (slice_index_or from s (
   ]
 ]
 
+-- ---- four samples whose columns lie in one column of blocks
+-- the column of their flags
+pub column_inside : (rule : Rule) (down : Bool) (f c : List (List ℕ)) (column block : ℕ) → HasCounters rule f c → column < columns_in rule f c → (rule ≡ EvenOdd → block ≡ column) → (rule ≡ NonZero → block ≡ column + cond down 0 (length c)) → block < length f
+column_inside EvenOdd down f c column block _ l even_odd nonzero = (let e = even_odd refl in omega (arith, l, e))
+column_inside NonZero true f c column block long l even_odd nonzero = (let e = nonzero refl in omega (arith, l, e, long))
+column_inside NonZero false f c column block long l even_odd nonzero = (let e = nonzero refl in omega (arith, l, e, long))
+
+-- what the sums of a sample's rows are by its flags
+sums_of_sample : (q : Rule) (f c f' : List (List ℕ)) (s : ℕ) → ((j k : ℕ) → flag_of f' s j k ≡ flag_of f s j k) → (j k : ℕ) → running_sum q f' c s j k ≡ running_sum q f c s j k
+sums_of_sample EvenOdd f c f' s same j k = sum-same _ _ (k + 1) (λ i _. ap pos (same j i))
+sums_of_sample NonZero f c f' s same j k = sum-same _ _ (k + 1) (λ i _. cell_same f c f' c s j i refl (same j i) (same j (i + 8 * length c)) (same j (i + 16 * length c)) refl)
+
+module _ (rule : Rule) (row : ℕ) (columns from to : List ℤ) (down : Bool) (f c : List (List ℕ)) (places crossed bits words : List ℕ) (column block : ℕ) (low : row < 64)
+    (place : (s : ℕ) → s < 4 → pos (slice_index places s) ≡ int_max (slice_index_or columns s (pos 0)) (pos 0)) (one : (s : ℕ) → s < 4 → slice_index places s / 8 ≡ column)
+    (tells : (s : ℕ) → s < 4 → (slice_index crossed s ≡ 1 ↔ HasRow from to row s)) (small : (s : ℕ) → s < 4 → slice_index crossed s < 2)
+    (set_bit : (s : ℕ) → s < 4 → slice_index crossed s ≡ 1 → slice_index bits s ≡ 2 ^ bit_in_block row (slice_index places s)) (no_bit : (s : ℕ) → s < 4 → slice_index crossed s ≡ 0 → slice_index bits s ≡ 0)
+    (within : column < columns_in rule f c) (even_odd : rule ≡ EvenOdd → block ≡ column) (nonzero : rule ≡ NonZero → block ≡ column + cond down 0 (length c)) (inside : block < length f) (room : length (row_of f block) ≡ 32)
+    (clear : rule ≡ NonZero → (s : ℕ) → s < 4 → bit_and (slice_index (row_of f block) (word_of s row)) (slice_index bits s) ≡ 0)
+    (flipped : (s : ℕ) → s < 4 → slice_index words (word_of s row) ≡ bit_xor (slice_index (row_of f block) (word_of s row)) (slice_index bits s))
+    (kept : (i : ℕ) → (i / 4 ≡ row / 8 → ⊥) → slice_index words i ≡ slice_index (row_of f block) i) where
+  -- the flag of sample s, and the flags if this sample alone is flipped
+  abbrev place_of : ℕ → ℕ
+  place_of s = 8 * block + slice_index places s % 8
+
+  abbrev one_flipped : ℕ → List (List ℕ)
+  one_flipped s = set f block (set (row_of f block) (word_of s row) (bit_xor (slice_index (row_of f block) (word_of s row)) (slice_index bits s)))
+
+  abbrev all_flipped : List (List ℕ)
+  all_flipped = set f block words
+
+  word_same : (s j : ℕ) → s < 4 → slice_index words (word_of s j) ≡ slice_index (row_of (one_flipped s) block) (word_of s j)
+  word_same s j l = elim (cases_eq (j / 8) (row / 8)) [
+    | inl e ↦
+        let same : word_of s j ≡ word_of s row = ap (λ n. 4 * n + s) e in
+        ap (slice_index words) same ∙ flipped s l ∙ sym (ap (slice_index (row_of (one_flipped s) block)) same ∙ word-here f block (word_of s row) _ inside (omega (arith, room)))
+    | inr e ↦
+        kept (word_of s j) (λ same. e (omega (arith, same)))
+        ∙ sym (word-other f block (word_of s row) _ block (word_of s j) inside (λ _ same. e (omega (arith, same))))
+  ]
+
+  flag_same : (s : ℕ) → s < 4 → (j k : ℕ) → flag_of all_flipped s j k ≡ flag_of (one_flipped s) s j k
+  flag_same s l j k = elim (cases_eq (k / 8) block) [
+    | inl e ↦
+        ap (λ n. bit_at (slice_index (row_of all_flipped n) (word_of s j)) (bit_in_block j k)) e
+        ∙ ap (λ ws. bit_at (slice_index ws (word_of s j)) (bit_in_block j k)) (row-here f block words inside)
+        ∙ ap (λ w. bit_at w (bit_in_block j k)) (word_same s j l) ∙ sym (ap (λ n. bit_at (slice_index (row_of (one_flipped s) n) (word_of s j)) (bit_in_block j k)) e)
+    | inr e ↦
+        ap (λ ws. bit_at (slice_index ws (word_of s j)) (bit_in_block j k)) (row-other f block (k / 8) words e)
+        ∙ sym (ap (λ ws. bit_at (slice_index ws (word_of s j)) (bit_in_block j k)) (row-other f block (k / 8) _ e))
+  ]
+
+  -- a sample whose rows do not hold this one
+  not_crossed : (s : ℕ) → s < 4 → (HasRow from to row s → ⊥) → slice_index crossed s ≡ 0
+  not_crossed s l none = (let d = small s l in elim (cases_eq (slice_index crossed s) 1) [ inl e ↦ absurd (none ((tells s l).0 e)) | inr e ↦ omega (arith, d, e) ])
+
+  flag_kept : (s : ℕ) → s < 4 → (HasRow from to row s → ⊥) → (j k : ℕ) → flag_of all_flipped s j k ≡ flag_of f s j k
+  flag_kept s l none j k =
+      flag_same s l j k
+      ∙ flip_other f s row block (slice_index bits s) inside (omega (arith, room)) l s j k l (λ _ _ _. ap (λ b. bit_at b (bit_in_block j k)) (no_bit s l (not_crossed s l none)) ∙ bit_at-zero (bit_in_block j k))
+
+  -- one whose rows do
+  added : (s : ℕ) → s < 4 → HasRow from to row s → IsAdded rule s row (row + 1) (added_from columns s down) f c (one_flipped s) c
+  added s l has = by_rule rule refl within
+    where
+      bit : slice_index bits s ≡ 2 ^ bit_in_block row (place_of s)
+      bit = set_bit s l ((tells s l).1 has) ∙ ap (λ n. 2 ^ n) (omega arith)
+
+      here : flag_of (one_flipped s) s row (place_of s) ≡ (flag_of f s row (place_of s) + 1) % 2
+      here = flip_here f s row block (place_of s) (slice_index bits s) (omega arith) inside (omega (arith, room)) bit
+
+      others : (r j k : ℕ) → r < 4 → j < 64 → (r ≡ s → j ≡ row → k ≡ place_of s → ⊥) → flag_of (one_flipped s) r j k ≡ flag_of f r j k
+      others r j k h m other =
+          flip_other f s row block (slice_index bits s) inside (omega (arith, room)) l r j k h (λ same e g.
+          ap (λ b. bit_at b (bit_in_block j k)) bit ∙ bit_at-pow_other (bit_in_block row (place_of s)) (bit_in_block j k) (λ q. other same (omega arith) (omega arith)))
+
+      by_rule : (q : Rule) → q ≡ rule → column < columns_in q f c → IsAdded q s row (row + 1) (added_from columns s down) f c (one_flipped s) c
+      by_rule EvenOdd is m =
+          let e = even_odd (sym is) in let o = one s l in
+          flipped_added s row (slice_index places s) (place_of s) (slice_index_or columns s (pos 0)) down f c (one_flipped s) l low (place s l) (omega arith) (length-set f block _) here others
+      by_rule NonZero is m =
+          let o = one s l in
+          first_added down f c (one_flipped s) s row (slice_index places s) (place_of s) (slice_index_or columns s (pos 0)) l low (omega arith) (place s l)
+          (flag_place down (slice_index places s) (length c) block (nonzero (sym is) ∙ ap (λ n. n + cond down 0 (length c)) (sym o))) (length-set f block _)
+          (ap (λ n. bit_at (slice_index (row_of f n) (word_of s row)) (bit_in_block row (place_of s))) (omega arith) ∙ clear_bit (slice_index (row_of f block) (word_of s row)) (slice_index bits s) (bit_in_block row (place_of s)) bit (clear (sym is) s l))
+          here others
+
+  pub all_counted : IsRowCounted rule 4 row columns from to down f c all_flipped c
+  all_counted = record {
+    flags_len = length-set f block words;
+    counters_len = refl;
+    here = λ s k l has m.
+        subst (λ z. IsAlike (modulus rule) z (running_sum rule f c s row k +ℤ added_from columns s down row k)) (sym (sums_of_sample rule (one_flipped s) c all_flipped s (flag_same s l) row k))
+        ((added s l has).here row k (omega arith) (omega arith) m);
+    others = λ s j k l h m none. elim (has_or_not from to row s) [
+      | inl has ↦ sums_of_sample rule (one_flipped s) c all_flipped s (flag_same s l) j k ∙ (added s l has).others s j k l h m (λ _ a b. none l has (omega arith))
+      | inr not ↦ sums_of_sample rule f c all_flipped s (flag_kept s l not) j k
+    ];
+    marked = by_rule rule refl;
+  }
+    where
+      by_rule : (q : Rule) → q ≡ rule → AreMarked q f c → AreMarked q all_flipped c
+      by_rule EvenOdd is h = h
+      by_rule NonZero is h = λ s j k x y z d u. elim (has_or_not from to row s) [
+        | inl has ↦
+            let marked = (subst (λ r. IsAdded r s row (row + 1) (added_from columns s down) f c (one_flipped s) c) (sym is) (added s x has)).marked h in
+            flag_same s x j (k + 16 * length c) ∙ marked s j k x y z (sym (flag_same s x j k) ∙ d) (sym (flag_same s x j (k + 8 * length c)) ∙ u)
+        | inr not ↦ flag_kept s x not j (k + 16 * length c) ∙ h s j k x y z (sym (flag_kept s x not j k) ∙ d) (sym (flag_kept s x not j (k + 8 * length c)) ∙ u)
+      ]
+
+-- ---- the rows of a part, one after another
 pub one_row_more : (rule : Rule) (strip : Strip) (part : ℕ) (change : Position → ℤ) (n row : ℕ) (columns from to : List ℤ) (down : Bool) (f c f' c' f'' c'' : List (List ℕ)) → part_size strip.count ≡ n → row < 64
     → ((s k : ℕ) → s < n → HasRow from to row s → added_from columns s down row k ≡ change (strip_sample strip (4 * part + s) row k))
     → ((s k : ℕ) → s < n → (HasRow from to row s → ⊥) → change (strip_sample strip (4 * part + s) row k) ≡ pos 0) → AreRowsAdded rule strip part change row f c f' c'

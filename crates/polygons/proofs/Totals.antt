@@ -17,13 +17,13 @@ use Rattle.polygons.proofs.Tests.{le_no}
 use Rattle.polygons.proofs.Counters.{number_at, number-here, number-elsewhere, sum-same, sums-added, same-test}
 
 -- ---- one word
-word-here : (flags : List (List ℕ)) (j i v : ℕ) → j < length flags → i < length (row_of flags j) → slice_index (row_of (set flags j (set (row_of flags j) i v)) j) i ≡ v
+pub word-here : (flags : List (List ℕ)) (j i v : ℕ) → j < length flags → i < length (row_of flags j) → slice_index (row_of (set flags j (set (row_of flags j) i v)) j) i ≡ v
 word-here flags j i v h k =
     let a = row-here flags j (set (row_of flags j) i v) h in
     let b : slice_index (set (row_of flags j) i v) i ≡ v = rw get_or-set_same refl in
     ap (λ w. slice_index w i) a ∙ b
 
-word-other : (flags : List (List ℕ)) (j i v l m : ℕ) → j < length flags → (l ≡ j → m ≡ i → ⊥) → slice_index (row_of (set flags j (set (row_of flags j) i v)) l) m ≡ slice_index (row_of flags l) m
+pub word-other : (flags : List (List ℕ)) (j i v l m : ℕ) → j < length flags → (l ≡ j → m ≡ i → ⊥) → slice_index (row_of (set flags j (set (row_of flags j) i v)) l) m ≡ slice_index (row_of flags l) m
 word-other flags j i v l m h other = elim (cases_eq l j) [
   | inl e ↦
       let a = row-here flags j (set (row_of flags j) i v) h in
@@ -74,6 +74,19 @@ flipped_here x b i e = bit_at_xor x b i ∙ ap (λ n. (bit_at x i + bit_at n i) 
 
 pub flipped_other : (x b i : ℕ) → bit_at b i ≡ 0 → bit_at (bit_xor x b) i ≡ bit_at x i
 flipped_other x b i e = bit_at_xor x b i ∙ (let s = bit_at-lt x i in omega arith)
+
+-- a flag that is flipped, and one that is not
+pub flip_here : (flags : List (List ℕ)) (s row block k b : ℕ) → k / 8 ≡ block → block < length flags → word_of s row < length (row_of flags block) → b ≡ 2 ^ bit_in_block row k
+    → flag_of (set flags block (set (row_of flags block) (word_of s row) (bit_xor (slice_index (row_of flags block) (word_of s row)) b))) s row k ≡ (flag_of flags s row k + 1) % 2
+flip_here flags s row block k b at h l bit =
+    set_here flags s row block k _ at h l ∙ flipped_here (slice_index (row_of flags block) (word_of s row)) b (bit_in_block row k) bit
+    ∙ ap (λ n. (bit_at (slice_index (row_of flags n) (word_of s row)) (bit_in_block row k) + 1) % 2) (sym at)
+
+pub flip_other : (flags : List (List ℕ)) (s row block b : ℕ) → block < length flags → word_of s row < length (row_of flags block) → s < 4 → (r j m : ℕ) → r < 4
+    → (r ≡ s → j / 8 ≡ row / 8 → m / 8 ≡ block → bit_at b (bit_in_block j m) ≡ 0)
+    → flag_of (set flags block (set (row_of flags block) (word_of s row) (bit_xor (slice_index (row_of flags block) (word_of s row)) b))) r j m ≡ flag_of flags r j m
+flip_other flags s row block b h l small r j m r_small none =
+    set_other flags s row block _ h l small r j m r_small (λ same e f. flipped_other (slice_index (row_of flags block) (word_of s row)) b (bit_in_block j m) (none same e f))
 
 -- whether a bit is set, as code asks it
 pub clear_bit : (x b i : ℕ) → b ≡ 2 ^ i → bit_and x b ≡ 0 → bit_at x i ≡ 0

@@ -208,6 +208,9 @@
 --
 -- FourSums.antt
 --   first_number: What the first flags say of cell i of a word: 1, 0 or -1, modulo 2 ^ 32.
+--   HasOneFlagAtMost: A row of eight cells has one flag at most, of either kind.
+--   AreSmall: The sums of 32 rows are from -8 to 7.
+--   AreRowsSummed: The masks of 32 rows of eight cells and the sums at their ends, by their flags and the sums before.
 --   AreSummed: The masks of the four words of a row of blocks, by their rows, and the sums at the ends of these.
 
 pub mod Crossing

@@ -135,6 +135,7 @@ fn plot_rows<const SIZE: usize>(
     let from = starts.rows(part, descent.edge.a.y());
     let to = starts.rows(part, descent.edge.b.y());
     let mut walk = PartWalk::new(descent, starts, part);
+    let descent = *descent;
     for row in descent.first..descent.end {
         cross_row::<SIZE>(
             flags,
@@ -146,7 +147,7 @@ fn plot_rows<const SIZE: usize>(
             &to,
             forward,
         );
-        walk = walk.next(descent);
+        walk = walk.next(&descent);
     }
 }
 

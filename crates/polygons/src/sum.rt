@@ -9,9 +9,9 @@ use crate::byte_rows::{fill_rows, last_column};
 use crate::byte_sums::{Sums, sum_bytes};
 use crate::cells::{Counters, Flags};
 use crate::fill::no_carry;
+use crate::four_sums::{are_small, level_rows, sum_four};
 use crate::four_words::{are_zeros, four_of, set_four, words_of};
 use crate::marks::Marks;
-use crate::plane_sums::{are_small, level_rows, sum_planes};
 use std::simd::prelude::*;
 
 /// 1 if one of the sums is 0 and the other is not, else 0.
@@ -210,7 +210,7 @@ fn sum_row(
         return;
     }
     if are_zeros(more, row) & are_small(sums, row) {
-        let rows = sum_planes(four_of(downs, row), four_of(ups, row), sums, row);
+        let rows = sum_four(four_of(downs, row), four_of(ups, row), sums, row);
         set_four(downs, row, words_of(rows));
         set_four(ups, row, u64x4::splat(0));
         set_four(levels, row, words_of(level_rows(rows)));

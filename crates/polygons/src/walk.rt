@@ -11,6 +11,7 @@ use crate::slope::Slope;
 use crate::starts::Starts;
 use crate::strip::{Strip, point_at};
 use grid::{Point, side};
+use std::simd::prelude::*;
 
 /// How many columns left of `start` an edge is first crossed there, by how many it goes right in a row, rounded down. It
 /// is right or one too large less than a pixel above the upper end.
@@ -137,21 +138,6 @@ impl Descent {
     {
         self.after(after).div_euclid(256)
     }
-
-    /// The column of the next row, and what is left there.
-    #[inline(always)]
-    fn next(&self, column: i64, rest: i64) -> (i64, i64)
-        requires step { IsSmallStep self.now }
-        requires column { IsWithin (2 ^ 52) column }
-        requires rest { IsWithin (2 ^ 52) rest }
-        ensures { IsNextRow self.now column rest result.0 result.1 }
-    {
-        let less = rest - self.part;
-        (
-            column + self.columns + if_negative(less, 1),
-            less + if_negative(less, self.height),
-        )
-    }
 }
 
 /// The first columns of one row at which an edge is crossed by the samples of a part, and what is left of the edge there.
@@ -211,13 +197,14 @@ impl PartWalk {
             (slice_index_or self.now.rests s (pos 0)) (slice_index_or result.columns s (pos 0))
             (slice_index_or result.rests s (pos 0)) }
     {
-        let (c0, r0) = descent.next(self.columns[0], self.rests[0]);
-        let (c1, r1) = descent.next(self.columns[1], self.rests[1]);
-        let (c2, r2) = descent.next(self.columns[2], self.rests[2]);
-        let (c3, r3) = descent.next(self.columns[3], self.rests[3]);
+        let less = i64x4::from_array(self.rests) - i64x4::splat(descent.part);
+        let is_over = less.simd_lt(i64x4::splat(0));
+        let below = i64x4::from_array(self.columns) + i64x4::splat(descent.columns);
+        let columns = below + is_over.select(i64x4::splat(1), i64x4::splat(0));
+        let rests = less + is_over.select(i64x4::splat(descent.height), i64x4::splat(0));
         PartWalk {
-            columns: [c0, c1, c2, c3],
-            rests: [r0, r1, r2, r3],
+            columns: columns.to_array(),
+            rests: rests.to_array(),
         }
     }
 }

@@ -1,16 +1,9 @@
-use Rattle.std.proofs.Common.{◌≡◌, ◌∙◌, arith, ℕ, ◌+◌, ◌*◌, ◌%◌, ◌^◌, ◌<◌, List, length, get_or, map, replicate, w32}
+use Rattle.std.proofs.Common.{◌≡◌, ap, ◌∙◌, arith, ℕ, ◌+◌, ◌*◌, ◌%◌, ◌^◌, ◌<◌, List, length, get_or, replicate}
 use Rattle.std.specs.Simd.Lanes.{zip2}
-use Rattle.std.proofs.lemmas.List.{map-id}
 use Rattle.std.proofs.lemmas.Nat.Bits.{bit_at-lt}
-use borrow.Rule.Simd.Lanes.{act2}
-use borrow.Table.Row.{s_int}
-use mir.Syntax.{wrap_sub}
 use Rattle.polygons.proofs.MaskLanes.{AreLanes, itself, splat, zipped}
 use Rattle.polygons.proofs.ByteSums.{sum8, difference8}
 use Rattle.polygons.proofs.plane_sums.ends.Goals as goal
-
-abbrev difference32 : ℕ → ℕ → ℕ
-difference32 = act2 wrap_sub (s_int w32) (s_int w32) (s_int w32)
 
 abbrev shifted : ℕ → ℕ → ℕ
 shifted x k = x * 2 ^ k % 2 ^ 8
@@ -34,15 +27,12 @@ module _ (a b d e f : List ℕ) (a_long : length a ≡ 32) (b_long : length b �
   raised : AreLanes 32 raised_lanes (λ p. ((((at a p + shifted (at b p) 1) % 256 + shifted (at d p) 2) % 256 + shifted (at e p) 3) % 256 + difference8 16 (shifted (at f p) 4)) % 256)
   raised = zipped 32 sum8 _ _ _ _ low (zipped 32 difference8 _ _ _ _ (splat 32 16) (shift f 4 f_long))
 
-  ends : AreLanes 32 (zip2 difference32 (map (λ (x : ℕ). x) raised_lanes) (replicate 32 16)) (λ p. difference32 (((((at a p + shifted (at b p) 1) % 256 + shifted (at d p) 2) % 256 + shifted (at e p) 3) % 256 + difference8 16 (shifted (at f p) 4)) % 256) 16)
-  ends = rw (map-id raised_lanes) (zipped 32 difference32 _ _ _ _ raised (splat 32 16))
-
 number : (a b d e f : ℕ) → a < 2 → b < 2 → d < 2 → e < 2 → f < 2
-    → difference32 (((((a + shifted b 1) % 256 + shifted d 2) % 256 + shifted e 3) % 256 + difference8 16 (shifted f 4)) % 256) 16 ≡ ((a + 2 * b + 4 * d + 8 * e + 16 * f + 16) % 32 + 4294967280) % 2 ^ 32
+    → (((((a + shifted b 1) % 256 + shifted d 2) % 256 + shifted e 3) % 256 + difference8 16 (shifted f 4)) % 256 + 4294967280) % 2 ^ 32 ≡ ((a + 2 * b + 4 * d + 8 * e + 16 * f + 16) % 32 + 4294967280) % 2 ^ 32
 number a b d e f ha hb hd he hf = omega arith
 
-pub returns-clause-whole : goal.returns-clause-whole
-returns-clause-whole c = (ends c.bit.result c.bit-twos.result c.bit-fours.result c.bit-eights.result c.bit-sixteens.result c.bit.ensures.whole c.bit-twos.ensures.whole c.bit-fours.ensures.whole c.bit-eights.ensures.whole c.bit-sixteens.ensures.whole).long
+pub lowered-requires : goal.lowered-requires
+lowered-requires c = (raised c.bit.result c.bit-twos.result c.bit-fours.result c.bit-eights.result c.bit-sixteens.result c.bit.ensures.whole c.bit-twos.ensures.whole c.bit-fours.ensures.whole c.bit-eights.ensures.whole c.bit-sixteens.ensures.whole).long
 
 pub returns-clause-each : goal.returns-clause-each
 returns-clause-each c row h =
@@ -51,6 +41,7 @@ returns-clause-each c row h =
     let d = c.bit-fours.ensures.each row h in
     let e = c.bit-eights.ensures.each row h in
     let f = c.bit-sixteens.ensures.each row h in
-    (ends c.bit.result c.bit-twos.result c.bit-fours.result c.bit-eights.result c.bit-sixteens.result c.bit.ensures.whole c.bit-twos.ensures.whole c.bit-fours.ensures.whole c.bit-eights.ensures.whole c.bit-sixteens.ensures.whole).each row h
-    ∙ (λ i. difference32 (((((a i + shifted (b i) 1) % 256 + shifted (d i) 2) % 256 + shifted (e i) 3) % 256 + difference8 16 (shifted (f i) 4)) % 256) 16)
+    c.lowered.ensures.each row h
+    ∙ ap (λ n. (n + 4294967280) % 2 ^ 32) ((raised c.bit.result c.bit-twos.result c.bit-fours.result c.bit-eights.result c.bit-sixteens.result c.bit.ensures.whole c.bit-twos.ensures.whole c.bit-fours.ensures.whole c.bit-eights.ensures.whole c.bit-sixteens.ensures.whole).each row h)
+    ∙ (λ i. (((((a i + shifted (b i) 1) % 256 + shifted (d i) 2) % 256 + shifted (e i) 3) % 256 + difference8 16 (shifted (f i) 4)) % 256 + 4294967280) % 2 ^ 32)
     ∙ number _ _ _ _ _ (bit_at-lt (get_or c.args.planes.ones row 0) 7) (bit_at-lt (get_or c.args.planes.twos row 0) 7) (bit_at-lt (get_or c.args.planes.fours row 0) 7) (bit_at-lt (get_or c.args.planes.eights row 0) 7) (bit_at-lt (get_or c.args.planes.sixteens row 0) 7)

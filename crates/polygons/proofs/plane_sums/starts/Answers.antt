@@ -1,29 +1,7 @@
-use Rattle.std.proofs.Common.{◌≡◌, ap, ◌∙◌, arith, ℕ, ◌+◌, ◌*◌, ◌%◌, ◌<◌, List, length, get_or, map, replicate, bit_and}
+use Rattle.std.proofs.Common.{◌≡◌, ap, ◌∙◌, arith, ℕ, ◌+◌, ◌*◌, ◌%◌, ◌<◌}
 use Rattle.std.specs.Int.{bit_at}
-use Rattle.std.specs.Simd.Lanes.{zip2}
-use Rattle.std.proofs.lemmas.List.{map-id}
-use Rattle.std.proofs.lemmas.Simd.{Each1-from_get_or}
-use Rattle.std.proofs.lemmas.Nat.{and_mask}
 use Rattle.std.proofs.lemmas.Nat.Bits.{bit_at-lt, bit_at_above}
-use Rattle.polygons.proofs.MaskLanes.{AreLanes, itself, splat, zipped}
 use Rattle.polygons.proofs.plane_sums.starts.Goals as goal
-
--- the sums modulo 256
-masked : (v : List ℕ) → length v ≡ 32 → AreLanes 32 (zip2 bit_and v (replicate 32 255)) (λ q. bit_and (get_or v q 0) 255)
-masked v long = zipped 32 bit_and v (replicate 32 255) _ _ (itself 32 v long) (splat 32 255)
-
-byte : (v : List ℕ) (q : ℕ) → length v ≡ 32 → q < 32 → get_or (zip2 bit_and v (replicate 32 255)) q 0 ≡ get_or v q 0 % 256
-byte v q long h = (masked v long).each q h ∙ and_mask (get_or v q 0) 8
-
-bytes : (v : List ℕ) → length v ≡ 32 → AreLanes 32 (map (λ x. x) (zip2 bit_and v (replicate 32 255))) (λ q. get_or v q 0 % 256)
-bytes v long = rw (map-id (zip2 bit_and v (replicate 32 255))) (record { long = (masked v long).long; each = λ q h. byte v q long h })
-
-pub overflow_cast-bytes : goal.overflow_cast-bytes
-overflow_cast-bytes c =
-    let long = (masked c.args.sums c.requires).long in
-    Each1-from_get_or _ _ 0 (λ q h.
-    let l : q < 32 = omega arith in
-    rw (byte c.args.sums q c.requires l) (record { fits = omega arith }))
 
 -- ---- the planes
 first : (b : ℕ) → b < 2 → bit_at b 0 ≡ b
@@ -37,7 +15,7 @@ five_bits n =
 pub returns-clause-first : goal.returns-clause-first
 returns-clause-first c row h =
     let sums = c.args.sums in
-    let start = (bytes sums c.requires).each row h in
+    let start = c.bytes_of-bytes.ensures.each row h in
     (λ i. bit_at (c.bit.ensures.each row h i) 0 + 2 * bit_at (c.bit-2.ensures.each row h i) 0 + 4 * bit_at (c.bit-3.ensures.each row h i) 0 + 8 * bit_at (c.bit-4.ensures.each row h i) 0 + 16 * bit_at (c.bit-5.ensures.each row h i) 0)
     ∙ five_bits _ ∙ ap (λ n. n % 32) start ∙ omega arith
 

@@ -73,11 +73,11 @@ module _ (c : goal.After-set_four-then-are_zeros-are_small-3) where
       run-same (numbers i) (four (i % 4)) (8 * r) (sums (8 * i + r)) _ n (ap sums (sum_place c.args.row i r e))
       (λ k l. number (slice_index c.args.downs.now i) (slice_index c.args.ups.now i) _ _ (slice_index c.args.more.now i) _ (8 * r + k) (sym downs) (sym ups) more)
 
-  next : (i r : ℕ) → i / 4 ≡ c.args.row → r < 8 → slice_index c.sum_planes-rows.new.sums (8 * i + r) ≡ run (numbers i) (8 * r) (sums (8 * i + r)) 8
-  next i r e h = sym (ap (slice_index c.sum_planes-rows.new.sums) (sum_place c.args.row i r e)) ∙ c.sum_planes-rows.ensures.summed.next (i % 4) r (in_four i) h ∙ total i r 8 e
+  next : (i r : ℕ) → i / 4 ≡ c.args.row → r < 8 → slice_index c.sum_four-rows.new.sums (8 * i + r) ≡ run (numbers i) (8 * r) (sums (8 * i + r)) 8
+  next i r e h = sym (ap (slice_index c.sum_four-rows.new.sums) (sum_place c.args.row i r e)) ∙ c.sum_four-rows.ensures.summed.next (i % 4) r (in_four i) h ∙ total i r 8 e
 
-  bits : (i r j : ℕ) → i / 4 ≡ c.args.row → r < 8 → j < 8 → bit_at (slice_index c.sum_planes-rows.result (8 * (i % 4) + r)) j ≡ nonzero_bit (run (numbers i) (8 * r) (sums (8 * i + r)) (j + 1))
-  bits i r j e h l = c.sum_planes-rows.ensures.summed.bits (i % 4) r j (in_four i) h l ∙ ap nonzero_bit (total i r (j + 1) e)
+  bits : (i r j : ℕ) → i / 4 ≡ c.args.row → r < 8 → j < 8 → bit_at (slice_index c.sum_four-rows.result (8 * (i % 4) + r)) j ≡ nonzero_bit (run (numbers i) (8 * r) (sums (8 * i + r)) (j + 1))
+  bits i r j e h l = c.sum_four-rows.ensures.summed.bits (i % 4) r j (in_four i) h l ∙ ap nonzero_bit (total i r (j + 1) e)
 
 pub returns-then-are_zeros-are_small-clause-levels : goal.returns-then-are_zeros-are_small-clause-levels
 returns-then-are_zeros-are_small-clause-levels c i e r j h l =

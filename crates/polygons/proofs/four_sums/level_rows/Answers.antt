@@ -4,7 +4,7 @@ use Rattle.std.specs.Simd.Lanes.{sel_l, zip2, top}
 use Rattle.std.proofs.lemmas.Bool.{cases_lt, lt-ltb, le-ltb}
 use Rattle.std.proofs.lemmas.Nat.Bits.{bit_at-zero, bit_at_ones}
 use Rattle.std.proofs.lemmas.Simd.{tops_compared, length-sel_l, length-zip2, get_or-sel_l, get_or-zip2, get_or-replicate, Each1-get_or}
-use Rattle.polygons.proofs.plane_sums.level_rows.Goals as goal
+use Rattle.polygons.proofs.four_sums.level_rows.Goals as goal
 
 module _ (rows : List ℕ) (long : length rows ≡ 32) where
   abbrev tests : List Bool

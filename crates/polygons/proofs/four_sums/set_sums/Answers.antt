@@ -1,6 +1,6 @@
 use Rattle.std.proofs.Common.{ap, ◌∙◌, arith, ◌+◌, ◌*◌, ◌≤◌, length, slice_index}
 use Rattle.polygons.proofs.ByteSums.{put, part_set, part_apart}
-use Rattle.polygons.proofs.plane_sums.set_sums.Goals as goal
+use Rattle.polygons.proofs.four_sums.set_sums.Goals as goal
 
 pub returns-clause-set : goal.returns-clause-set
 returns-clause-set c q l =

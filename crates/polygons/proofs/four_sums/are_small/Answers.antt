@@ -4,7 +4,7 @@ use Rattle.std.proofs.lemmas.Nat.Bits.{bit_at-zero}
 use Rattle.std.specs.Int.{bit_at}
 use Rattle.polygons.proofs.MaskLanes.{splat}
 use Rattle.polygons.proofs.ByteSums.{raised, bit_of_test, no_lane}
-use Rattle.polygons.proofs.plane_sums.are_small.Goals as goal
+use Rattle.polygons.proofs.four_sums.are_small.Goals as goal
 
 pub returns : goal.returns
 returns c =
