@@ -14,11 +14,11 @@ use Rattle.canvas.specs.declared.format.Format.{Format}
 use Rattle.canvas.specs.declared.format.Format.TheVariants.{Rgb8, Rgba8, Bgra8, Rgba8Straight, Bgra8Straight}
 use Rattle.canvas.specs.declared.way.Way.{Way}
 use Rattle.canvas.specs.declared.way.Way.TheVariants.{Single, Own}
-use Rattle.canvas.specs.Layout.{IsStoredIn, planes_of_tile, planes_of_row, block_in_tile, way_of, place_by, slot_by, is_plain, mask_of, stored, stored_in_tile, way_in_tile, IsSameTile, pixel_in_block}
+use Rattle.canvas.specs.Layout.{masks_from, further_plane, first_further, IsStoredIn, planes_of_tile, planes_of_row, block_in_tile, way_of, place_by, slot_by, is_plain, mask_of, stored, stored_in_tile, way_in_tile, IsSameTile, pixel_in_block}
 use Rattle.canvas.specs.Pixels.{pixel_bytes}
 use Rattle.canvas.specs.Loaded.{coloured, IsIndexIn, AreChanged}
 use Rattle.canvas.proofs.Cut.{put}
-use Rattle.canvas.proofs.Places.{none, behind_first, last_sample, before_last, tile_of, tile_put, tile_kept, row_of, row_put, row_kept}
+use Rattle.canvas.proofs.Places.{none, behind_first, last_sample, further_below, tile_of, tile_put, tile_kept, row_of, row_put, row_kept}
 use Rattle.canvas.proofs.TilePlanes.{cases_eq, by_way, same_by_way, has_own, apart}
 
 -- the same bytes are the same colour
@@ -79,7 +79,7 @@ module _ (count : SampleCount) (i j s : ℕ) (h : s < count_of count) (way : Way
             let unchanged : (w : Way) (n : ℕ) → n < count_of count → slice_index_or after (place_by count w m n) none ≡ slice_index_or xs (place_by count w m n) none =
             λ w n small. get_or-set_other xs at (place_by count w m n) plane none (λ e. apart count w way m (block_in_tile i j) n s (λ d. elsewhere (sym d)) small h own (e ∙ is_at)) in
             same_by_way count xs after column row t l (same_ways m)
-            ((λ _. ap (λ q. mask_of q t) (unchanged Own (count_of count - 1) (last_sample count))), (λ _. ap (λ q. mask_of q t) (unchanged Own (count_of count - 2) (before_last count))))
+            ((λ _. ap (λ q. mask_of q t) (unchanged Own (count_of count - 1) (last_sample count))), (λ _. ap (λ q. mask_of (masks_from (first_further count) q) t) (unchanged Own (further_plane count) (further_below count))))
             (λ n small. ap (λ q. stored_at q (slot_by (way_in_tile xs m) m (pixel_in_block column row))) (unchanged (way_in_tile xs m) n small))
       ]
 

@@ -12,13 +12,13 @@ use Rattle.lanes.specs.Block.{stored_at}
 use Rattle.canvas.specs.declared.flat_block.FlatBlock.{FlatBlock}
 use Rattle.canvas.specs.declared.way.Way.{Way}
 use Rattle.canvas.specs.declared.way.Way.TheVariants.{Cleared, Single, Pair, Own, Flat, FlatPair, FlatFour}
-use Rattle.canvas.specs.Layout.{planes_of_tile, block_in_tile, pixel_in_block, way_of, place_by, flat_place, slot_by, is_plain, mask_of, masks_in, sample_place, in_list, way_in_tile, chosen, KeepsOtherSamples, KeepsOtherWays}
+use Rattle.canvas.specs.Layout.{further_plane, planes_of_tile, block_in_tile, pixel_in_block, way_of, place_by, flat_place, slot_by, is_plain, mask_of, masks_in, sample_place, in_list, way_in_tile, chosen, KeepsOtherSamples, KeepsOtherWays}
 use Rattle.canvas.specs.FlatBlocks.{flat_sample, HasFlat, HasOne, IsFlatReplaced}
 use Rattle.canvas.specs.Palettes.{KeepsOtherPlaces}
-use Rattle.canvas.proofs.Places.{none, four_place, behind_first, last_sample, middle_sample, within_way}
+use Rattle.canvas.proofs.Places.{none, four_place, behind_first, last_sample, middle_sample, within_way, further_below}
 use Rattle.canvas.proofs.Ways.{flat_pair_not_four}
 use Rattle.canvas.proofs.Pairs.{chosen_by, chosen_set, chosen_clear, chosen_same, chosen_none}
-use Rattle.canvas.proofs.TilePlanes.{cases_eq, by_any_way, by_way, same_by_way, same_mask, one_place, own_apart, way_set, behind_set}
+use Rattle.canvas.proofs.TilePlanes.{cases_eq, by_any_way, by_way, same_by_way, same_mask, same_further, one_place, own_apart, way_set, behind_set}
 
 -- ---- a block that has them
 pub alike_block : (count : SampleCount) (k : ℕ) (way : Way) (xs : List BlockSamples) (flat : FlatBlock) (sample : CanvasSample) → way_in_tile xs k ≡ way → is_plain way ≡ true → way ≢ Own
@@ -66,12 +66,12 @@ pair_block count k xs flat was first second masks i j s h here =
 pub others_kept : (count : SampleCount) (k : ℕ) (old new : List BlockSamples) → KeepsOtherWays k old new → KeepsOtherPlaces count k old new → KeepsOtherSamples count k old new
 others_kept count k old new ways keeps i j s h other =
     let m : ℕ = block_in_tile i j in
-    let depths : (n : ℕ) → 1 ≤ n → mask_of (in_list new (place_by count Own m (count_of count - n))) s ≡ mask_of (in_list old (place_by count Own m (count_of count - n))) s =
-    λ n some.
-    same_mask (in_list new (place_by count Own m (count_of count - n))) (in_list old (place_by count Own m (count_of count - n))) s (omega (arith, h, few_samples count))
-    (λ p l. ap (λ (x : CanvasSample). x.z) (keeps Own m (count_of count - n) p other (omega arith) (omega (arith, some, some_samples count)) l)) in
-    same_by_way count old new i j s h (ways m (omega arith) other)
-    ((λ _. depths 1 (omega arith)), (λ _. depths 2 (omega arith)))
+    let depths : (n : ℕ) → n < count_of count → (p : ℕ) → p < 64 → slice_index (in_list new (place_by count Own m n)).z p ≡ slice_index (in_list old (place_by count Own m n)).z p =
+    λ n small p l. ap (λ (x : CanvasSample). x.z) (keeps Own m n p other (omega arith) small l) in
+    same_by_way count old new i j s h (ways m (omega arith) other) (
+      (λ _. same_mask (in_list new (place_by count Own m (count_of count - 1))) (in_list old (place_by count Own m (count_of count - 1))) s (omega (arith, h, few_samples count)) (depths (count_of count - 1) (last_sample count))),
+      (λ _. same_further count (in_list new (place_by count Own m (further_plane count))) (in_list old (place_by count Own m (further_plane count))) s h (depths (further_plane count) (further_below count))),
+    )
     (λ n small. keeps (way_in_tile old m) m n (pixel_in_block i j) other (omega arith) small (omega arith))
 
 -- a plane with samples of flat blocks is no other block's

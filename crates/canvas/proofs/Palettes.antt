@@ -13,12 +13,12 @@ use Rattle.lanes.specs.declared.block_samples.BlockSamples.{BlockSamples}
 use Rattle.lanes.specs.Block.{stored_at}
 use Rattle.canvas.specs.declared.flat_block.FlatBlock.{FlatBlock}
 use Rattle.canvas.specs.declared.way.Way.TheVariants.{Own, FlatFour}
-use Rattle.canvas.specs.Layout.{planes_of_tile, pixel_in_block, way_of, place_by, flat_place, if_bit, own_plane, mask_of, masks_in, more_in, sample_place, in_list, way_in_tile, chosen, KeepsOtherSamples, KeepsOtherWays}
+use Rattle.canvas.specs.Layout.{masks_from, further_plane, first_further, planes_of_tile, pixel_in_block, way_of, place_by, flat_place, if_bit, own_plane, mask_of, masks_in, more_in, sample_place, in_list, way_in_tile, chosen, KeepsOtherSamples, KeepsOtherWays}
 use Rattle.canvas.specs.FlatBlocks.{flat_sample, HasFlat}
 use Rattle.canvas.specs.Palettes.{palette_number, sample_numbered, palette_sample, place_of_number, HasPalette, IsGathered, HasNumbers, IsSampleStored, AreSamplesStored, KeepsOtherPlaces}
 use Rattle.canvas.proofs.MaskBits.{full, bit_shared, bit_of_rest}
 use Rattle.canvas.proofs.Pairs.{chosen_set, chosen_clear, four_by}
-use Rattle.canvas.proofs.Places.{none, four_place, behind_first, within_way, last_sample, before_last}
+use Rattle.canvas.proofs.Places.{none, four_place, behind_first, within_way, last_sample, further_below, further_where, further_not_first}
 use Rattle.canvas.proofs.TilePlanes.{cases_eq, by_any_way, way_set, behind_set}
 use Rattle.canvas.proofs.FlatBlocks.{elsewhere, sample_kept, put_here, put_first, flat_elsewhere, masks_kept, state_kept, others_kept}
 
@@ -263,10 +263,11 @@ by_bits (suc (suc a)) b x y l h = absurd (omega (arith, l))
 by_bits zero (suc (suc b)) x y l h = absurd (omega (arith, h))
 by_bits (suc zero) (suc (suc b)) x y l h = absurd (omega (arith, h))
 
-module _ (count : SampleCount) (k : ℕ) (palette : Palette) (marks more state : BlockSamples) (old middle : List BlockSamples) (c d : ℕ) (is_c : c ≡ place_by count Own k (count_of count - 1)) (is_d : d ≡ place_by count Own k (count_of count - 2))
+module _ (count : SampleCount) (k : ℕ) (palette : Palette) (marks more state : BlockSamples) (old middle : List BlockSamples) (c d : ℕ) (is_c : c ≡ place_by count Own k (count_of count - 1)) (is_d : d ≡ place_by count Own k (further_plane count))
     (some : 4 ≤ count_of count) (small : k < 64) (long : length middle ≡ planes_of_tile count)
     (stored : AreSamplesStored count k palette middle) (kept : KeepsOtherPlaces count k old middle) (same_state : in_list middle 0 ≡ in_list old 0)
-    (low : (s : ℕ) → s < count_of count → mask_of marks s ≡ slice_index palette.low s) (high : (s : ℕ) → s < count_of count → mask_of more s ≡ slice_index palette.high s) where
+    (low : (s : ℕ) → s < count_of count → mask_of marks s ≡ slice_index palette.low s) (high : (s : ℕ) → s < count_of count → mask_of (masks_from (first_further count) more) s ≡ slice_index palette.high s)
+    (before : (s : ℕ) → s < first_further count → mask_of more s ≡ mask_of (in_list (slice_set middle c marks) d) s) where
   abbrev marked : List BlockSamples
   marked = slice_set middle c marks
 
@@ -275,7 +276,7 @@ module _ (count : SampleCount) (k : ℕ) (palette : Palette) (marks more state :
 
   first_marked : in_list twice 0 ≡ in_list old 0
   first_marked =
-      get_or-set_other marked d 0 more none (λ e. behind_first count Own k (count_of count - 2) (sym (e ∙ is_d)))
+      get_or-set_other marked d 0 more none (λ e. behind_first count Own k (further_plane count) (sym (e ∙ is_d)))
       ∙ get_or-set_other middle c 0 marks none (λ e. behind_first count Own k (count_of count - 1) (sym (e ∙ is_c)))
       ∙ same_state
 
@@ -289,23 +290,35 @@ module _ (count : SampleCount) (k : ℕ) (palette : Palette) (marks more state :
     is_way : way_in_tile new k ≡ FlatFour
     is_way = way_set twice state k FlatFour (omega (arith, long_twice)) is_four
 
-    masks_there : in_list new (place_by count Own k (count_of count - 1)) ≡ marks
-    masks_there =
-        behind_set twice state (place_by count Own k (count_of count - 1)) (behind_first count Own k (count_of count - 1))
-        ∙ get_or-set_other marked d (place_by count Own k (count_of count - 1)) more none (λ e. omega (arith, e, is_d, some))
-        ∙ ap (in_list marked) (sym is_c)
-        ∙ get_or-set_same middle c marks none (omega (arith, is_c, long, within_way count Own k (count_of count - 1) small (last_sample count)))
-
-    more_there : in_list new (place_by count Own k (count_of count - 2)) ≡ more
+    more_there : in_list new (place_by count Own k (further_plane count)) ≡ more
     more_there =
-        behind_set twice state (place_by count Own k (count_of count - 2)) (behind_first count Own k (count_of count - 2))
+        behind_set twice state (place_by count Own k (further_plane count)) (behind_first count Own k (further_plane count))
         ∙ ap (in_list twice) (sym is_d)
-        ∙ get_or-set_same marked d more none (omega (arith, is_d, long, length-set middle c marks, within_way count Own k (count_of count - 2) small (before_last count)))
+        ∙ get_or-set_same marked d more none (omega (arith, is_d, long, length-set middle c marks, within_way count Own k (further_plane count) small (further_below count)))
+
+    marks_there : in_list marked c ≡ marks
+    marks_there = get_or-set_same middle c marks none (omega (arith, is_c, long, within_way count Own k (count_of count - 1) small (last_sample count)))
+
+    -- the masks are in a plane of their own, or before the further ones
+    masks_there : (s : ℕ) → s < count_of count → mask_of (in_list new (place_by count Own k (count_of count - 1))) s ≡ slice_index palette.low s
+    masks_there s h = elim (further_where count) [
+      | inl same ↦
+          let at : place_by count Own k (count_of count - 1) ≡ place_by count Own k (further_plane count) = ap (place_by count Own k) (sym same.0) in
+          let first : s < first_further count = omega (arith, h, same.1) in
+          ap (λ q. mask_of (in_list new q) s) at ∙ ap (λ plane. mask_of plane s) more_there ∙ before s first
+          ∙ ap (λ q. mask_of (in_list marked q) s) (is_d ∙ sym at ∙ sym is_c) ∙ ap (λ plane. mask_of plane s) marks_there ∙ low s h
+      | inr apart ↦
+          ap (λ plane. mask_of plane s)
+          (behind_set twice state (place_by count Own k (count_of count - 1)) (behind_first count Own k (count_of count - 1))
+          ∙ get_or-set_other marked d (place_by count Own k (count_of count - 1)) more none (λ e. omega (arith, e, is_d, apart.0))
+          ∙ ap (in_list marked) (sym is_c) ∙ marks_there)
+          ∙ low s h
+    ]
 
     sample_there : (n : ℕ) → n < count_of count → in_list new (flat_place count k n) ≡ in_list middle (flat_place count k n)
     sample_there n l =
         behind_set twice state (flat_place count k n) (behind_first count FlatFour k n)
-        ∙ get_or-set_other marked d (flat_place count k n) more none (λ e. flat_elsewhere count k n k (count_of count - 2) some l (before_last count) (λ _ zero. omega (arith, some, zero)) (e ∙ is_d))
+        ∙ get_or-set_other marked d (flat_place count k n) more none (λ e. flat_elsewhere count k n k (further_plane count) some l (further_below count) (λ _ zero. further_not_first count some zero) (e ∙ is_d))
         ∙ get_or-set_other middle c (flat_place count k n) marks none (λ e. flat_elsewhere count k n k (count_of count - 1) some l (last_sample count) (λ _ zero. omega (arith, some, zero)) (e ∙ is_c))
 
     pub four_made : HasPalette count k palette new
@@ -314,8 +327,8 @@ module _ (count : SampleCount) (k : ℕ) (palette : Palette) (marks more state :
         (λ s p h l.
         let number : ℕ = palette_number palette s p in
         let place : own_plane count FlatFour (masks_in count (in_list new) k) (more_in count (in_list new) k) p s ≡ place_of_number count number =
-        (λ i. if_bit (mask_of (masks_there i) s) p (count_of count / 2) + if_bit (mask_of (more_there i) s) p (count_of count / 4))
-        ∙ (λ i. if_bit (low s h i) p (count_of count / 2) + if_bit (high s h i) p (count_of count / 4))
+        (λ i. if_bit (masks_there s h i) p (count_of count / 2) + if_bit (mask_of (masks_from (first_further count) (more_there i)) s) p (count_of count / 4))
+        ∙ (λ i. if_bit (slice_index palette.low s) p (count_of count / 2) + if_bit (high s h i) p (count_of count / 4))
         ∙ by_bits (bit_at (slice_index palette.low s) p) (bit_at (slice_index palette.high s) p) (count_of count / 2) (count_of count / 4) (bit_at-lt (slice_index palette.low s) p) (bit_at-lt (slice_index palette.high s) p) in
         sym (stored s p h l)
         ∙ ap (λ x. stored_at x k) (sym (sample_there (place_of_number count number) (place_below count number (below_four palette s p))))
@@ -329,6 +342,6 @@ module _ (count : SampleCount) (k : ℕ) (palette : Palette) (marks more state :
         others_kept count k old new four_ways
         (λ way m n p other l h below.
         state_kept count k state twice way m n p other l h below
-        ∙ masks_kept count k (count_of count - 2) d more marked is_d (before_last count) way m n p other l h below
+        ∙ masks_kept count k (further_plane count) d more marked is_d (further_below count) way m n p other l h below
         ∙ masks_kept count k (count_of count - 1) c marks middle is_c (last_sample count) way m n p other l h below
         ∙ kept way m n p other l h below)

@@ -1,10 +1,10 @@
 -- Each tile has planes of its own.
-use Rattle.std.proofs.Common.{◌≡◌, ◌≢◌, ◌⊎◌, ◌∙◌, inl, inr, ap, sym, ℕ, Bool, true, false, ◌+◌, ◌-◌, ◌*◌, ◌/◌, ◌%◌, ◌<◌, ◌≤◌, List, [], ◌++◌, length, take, drop, get_or-append-add, arith}
+use Rattle.std.proofs.Common.{◌≡◌, ◌≢◌, ◌⊎◌, ◌∙◌, inl, inr, refl, ap, sym, ℕ, Bool, true, false, ◌+◌, ◌-◌, ◌*◌, ◌/◌, ◌%◌, ◌<◌, ◌≤◌, List, [], ◌++◌, length, take, drop, slice_index, get_or-append-add, arith}
 use Rattle.std.specs.Prelude.{◌==◌, if◌then◌else◌, slice_index_or}
 use Rattle.std.specs.Int.{bit_at}
 use Rattle.std.proofs.Math.Nat.{mul_comm, add-mul}
 use Rattle.std.proofs.lemmas.Bool.Decides.{eqb_tells}
-use Rattle.std.proofs.lemmas.List.{get_or_append_left}
+use Rattle.std.proofs.lemmas.List.{get_or_append_left, get_or-drop}
 use Rattle.std.proofs.lemmas.Nat.{mul-add-lt, same_from_place}
 use Rattle.grid.specs.Samples.{count_of}
 use Rattle.grid.specs.declared.sample_count.SampleCount.{SampleCount}
@@ -16,7 +16,7 @@ use Rattle.canvas.proofs.Cut.{put, put_here, put_elsewhere, part_of}
 use Rattle.canvas.specs.declared.canvas.Canvas.{Canvas}
 use Rattle.canvas.specs.declared.way.Way.{Way}
 use Rattle.canvas.specs.declared.way.Way.TheVariants.{Cleared, Single, Pair, Own, Flat, FlatPair, FlatFour}
-use Rattle.canvas.specs.Layout.{more_in, columns_of, planes_of_tile, planes_of_row, block_in_tile, pixel_in_block, way_of, mask_of, own_plane, place_by, flat_place, slot_by, masks_in, sample_place, place_in_tile, sample_in, plane_of, in_list, stored, stored_in_tile}
+use Rattle.canvas.specs.Layout.{masks_from, further_plane, first_further, more_in, columns_of, planes_of_tile, planes_of_row, block_in_tile, pixel_in_block, way_of, mask_of, own_plane, place_by, flat_place, slot_by, masks_in, sample_place, place_in_tile, sample_in, plane_of, in_list, stored, stored_in_tile}
 
 abbrev pub none : BlockSamples
 none = record { z = []; r = []; g = []; b = []; alpha = [] }
@@ -80,11 +80,46 @@ pub within_masks : (count : SampleCount) (k : ℕ) → k < 64 → 1 + (k + 1) * 
 within_masks count k l = within_way count Own k (count_of count - 1) l (last_sample count)
 
 -- further masks
-pub before_last : (count : SampleCount) → count_of count - 2 < count_of count
-before_last count = omega (arith, some_samples count)
+pub further_below : (count : SampleCount) → further_plane count < count_of count
+further_below One = omega arith
+further_below Two = omega arith
+further_below Four = omega arith
+further_below Eight = omega arith
+further_below Sixteen = omega arith
 
-pub within_more : (count : SampleCount) (k : ℕ) → k < 64 → 1 + (k + 1) * count_of count + (count_of count - 2) < planes_of_tile count
-within_more count k l = within_way count Own k (count_of count - 2) l (before_last count)
+pub few_further : (count : SampleCount) → first_further count + count_of count ≤ 16
+few_further One = omega arith
+few_further Two = omega arith
+few_further Four = omega arith
+few_further Eight = omega arith
+few_further Sixteen = omega arith
+
+-- the further ones are in the plane of the others, behind them, or in another plane
+pub further_where : (count : SampleCount) → ((further_plane count ≡ count_of count - 1) × (first_further count ≡ count_of count)) ⊎ ((further_plane count + 1 ≡ count_of count - 1) × (first_further count ≡ 0))
+further_where One = inl (refl, refl)
+further_where Two = inl (refl, refl)
+further_where Four = inl (refl, refl)
+further_where Eight = inl (refl, refl)
+further_where Sixteen = inr (refl, refl)
+
+pub further_not_first : (count : SampleCount) → 4 ≤ count_of count → further_plane count ≢ 0
+further_not_first One some e = omega (arith, some)
+further_not_first Two some e = omega (arith, some)
+further_not_first Four some e = omega (arith, e)
+further_not_first Eight some e = omega (arith, e)
+further_not_first Sixteen some e = omega (arith, e)
+
+pub mask_from : (n : ℕ) (plane : BlockSamples) (s : ℕ) → mask_of (masks_from n plane) s ≡ mask_of plane (n + s)
+mask_from n plane s = λ i. first i + 65536 * word 1 i + 4294967296 * word 2 i + 281474976710656 * word 3 i
+  where
+    first : slice_index (drop (4 * n) plane.z) (4 * s) ≡ slice_index plane.z (4 * (n + s))
+    first = get_or-drop (4 * n) plane.z (4 * s) 0 ∙ ap (slice_index plane.z) (omega arith)
+
+    word : (j : ℕ) → slice_index (drop (4 * n) plane.z) (4 * s + j) ≡ slice_index plane.z (4 * (n + s) + j)
+    word j = get_or-drop (4 * n) plane.z (4 * s + j) 0 ∙ ap (slice_index plane.z) (omega arith)
+
+pub within_more : (count : SampleCount) (k : ℕ) → k < 64 → 1 + (k + 1) * count_of count + further_plane count < planes_of_tile count
+within_more count k l = within_way count Own k (further_plane count) l (further_below count)
 
 either_plane : (count : SampleCount) (b : Bool) → (if b then count_of count / 2 else 0) < count_of count
 either_plane count true = middle_sample count
@@ -156,7 +191,7 @@ same_in count f g i j s h same =
     let p : ℕ = pixel_in_block i j in
     ap (λ state. stored_at (f (sample_place count (way_of state k) f k p s)) (slot_by (way_of state k) k p)) (same 0 (some_planes count))
     ∙ ap (λ masks. stored_at (f (place_by count (way_of (g 0) k) k (own_plane count (way_of (g 0) k) masks (more_in count f k) p s))) (slot_by (way_of (g 0) k) k p)) (same (1 + (k + 1) * count_of count + (count_of count - 1)) (within_masks count k (omega arith)))
-    ∙ ap (λ more. stored_at (f (place_by count (way_of (g 0) k) k (own_plane count (way_of (g 0) k) (masks_in count g k) more p s))) (slot_by (way_of (g 0) k) k p)) (same (1 + (k + 1) * count_of count + (count_of count - 2)) (within_more count k (omega arith)))
+    ∙ ap (λ more. stored_at (f (place_by count (way_of (g 0) k) k (own_plane count (way_of (g 0) k) (masks_in count g k) (masks_from (first_further count) more) p s))) (slot_by (way_of (g 0) k) k p)) (same (1 + (k + 1) * count_of count + further_plane count) (within_more count k (omega arith)))
     ∙ ap (λ plane. stored_at plane (slot_by (way_of (g 0) k) k p)) (same (place_in_tile count g i j s) (within_tile count g i j s h))
 
 -- ---- a tile row among tile rows

@@ -13,12 +13,12 @@ use Rattle.lanes.specs.declared.block_samples.BlockSamples.{BlockSamples}
 use Rattle.lanes.specs.Block.{stored_at}
 use Rattle.canvas.specs.declared.canvas.Canvas.{Canvas}
 use Rattle.canvas.specs.declared.way.Way.TheVariants.{Cleared}
-use Rattle.canvas.specs.Layout.{IsStoredIn, columns_of, planes_of_tile, planes_of_row, block_in_tile, way_of, place_by, slot_by, place_in_tile, stored, stored_in_tile, way_in_tile, pixel_in_block, in_list}
+use Rattle.canvas.specs.Layout.{masks_from, further_plane, first_further, IsStoredIn, columns_of, planes_of_tile, planes_of_row, block_in_tile, way_of, place_by, slot_by, place_in_tile, stored, stored_in_tile, way_in_tile, pixel_in_block, in_list}
 use Rattle.canvas.specs.Colours.{id_of}
 use Rattle.canvas.specs.Tiles.{IsInTile, tile_entries, entry_in_tile, said_of, IsUniformTile, planes_in, with_colour}
 use Rattle.canvas.proofs.Cut.{part_of}
 use Rattle.canvas.proofs.Places.{none, slot_below, row_of, tile_of, same_in, within_row}
-use Rattle.canvas.proofs.TilePlanes.{by_way, by_any_way, same_own_plane, same_mask}
+use Rattle.canvas.proofs.TilePlanes.{by_way, by_any_way, same_own_plane, same_mask, same_further}
 
 -- ---- numbers of planes and entries
 -- the number of its sample's plane among those of the tile's own blocks
@@ -177,12 +177,12 @@ sample_recoloured count from place colour f old new i j s index behind h l is al
     let p : ℕ = pixel_in_block i j in
     let slot : ℕ = slot_by way k p in
     let masks : ℕ = 1 + (k + 1) * count_of count + (count_of count - 1) in
-    let more : ℕ = 1 + (k + 1) * count_of count + (count_of count - 2) in
+    let more : ℕ = 1 + (k + 1) * count_of count + further_plane count in
     by_any_way count new way i j s (ap (λ (state : BlockSamples). way_of state k) first)
     ∙ ap (λ n. stored_at (in_list new (place_by count way k n)) slot)
-    (same_own_plane count way (in_list new masks) (in_list old masks) (in_list new more) (in_list old more) p s (
+    (same_own_plane count way (in_list new masks) (in_list old masks) (masks_from (first_further count) (in_list new more)) (masks_from (first_further count) (in_list old more)) p s (
       (λ _. same_mask (in_list new masks) (in_list old masks) s (omega (arith, index, few_samples count)) (λ n small. same_depths from place f old new masks n small all)),
-      (λ _. same_mask (in_list new more) (in_list old more) s (omega (arith, index, few_samples count)) (λ n small. same_depths from place f old new more n small all)),
+      (λ _. same_further count (in_list new more) (in_list old more) s index (λ n small. same_depths from place f old new more n small all)),
     ))
     ∙ all.changed at slot h l (slot_below way k p (omega arith) (omega arith))
     ∙ ap (λ n. with_colour n (stored_at (in_list old at) slot)) is

@@ -14,8 +14,8 @@ use Rattle.lanes.specs.declared.block_samples.BlockSamples.{BlockSamples}
 use Rattle.lanes.specs.Block.{stored_at}
 use Rattle.canvas.specs.declared.way.Way.{Way}
 use Rattle.canvas.specs.declared.way.Way.TheVariants.{Cleared, Single, Pair, Own, Flat, FlatPair, FlatFour}
-use Rattle.canvas.specs.Layout.{if_bit, more_in, planes_of_tile, block_in_tile, pixel_in_block, way_of, place_by, flat_place, slot_by, is_plain, mask_of, own_plane, masks_in, sample_place, in_list, stored_in_tile, way_in_tile, IsSameTile, KeepsOtherWays, AreOwnBy, KeepsOtherPlanes, place_in_tile}
-use Rattle.canvas.proofs.Places.{none, four_place, behind_first, within_block, last_sample, before_last}
+use Rattle.canvas.specs.Layout.{masks_from, further_plane, first_further, if_bit, more_in, planes_of_tile, block_in_tile, pixel_in_block, way_of, place_by, flat_place, slot_by, is_plain, mask_of, own_plane, masks_in, sample_place, in_list, stored_in_tile, way_in_tile, IsSameTile, KeepsOtherWays, AreOwnBy, KeepsOtherPlanes, place_in_tile}
+use Rattle.canvas.proofs.Places.{none, four_place, behind_first, within_block, last_sample, further_below, few_further, mask_from}
 
 pub cases_eq : (a b : ℕ) → (a ≡ b) ⊎ (a ≢ b)
 cases_eq a b =
@@ -78,6 +78,10 @@ same_own_plane count FlatFour a b c d p s same = (λ i. if_bit (same.0 refl i) p
 pub same_mask : (a b : BlockSamples) (s : ℕ) → s < 16 → ((k : ℕ) → k < 64 → slice_index a.z k ≡ slice_index b.z k) → mask_of a s ≡ mask_of b s
 same_mask a b s l same =
     omega (arith, same (4 * s) (omega (arith, l)), same (4 * s + 1) (omega (arith, l)), same (4 * s + 2) (omega (arith, l)), same (4 * s + 3) (omega (arith, l)))
+
+pub same_further : (count : SampleCount) (a b : BlockSamples) (s : ℕ) → s < count_of count → ((k : ℕ) → k < 64 → slice_index a.z k ≡ slice_index b.z k) → mask_of (masks_from (first_further count) a) s ≡ mask_of (masks_from (first_further count) b) s
+same_further count a b s l same =
+    mask_from (first_further count) a s ∙ same_mask a b (first_further count + s) (let few = few_further count in omega (arith, few, l)) same ∙ sym (mask_from (first_further count) b s)
 
 -- in a block that is neither a pair nor flat all pixels have their sample of an index in one plane
 pub in_block : (count : SampleCount) (xs : List BlockSamples) (a b i j s : ℕ) → block_in_tile i j ≡ block_in_tile a b → is_plain (way_in_tile xs (block_in_tile a b)) ≡ true
@@ -162,7 +166,7 @@ others_same count k old new ways planes i j s h other =
     let way = way_in_tile old m in
     let behind : (w : Way) (n : ℕ) → n < count_of count → in_list new (place_by count w m n) ≡ in_list old (place_by count w m n) =
     λ w n small. planes (place_by count w m n) (behind_first count w m n) (λ t l. own_apart count w m k n t other small l) in
-    same_by_way count old new i j s h (ways m (omega arith) other) ((λ _. ap (λ plane. mask_of plane s) (behind Own (count_of count - 1) (last_sample count))), (λ _. ap (λ plane. mask_of plane s) (behind Own (count_of count - 2) (before_last count))))
+    same_by_way count old new i j s h (ways m (omega arith) other) ((λ _. ap (λ plane. mask_of plane s) (behind Own (count_of count - 1) (last_sample count))), (λ _. ap (λ plane. mask_of (masks_from (first_further count) plane) s) (behind Own (further_plane count) (further_below count))))
     (λ n small. ap (λ plane. stored_at plane (slot_by way m (pixel_in_block i j))) (behind way n small))
 
 -- the first plane, changed

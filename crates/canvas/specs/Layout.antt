@@ -1,5 +1,5 @@
 -- Where the samples of a picture lie, in planes that the caller keeps.
-use Rattle.std.specs.Prelude.{◌≡◌, ◌≢◌, Bool, true, false, ℕ, ◌+◌, ◌-◌, ◌*◌, ◌/◌, ◌%◌, ◌<◌, ◌≤◌, ◌==◌, if◌then◌else◌, List, [], slice_index, slice_index_or}
+use Rattle.std.specs.Prelude.{◌≡◌, ◌≢◌, Bool, true, false, ℕ, ◌+◌, ◌-◌, ◌*◌, ◌/◌, ◌%◌, ◌<◌, ◌≤◌, ◌==◌, if◌then◌else◌, List, [], drop, slice_index, slice_index_or}
 use Rattle.std.specs.Int.{bit_at}
 use Rattle.grid.specs.Samples.{count_of}
 use Rattle.grid.specs.declared.sample_count.SampleCount.{SampleCount}
@@ -155,13 +155,34 @@ masks_place count k = 1 + (k + 1) * count_of count + (count_of count - 1)
 abbrev pub masks_in : SampleCount → (ℕ → BlockSamples) → ℕ → BlockSamples
 masks_in count planes k = planes (masks_place count k)
 
--- The index of the plane with the further masks of block k, if it has up to four samples: the last but one of its own planes.
+-- The masks of a plane from this number on.
+abbrev pub masks_from : ℕ → BlockSamples → BlockSamples
+masks_from n plane = record { z = drop (4 * n) plane.z; r = plane.r; g = plane.g; b = plane.b; alpha = plane.alpha }
+
+-- Which of a block's own planes has its further masks, if it has up to four samples: the last one, behind its masks. With 16 samples of a
+-- pixel that one has no room for both, and they are in the last but one.
+abbrev pub further_plane : SampleCount → ℕ
+further_plane One = 0
+further_plane Two = 1
+further_plane Four = 3
+further_plane Eight = 7
+further_plane Sixteen = 14
+
+-- The number of the first further mask among those of its plane.
+abbrev pub first_further : SampleCount → ℕ
+first_further One = 1
+first_further Two = 2
+first_further Four = 4
+first_further Eight = 8
+first_further Sixteen = 0
+
+-- The index of the plane with the further masks of block k among those of its tile.
 abbrev pub more_place : SampleCount → ℕ → ℕ
-more_place count k = 1 + (k + 1) * count_of count + (count_of count - 2)
+more_place count k = 1 + (k + 1) * count_of count + further_plane count
 
 -- The further masks of block k of a tile with these planes.
 abbrev pub more_in : SampleCount → (ℕ → BlockSamples) → ℕ → BlockSamples
-more_in count planes k = planes (more_place count k)
+more_in count planes k = masks_from (first_further count) (planes (more_place count k))
 
 -- The index of the plane of sample s of pixel p of block k among those of its tile, if it keeps its samples in this way.
 abbrev pub sample_place : SampleCount → Way → (ℕ → BlockSamples) → ℕ → ℕ → ℕ → ℕ

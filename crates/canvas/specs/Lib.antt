@@ -23,7 +23,10 @@
 --   own_plane: Which of the own planes of a block has sample s of pixel p.
 --   masks_place: The index of the plane with the masks of block k among those of its tile, if it is a pair: the last of its own planes.
 --   masks_in: The masks of block k of a tile with these planes.
---   more_place: The index of the plane with the further masks of block k, if it has up to four samples: the last but one of its own planes.
+--   masks_from: The masks of a plane from this number on.
+--   further_plane: Which of a block's own planes has its further masks, if it has up to four samples: the last one, behind its masks.
+--   first_further: The number of the first further mask among those of its plane.
+--   more_place: The index of the plane with the further masks of block k among those of its tile.
 --   more_in: The further masks of block k of a tile with these planes.
 --   sample_place: The index of the plane of sample s of pixel p of block k among those of its tile, if it keeps its samples in this way.
 --   place_in_tile: The index of the plane of sample s of pixel (i, j) among those of its tile.
@@ -119,6 +122,7 @@
 --   palette_sample: Sample s of pixel p of the block.
 --   HasPalette: The samples of block k of a tile are these.
 --   IsPaletteReplaced: Where the masks have a bit, the sample of the same number among `drawn` has taken the place of each sample.
+--   IsFlatReplacedInFour: Of a block of one sample or two, `first` and `second` have taken the place of these where the masks have a bit.
 --   HasNoPalette: No palette has what is to be there then: it is more than four samples.
 --   HasNumbers: The mask has the bit of pixel p if its sample s has this number.
 --   place_of_number: The number among those of the samples of a pixel with which sample `number` of a flat block is stored.

@@ -5,10 +5,12 @@ use Rattle.grid.specs.Samples.{count_of}
 use Rattle.grid.specs.declared.sample_count.SampleCount.{SampleCount}
 use Rattle.shade.specs.declared.sample.CanvasSample.{CanvasSample}
 use Rattle.lanes.specs.declared.block_samples.BlockSamples.{BlockSamples}
+use Rattle.canvas.specs.declared.flat_block.FlatBlock.{FlatBlock}
 use Rattle.canvas.specs.declared.palette.Palette.{Palette}
 use Rattle.lanes.specs.Block.{stored_at}
 use Rattle.canvas.specs.declared.way.Way.{Way}
 use Rattle.canvas.specs.Layout.{block_in_tile, pixel_in_block, place_by, flat_place, slot_by, in_list, stored_in_tile, chosen}
+use Rattle.canvas.specs.FlatBlocks.{flat_sample, with_samples}
 
 -- The number of sample s of pixel p in the palette: the pixel's bit in the low mask, and twice that in the high one.
 abbrev pub palette_number : Palette → ℕ → ℕ → ℕ
@@ -32,6 +34,12 @@ abbrev pub IsPaletteReplaced : SampleCount → Palette → List ℕ → List Can
 IsPaletteReplaced count old masks drawn new =
     (s p : ℕ) → s < count_of count → p < 64
     → palette_sample new s p ≡ chosen (slice_index masks s) p (sample_numbered drawn (palette_number old s p)) (palette_sample old s p)
+
+-- Of a block of one sample or two, `first` and `second` have taken the place of these where the masks have a bit.
+abbrev pub IsFlatReplacedInFour : SampleCount → FlatBlock → List ℕ → CanvasSample → CanvasSample → Palette → Type 0
+IsFlatReplacedInFour count old masks first second new =
+    (s p : ℕ) → s < count_of count → p < 64
+    → palette_sample new s p ≡ chosen (slice_index masks s) p (flat_sample (with_samples old first second) s p) (flat_sample old s p)
 
 -- No palette has what is to be there then: it is more than four samples.
 abbrev pub HasNoPalette : SampleCount → Palette → List ℕ → List CanvasSample → Type 0

@@ -5,7 +5,7 @@ ghost use Rattle.std.specs.Simd.Lanes.{Each1};
 ghost use Rattle.grid.specs.Samples.{count_of};
 ghost use Rattle.shade.specs.Resolve.{total};
 ghost use Rattle.lanes.specs.Block.{stored_at};
-ghost use Rattle.canvas.specs.declared.way.Way.TheVariants.{Pair as AsPair, Own as AsOwn, FlatPair as AsFlatPair, FlatFour as AsFour};
+ghost use Rattle.canvas.specs.declared.way.Way.TheVariants.{Flat as AsFlat, Pair as AsPair, Own as AsOwn, FlatPair as AsFlatPair, FlatFour as AsFour};
 ghost use Rattle.canvas.specs.Layout.{planes_of_tile, in_list, way_in_tile};
 ghost use Rattle.canvas.specs.Lanes.{channel_of};
 ghost use Rattle.canvas.specs.Colours.{IsMeanOf, HasMeansOf};
@@ -430,6 +430,17 @@ fn means_of_palette<const COUNT: u32>(
     }
 }
 
+/// The means of the samples of block `k` of a tile with these planes, if the block is kept in one sample.
+#[inline(always)]
+pub(crate) fn means_of_one(count: SampleCount, planes: &[BlockSamples], k: usize) -> BlockSamples
+    requires block { k < 64 }
+    requires planes { length planes.now ≡ planes_of_tile count }
+    requires way { way_in_tile planes.now k ≡ AsFlat }
+    ensures { HasMeansOf count planes.now k result }
+{
+    spread(planes[place_by(count, Way::Flat, k, 0)].sample(k))
+}
+
 /// Makes a plane the means of the samples of block `k` of a tile with these planes. The number of samples of a pixel is
 /// known when this is compiled, so that loops over these are unrolled.
 #[inline(never)]
@@ -447,7 +458,7 @@ pub(crate) fn means_of_block<const COUNT: u32>(
     let way = way_of(&planes[0], k);
     match way {
         Way::Cleared | Way::Single => *means = planes[place_by(count, way, k, 0)],
-        Way::Flat => *means = spread(planes[place_by(count, way, k, 0)].sample(k)),
+        Way::Flat => *means = means_of_one(count, planes, k),
         Way::FlatPair => *means = means_of_flat::<COUNT>(count, planes, k),
         Way::FlatFour => *means = means_of_palette::<COUNT>(count, planes, k),
         Way::Pair => *means = means_of_pair::<COUNT>(count, planes, k),

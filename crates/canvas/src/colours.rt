@@ -7,7 +7,7 @@ ghost use Rattle.canvas.specs.Pixels.{pixel_bytes, shown_rows, IsLargeEnough};
 ghost use Rattle.canvas.specs.Entries.{FitEntries, IsEntriesMisfit};
 ghost use Rattle.canvas.specs.Colours.{IsPixelOf, IsPixelWith, LiesInBlock, LiesInPart, IsSampleColour, AreBytesOfColour, AreWrittenTo, AreResolved, AreColours};
 
-use crate::block_means::means_of_block;
+use crate::block_means::{means_of_block, means_of_one};
 use crate::canvas::Canvas;
 use crate::format::{Format, arranged};
 use crate::misfit::Misfit;
@@ -277,6 +277,9 @@ fn resolve_block(
     if way.is_plain() && (way != Way::Own || count == SampleCount::One) {
         let plane = &planes[place_by(count, way, k, 0)];
         resolve_block_by(rows, plane, across, down, format, bytes);
+    } else if way == Way::Flat {
+        let means = means_of_one(count, planes, k);
+        resolve_block_by(rows, &means, across, down, format, bytes);
     } else {
         resolve_means(rows, planes, across, down, format, bytes);
     }

@@ -1,9 +1,9 @@
 //! Two planes of a block and masks, which say for each sample index in which of the two a pixel has its sample.
-ghost use Rattle.std.specs.Prelude.{◌≡◌, ◌↔◌, ◌≢◌, ◌⊎◌, ℕ, ◌/◌, ◌<◌, ◌≤◌, slice_index, IsTrue};
+ghost use Rattle.std.specs.Prelude.{◌≡◌, ◌↔◌, ◌≢◌, ◌⊎◌, ℕ, ◌+◌, ◌/◌, ◌<◌, ◌≤◌, slice_index, IsTrue};
 ghost use Rattle.std.specs.Int.{bit_at};
 ghost use Rattle.grid.specs.Samples.{count_of};
 ghost use Rattle.lanes.specs.Block.{stored_at};
-ghost use Rattle.canvas.specs.Layout.{mask_of as the_mask, chosen};
+ghost use Rattle.canvas.specs.Layout.{mask_of as the_mask, masks_from, first_further as first_among, chosen};
 
 use crate::mask_lanes::{choose_bytes, choose_depths, lanes_of_mask};
 use grid::SampleCount;
@@ -55,6 +55,65 @@ pub(crate) fn masks_of(count: SampleCount, plane: &BlockSamples) -> [u64; 16]
         masks[s as usize] = mask_of(plane, s);
     }
     masks
+}
+
+/// The number of the own plane of a block with its further masks.
+#[inline(always)]
+pub(crate) fn further_plane(count: SampleCount) -> u32
+    ensures value { result ≡ Rattle.canvas.specs.Layout.further_plane count }
+    ensures within { result < count_of count }
+{
+    match count {
+        SampleCount::Sixteen => 14,
+        _ => count.count() - 1,
+    }
+}
+
+/// The number of the first further mask among those of its plane.
+#[inline(always)]
+fn first_further(count: SampleCount) -> u32
+    ensures value { result ≡ Rattle.canvas.specs.Layout.first_further count }
+    ensures room { result + count_of count ≤ 16 }
+{
+    match count {
+        SampleCount::Sixteen => 0,
+        _ => count.count(),
+    }
+}
+
+/// The further mask of sample index `s` of those that a plane has in place of depths.
+#[inline(always)]
+pub(crate) fn further_mask_of(count: SampleCount, plane: &BlockSamples, s: u32) -> u64
+    requires { s < count_of count }
+    ensures { result ≡ the_mask (masks_from (first_among count) plane.now) s }
+{
+    mask_of(plane, first_further(count) + s)
+}
+
+/// The further masks that a plane has in place of depths.
+#[inline(always)]
+pub(crate) fn further_masks_of(count: SampleCount, plane: &BlockSamples) -> [u64; 16]
+    ensures { (s : ℕ) → s < count_of count →
+        slice_index result s ≡ the_mask (masks_from (first_among count) plane.now) s }
+{
+    let mut masks = [0; 16];
+    for s in 0..count.count() {
+        masks[s as usize] = further_mask_of(count, plane, s);
+    }
+    masks
+}
+
+/// Has a plane have these further masks.
+#[inline(always)]
+pub(crate) fn set_further_masks(count: SampleCount, masks: &[u64; 16], plane: &mut BlockSamples)
+    ensures set { (s : ℕ) → s < count_of count →
+        the_mask (masks_from (first_among count) plane.new) s ≡ slice_index masks.now s }
+    ensures before { (s : ℕ) → s < first_among count → the_mask plane.new s ≡ the_mask plane.old s }
+{
+    let first = first_further(count);
+    for s in 0..count.count() {
+        set_mask(plane, first + s, masks[s as usize]);
+    }
 }
 
 /// Has a plane have these masks.

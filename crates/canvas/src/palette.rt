@@ -6,10 +6,13 @@ ghost use Rattle.lanes.specs.Block.{stored_at};
 ghost use Rattle.canvas.specs.declared.way.Way.TheVariants.{Cleared as AsCleared, Single as AsSingle, Flat as AsFlat, FlatPair as AsFlatPair, FlatFour as AsFour};
 ghost use Rattle.canvas.specs.Layout.{planes_of_tile, in_list, sample_place, way_in_tile, KeepsOtherSamples, KeepsOtherWays};
 ghost use Rattle.canvas.specs.FlatBlocks.{flat_sample, HasOne};
-ghost use Rattle.canvas.specs.Palettes.{palette_number, sample_numbered, palette_sample, HasPalette, IsGathered, IsPaletteReplaced, HasNoPalette, HasNumbers, HasNoNumber, IsNewNumber, IsSampleStored, AreSamplesStored, KeepsOtherPlaces};
+ghost use Rattle.canvas.specs.Palettes.{palette_number, sample_numbered, palette_sample, HasPalette, IsGathered, IsPaletteReplaced, IsFlatReplacedInFour, HasNoPalette, HasNumbers, HasNoNumber, IsNewNumber, IsSampleStored, AreSamplesStored, KeepsOtherPlaces};
 
 use crate::flat_block::{FlatBlock, has_bits, spread};
-use crate::pair::{masks_of, merged, set_masks, shared, united, without};
+use crate::pair::{
+    further_masks_of, further_plane, masks_of, merged, set_further_masks, set_masks, shared,
+    united, without,
+};
 use crate::place::place_by;
 use crate::way::{Way, set_way, way_of};
 use grid::SampleCount;
@@ -82,8 +85,8 @@ impl Palette {
     {
         let many = count.count();
         let low = masks_of(count, &samples[place_by(count, Way::Own, k, many - 1)]);
-        let more = place_by(count, Way::Own, k, many.saturating_sub(2));
-        let high = masks_of(count, &samples[more]);
+        let more = place_by(count, Way::Own, k, further_plane(count));
+        let high = further_masks_of(count, &samples[more]);
         let first = samples[place_by(count, Way::FlatFour, k, 0)].sample(k);
         let second = samples[place_by(count, Way::FlatFour, k, many / 2)].sample(k);
         let third = samples[place_by(count, Way::FlatFour, k, many / 4)].sample(k);
@@ -285,6 +288,28 @@ impl Palette {
         Some(gathered.palette)
     }
 
+    /// The samples of a block of one or two once, where these masks have a bit, `first` has taken the place of the first one,
+    /// and `second` that of the second one. Where `first` and `second` are the same, there is no fourth sample.
+    #[inline(always)]
+    pub fn flat_replaced(
+        count: SampleCount,
+        flat: &FlatBlock,
+        masks: &[u64; 16],
+        first: CanvasSample,
+        second: CanvasSample,
+    ) -> Palette
+        ensures { IsFlatReplacedInFour count flat.now masks.now first second result }
+    {
+        let high = *masks;
+        let samples = [flat.first, flat.second, first, second];
+        if first == second {
+            let low = without(count, &flat.masks, masks);
+            return Palette { samples, low, high };
+        }
+        let low = flat.masks;
+        Palette { samples, low, high }
+    }
+
     /// Stores the sample of this number as one of flat block `k` of a tile.
     #[inline(always)]
     fn store_sample(&self, count: SampleCount, k: usize, number: u32, samples: &mut [BlockSamples])
@@ -339,8 +364,8 @@ impl Palette {
         self.store_samples(count, k, samples);
         let masks = place_by(count, Way::Own, k, count.count() - 1);
         set_masks(count, &self.low, &mut samples[masks]);
-        let more = place_by(count, Way::Own, k, count.count() - 2);
-        set_masks(count, &self.high, &mut samples[more]);
+        let more = place_by(count, Way::Own, k, further_plane(count));
+        set_further_masks(count, &self.high, &mut samples[more]);
         set_way(&mut samples[0], k, Way::FlatFour);
     }
 }

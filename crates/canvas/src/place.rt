@@ -7,7 +7,7 @@ ghost use Rattle.canvas.specs.Layout.{HasPixel, HasTile, columns_of, planes_of_t
 
 use crate::canvas::Canvas;
 use crate::flat_block::spread;
-use crate::pair::{mask_of, merged};
+use crate::pair::{further_mask_of, further_plane, mask_of, merged};
 use crate::palette::Palette;
 use crate::tile_rows::TileRows;
 use crate::way::{Way, way_of};
@@ -108,8 +108,9 @@ fn own_plane(
         }
         Way::FlatFour => {
             let masks = &planes[place_by(count, Way::Own, k, many - 1)];
-            let more = &planes[place_by(count, Way::Own, k, many.saturating_sub(2))];
-            if_bit(mask_of(masks, s), p, many / 2) + if_bit(mask_of(more, s), p, many / 4)
+            let more = &planes[place_by(count, Way::Own, k, further_plane(count))];
+            if_bit(mask_of(masks, s), p, many / 2)
+                + if_bit(further_mask_of(count, more, s), p, many / 4)
         }
         Way::Flat => 0,
         Way::Cleared | Way::Single | Way::Own => s,

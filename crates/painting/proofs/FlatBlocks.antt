@@ -16,7 +16,7 @@ use Rattle.raster.specs.Samples.{IsSampleOf}
 use Rattle.canvas.specs.declared.flat_block.FlatBlock.{FlatBlock}
 use Rattle.canvas.specs.declared.palette.Palette.{Palette}
 use Rattle.canvas.specs.Layout.{block_in_tile, pixel_in_block, stored_in_tile, chosen, KeepsOtherSamples}
-use Rattle.canvas.specs.Palettes.{palette_number, sample_numbered, palette_sample, HasPalette}
+use Rattle.canvas.specs.Palettes.{palette_number, sample_numbered, palette_sample, HasPalette, IsFlatReplacedInFour}
 use Rattle.canvas.proofs.Palettes.{below_four, sample_chosen}
 use Rattle.canvas.specs.FlatBlocks.{flat_sample, with_samples, HasFlat, HasOne, IsFlatReplaced}
 use Rattle.canvas.proofs.Pairs.{chosen_set, chosen_clear}
@@ -115,9 +115,6 @@ module _ (flat : FlatBlock) (words : List ℕ) (first second : CanvasSample) whe
   abbrev pub as_palette : Palette
   as_palette = record { samples = flat.first ∷ flat.second ∷ flat.first ∷ flat.second ∷ []; low = flat.masks; high = words }
 
-  abbrev pub drawn_in_four : Palette
-  drawn_in_four = record { samples = flat.first ∷ flat.second ∷ first ∷ second ∷ []; low = flat.masks; high = words }
-
   abbrev drawn_twice : List CanvasSample
   drawn_twice = first ∷ second ∷ first ∷ second ∷ []
 
@@ -128,13 +125,11 @@ module _ (flat : FlatBlock) (words : List ℕ) (first second : CanvasSample) whe
   pub has_palette : (count : SampleCount) (k : ℕ) (samples : List BlockSamples) → HasFlat count k flat samples → HasPalette count k as_palette samples
   has_palette count k samples has i j s l here = has i j s l here ∙ sym (of_two flat.first flat.second s (pixel_in_block i j))
 
-  pub four_drawn : (t : Placed) (count : SampleCount) → DrawsSample t flat.first first → DrawsSample t flat.second second → IsPaletteDrawn t count as_palette words drawn_in_four
-  four_drawn t count draws_first draws_second = (
+  pub four_drawn : (t : Placed) (count : SampleCount) (made : Palette) → DrawsSample t flat.first first → DrawsSample t flat.second second → IsFlatReplacedInFour count flat words first second made → IsPaletteDrawn t count as_palette words made
+  four_drawn t count made draws_first draws_second replaced = (
     drawn_twice,
     each_drawn t as_palette.samples drawn_twice draws_first draws_second draws_first draws_second,
-    (λ s p l m.
-        sym (sample_chosen (slice_index flat.masks s) (slice_index words s) p drawn_in_four.samples)
-        ∙ (λ i. chosen (slice_index words s) p (sym (of_two first second s p) i) (sym (of_two flat.first flat.second s p) i))),
+    (λ s p l m. replaced s p l m ∙ (λ i. chosen (slice_index words s) p (sym (of_two first second s p) i) (sym (of_two flat.first flat.second s p) i))),
   )
 
 module _ (t : Placed) (tile : Tile) (side : tile.side ≡ T64) (bx by : ℕ) (block : LiesIn tile bx by 8) (words : List ℕ) (palette made : Palette) (old new : List BlockSamples)

@@ -19,9 +19,9 @@ use Rattle.raster.specs.Samples.{IsSampleOf, place_of as place_in, stored as in_
 use Rattle.raster.proofs.Rows.{word_full}
 use Rattle.canvas.specs.declared.way.Way.{Way}
 use Rattle.canvas.specs.declared.way.Way.TheVariants.{Cleared, Single, Own, FlatFour}
-use Rattle.canvas.specs.Layout.{stored_in_tile, block_in_tile, pixel_in_block, in_list, place_by, place_in_tile, sample_place, masks_place, more_place, masks_in, more_in, mask_of, own_plane, slot_by, is_plain, way_of, way_in_tile}
+use Rattle.canvas.specs.Layout.{masks_from, further_plane, first_further, stored_in_tile, block_in_tile, pixel_in_block, in_list, place_by, place_in_tile, sample_place, masks_place, more_place, masks_in, more_in, mask_of, own_plane, slot_by, is_plain, way_of, way_in_tile}
 use Rattle.canvas.proofs.Cut.{put, put_here, put_elsewhere, part_of}
-use Rattle.canvas.proofs.Places.{none, last_sample, before_last, within_block, slot_below}
+use Rattle.canvas.proofs.Places.{none, last_sample, further_below, within_block, slot_below}
 use Rattle.canvas.proofs.TilePlanes.{cases_eq, has_own, apart, same_place_by}
 use Rattle.grid.specs.declared.sample_count.SampleCount.{SampleCount}
 use Rattle.painting.specs.declared.masks.Masks.{Masks}
@@ -100,7 +100,7 @@ pub same_places : (count : SampleCount) (q : ℕ) (xs after : List BlockSamples)
 same_places count q xs after first others no_masks i j s =
     let k : ℕ = block_in_tile i j in
     ap (λ (state : BlockSamples). sample_place count (way_of state k) (in_list after) k (pixel_in_block i j) s) (others 0 (λ e. omega (arith, e, first)))
-    ∙ same_place_by count (way_in_tile xs k) xs after k (pixel_in_block i j) s ((λ masked. ap (λ plane. mask_of plane s) (others (masks_place count k) ((no_masks k (omega arith)).0 masked))), (λ four. ap (λ plane. mask_of plane s) (others (more_place count k) ((no_masks k (omega arith)).1 four))))
+    ∙ same_place_by count (way_in_tile xs k) xs after k (pixel_in_block i j) s ((λ masked. ap (λ plane. mask_of plane s) (others (masks_place count k) ((no_masks k (omega arith)).0 masked))), (λ four. ap (λ plane. mask_of (masks_from (first_further count) plane) s) (others (more_place count k) ((no_masks k (omega arith)).1 four))))
 
 -- ---- plane q of a tile, put back with the triangle drawn at it
 module _ (t : Placed) (tile : Tile) (side : tile.side ≡ T64) (q : ℕ) (xs part : List BlockSamples) (n : ℕ) (single : n ≡ 1) (first : 1 ≤ q) (fits : q + n ≤ length xs) (long : length part ≡ n)
@@ -178,7 +178,7 @@ no_masks_at count xs way k n l own here more m small = (
   (λ four e.
       elim (cases_eq m k) [
         | inl same ↦ more (ap (way_in_tile xs) (sym same) ∙ four) (ap (more_place count) (sym same) ∙ e)
-        | inr other ↦ apart count Own way m k (count_of count - 2) n other (before_last count) l own e
+        | inr other ↦ apart count Own way m k (further_plane count) n other (further_below count) l own e
       ]),
 )
 

@@ -20,7 +20,7 @@ use Rattle.canvas.specs.declared.way.Way.{Way}
 use Rattle.canvas.specs.declared.way.Way.TheVariants.{Pair}
 use Rattle.canvas.specs.Hidden.{ReplacesColours}
 use Rattle.canvas.specs.Layout.{block_in_tile, pixel_in_block, in_list, place_by, place_in_tile, sample_place, slot_by, mask_of as mask_in, masks_in, more_in, own_plane, stored_in_tile, way_in_tile, HasMasks, AreReplaced, KeepsOtherSamples}
-use Rattle.canvas.proofs.Places.{middle_sample}
+use Rattle.canvas.proofs.Places.{further_not_first, middle_sample}
 use Rattle.canvas.proofs.TilePlanes.{cases_eq}
 use Rattle.painting.specs.declared.masks.Masks.{Masks}
 use Rattle.canvas.proofs.Ways.{pair_not_four}
@@ -32,7 +32,7 @@ use Rattle.painting.proofs.Tiles.{on_screen, in_block, of_block}
 
 -- ---- the planes of a pair
 pub no_masks_first : (count : SampleCount) (xs : List BlockSamples) (k : ℕ) → 4 ≤ count_of count → HasNoMasks count xs (place_by count Pair k 0)
-no_masks_first count xs k some = no_masks_at count xs Pair k 0 (some_samples count) refl (λ pair e. omega (arith, e, some)) (λ four e. omega (arith, e, some))
+no_masks_first count xs k some = no_masks_at count xs Pair k 0 (some_samples count) refl (λ pair e. omega (arith, e, some)) (λ four e. further_not_first count some (omega (arith, e)))
 
 pub no_masks_second : (count : SampleCount) (xs : List BlockSamples) (k : ℕ) → 4 ≤ count_of count → way_in_tile xs k ≡ Pair → HasNoMasks count xs (place_by count Pair k (count_of count / 2))
 no_masks_second count xs k some was = no_masks_at count xs Pair k (count_of count / 2) (middle_sample count) refl (λ pair e. omega (arith, e, some)) (λ four e. pair_not_four (sym was ∙ four))

@@ -15,11 +15,11 @@ use Rattle.raster.specs.Drawing.{IsChosen, IsInSquare, DrawsMasks}
 use Rattle.raster.specs.Samples.{IsSampleOf, place_of as place_in, stored as in_tile}
 use Rattle.canvas.specs.declared.way.Way.{Way}
 use Rattle.canvas.specs.declared.way.Way.TheVariants.{Cleared, Single, Pair, Own, Flat, FlatPair, FlatFour}
-use Rattle.canvas.specs.Layout.{planes_of_tile, stored_in_tile, way_of, way_in_tile, block_in_tile, pixel_in_block, in_list, is_plain, place_by, flat_place, slot_by, masks_place, more_place, masks_in, more_in, own_plane}
+use Rattle.canvas.specs.Layout.{masks_from, further_plane, first_further, planes_of_tile, stored_in_tile, way_of, way_in_tile, block_in_tile, pixel_in_block, in_list, is_plain, place_by, flat_place, slot_by, masks_place, more_place, masks_in, more_in, own_plane}
 use Rattle.canvas.proofs.Cut.{put, put_elsewhere, part_of}
 use Rattle.canvas.proofs.DrawnTiles.{own_put, mark_put}
-use Rattle.canvas.proofs.Places.{none, last_sample, before_last, within_block, flat_where}
-use Rattle.canvas.proofs.TilePlanes.{by_way, by_any_way, own_place, within_own, same_own_plane, same_mask}
+use Rattle.canvas.proofs.Places.{none, last_sample, further_below, within_block, flat_where}
+use Rattle.canvas.proofs.TilePlanes.{by_way, by_any_way, own_place, within_own, same_own_plane, same_mask, same_further}
 use Rattle.painting.specs.Parts.{number_in_tile, TilePaints}
 
 -- ---- where the samples of a block are
@@ -178,13 +178,13 @@ module _ (t : Placed) (tile : Tile) (side : tile.side ≡ T64) (bx by from : ℕ
         let place : ℕ = masks_place tile.count here_block in
         let more : ℕ = more_place tile.count here_block in
         let depths = λ (k : ℕ) (l : k < 64). ap (λ (x : CanvasSample). x.z) (same_in_block row column s h not_own k (count_of tile.count - 1) l (last_sample tile.count)) in
-        let depths_before = λ (k : ℕ) (l : k < 64). ap (λ (x : CanvasSample). x.z) (same_in_block row column s h not_own k (count_of tile.count - 2) l (before_last tile.count)) in
+        let depths_before = λ (k : ℕ) (l : k < 64). ap (λ (x : CanvasSample). x.z) (same_in_block row column s h not_own k (further_plane tile.count) l (further_below tile.count)) in
         let few : s < 16 = omega (arith, h.is_sample, few_samples tile.count) in
         let masks_same = same_mask (in_list new place) (in_list old place) s few depths in
-        let more_same = same_mask (in_list new more) (in_list old more) s few depths_before in
+        let more_same = same_further tile.count (in_list new more) (in_list old more) s h.is_sample depths_before in
         let plane : ℕ = own_plane tile.count way (masks_in tile.count (in_list old) here_block) (more_in tile.count (in_list old) here_block) here_pixel s in
         by_any_way tile.count new way column row s (ap (λ (state : BlockSamples). way_of state here_block) same_state ∙ e)
-        ∙ ap (λ k. stored_at (in_list new (place_by tile.count way here_block k)) (slot_by way here_block here_pixel)) (same_own_plane tile.count way (in_list new place) (in_list old place) (in_list new more) (in_list old more) here_pixel s ((λ _. masks_same), (λ _. more_same)))
+        ∙ ap (λ k. stored_at (in_list new (place_by tile.count way here_block k)) (slot_by way here_block here_pixel)) (same_own_plane tile.count way (in_list new place) (in_list old place) (masks_from (first_further tile.count) (in_list new more)) (masks_from (first_further tile.count) (in_list old more)) here_pixel s ((λ _. masks_same), (λ _. more_same)))
         ∙ planes plane (within_block tile.count way (masks_in tile.count (in_list old) here_block) (more_in tile.count (in_list old) here_block) here_pixel s h.is_sample)
         ∙ sym (by_any_way tile.count old way column row s e)
 

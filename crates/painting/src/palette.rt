@@ -34,11 +34,12 @@ impl CoveredBlock<'_> {
     }
 
     /// Draws the triangle at those samples of the block that are in the masks, if it is kept in one sample or two. Beside
-    /// these it has what is made of each afterwards. Returns whether it was drawn; else all planes are unchanged.
-    #[inline(always)]
-    fn paint_two(&self, count: SampleCount, words: &[u64; 16], samples: &mut [BlockSamples]) -> bool
-        requires count { count ≡ self.now.tile.now.count }
-        requires some { 4 ≤ count_of count }
+    /// these it has what is made of each afterwards. Returns whether it was drawn; else all planes are unchanged. As in
+    /// `paint_few`, the number of samples of a pixel is known when this is compiled.
+    #[inline(never)]
+    fn paint_two<const COUNT: u32>(&self, words: &[u64; 16], samples: &mut [BlockSamples]) -> bool
+        requires count { count_of self.now.tile.now.count ≡ COUNT }
+        requires some { 4 ≤ COUNT }
         requires samples { length samples.old ≡ planes_of_tile self.now.tile.now.count }
         ensures painted { let b = self.now in IsTrue result → TilePaints b.triangle.now b.tile.now
             (IsInWords b.tile.now b.bx b.by words.now) samples.old samples.new }
@@ -46,18 +47,14 @@ impl CoveredBlock<'_> {
         ensures flat { let b = self.now in result ≡ false →
             IsNotKeptFlat b.tile.now.count (number_in_tile b.tile.now b.bx b.by) samples.old }
     {
+        let count = known::<COUNT>(self.tile.count);
         let number = self.number();
         let Some(flat) = FlatBlock::of(count, number, samples) else {
             return false;
         };
         let first = self.drawn(flat.first);
         let second = self.drawn_beside(flat.second, flat.first, first);
-        let (low, high) = (flat.masks, *words);
-        let palette = Palette {
-            samples: [flat.first, flat.second, first, second],
-            low,
-            high,
-        };
+        let palette = Palette::flat_replaced(count, &flat, words, first, second);
         palette.store(count, number, samples);
         true
     }
@@ -83,10 +80,10 @@ impl CoveredBlock<'_> {
             IsNotDrawnInFour b.triangle.now b.tile.now (IsInWords b.tile.now b.bx b.by words.now)
             (number_in_tile b.tile.now b.bx b.by) samples.old }
     {
-        let count = known::<COUNT>(self.tile.count);
-        if self.paint_two(count, words, samples) {
+        if self.paint_two::<COUNT>(words, samples) {
             return true;
         }
+        let count = known::<COUNT>(self.tile.count);
         let number = self.number();
         let Some(palette) = Palette::of(count, number, samples) else {
             return false;

@@ -28,3 +28,9 @@ returns-then-eq c =
     ] in
     by_means c.args.rows.now count xs (in_list xs c.place_by.result) c.args.across c.args.down k c.args.format c.args.bytes.now _ c.block_in_tile-k.ensures.value
     (subst (λ p. HasMeansOf count xs k (in_list xs p)) (sym c.place_by.ensures.value) (means_of_one count xs way k (sym c.way_of-way.ensures) plain alike)) c.resolve_block_by.ensures
+
+pub returns-then-eq-2 : goal.returns-then-eq-2
+returns-then-eq-2 c =
+    let count = c.args.rows.now.tile_rows.canvas.count in
+    by_means c.args.rows.now count c.args.planes.now c.means_of_one-means.result c.args.across c.args.down c.block_in_tile-k.result c.args.format c.args.bytes.now _ c.block_in_tile-k.ensures.value c.means_of_one-means.ensures
+    c.resolve_block_by-then-eq-2.ensures

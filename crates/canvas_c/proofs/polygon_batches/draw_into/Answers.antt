@@ -171,7 +171,8 @@ returns-clause-drawn c =
       holds = λ right.
           let fit : AreFit c.in-Ok.polygons = rw (good.1, good.2, good.3, good.4) right in
           let painted = c.draw_polygons.ensures.painted fit in
-          let drawn =
-          rw (to_z-of_z w32 head.origin_x x, to_z-of_z w32 head.origin_y y, c.over-piece.ensures.rows, c.over-piece.ensures.planes, good.1, good.2, good.3, c.rule_of-rule.ensures, c.state.ensures, c.has_alpha.ensures) at painted in
+          let placed = rw (to_z-of_z w32 head.origin_x x, to_z-of_z w32 head.origin_y y, c.over-piece.ensures.rows, c.over-piece.ensures.planes) at painted in
+          let listed = rw (good.1, good.2, good.3) at placed in
+          let drawn = rw (c.rule_of-rule.ensures, c.state.ensures, c.has_alpha.ensures) at listed in
           subst (ArePainted (shapes_listed (has_alpha head) c.args.ids a) (origin_of head) rows.canvas rows.first rows.end c.args.planes.now) (search rules) drawn;
     }

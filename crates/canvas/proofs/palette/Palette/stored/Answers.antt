@@ -4,7 +4,7 @@ use Rattle.std.proofs.lemmas.Nat.Bits.{bit_at-zero}
 use Rattle.grid.specs.Samples.{count_of}
 use Rattle.lanes.specs.Block.{stored_at}
 use Rattle.canvas.specs.declared.way.Way.TheVariants.{Own}
-use Rattle.canvas.specs.Layout.{place_by, flat_place, mask_of, in_list}
+use Rattle.canvas.specs.Layout.{masks_from, first_further, further_plane, place_by, flat_place, mask_of, in_list}
 use Rattle.canvas.proofs.Palettes.{stored_palette}
 use Rattle.canvas.proofs.palette.Palette.stored.Goals as goal
 use Rattle.canvas.proofs.palette.Palette.stored.Goals.{then-has_bits, else-has_bits}
@@ -16,9 +16,9 @@ returns c s p h l =
     let f = in_list c.args.samples.now in
     let many = c.count-many.ensures in
     let low : ℕ = slice_index c.masks_of-low.result s in
-    let high : ℕ = slice_index c.masks_of-high.result s in
+    let high : ℕ = slice_index c.further_masks_of-high.result s in
     let place : c.place_by.result ≡ place_by count Own k (count_of count - 1) = c.place_by.ensures.value ∙ ap (λ n. place_by count Own k (n - 1)) many in
-    let more : c.place_by-more.result ≡ place_by count Own k (count_of count - 2) = c.place_by-more.ensures.value ∙ ap (place_by count Own k) (omega (arith, c.saturating_sub.ensures, many)) in
+    let more : c.place_by-more.result ≡ place_by count Own k (further_plane count) = c.place_by-more.ensures.value ∙ ap (place_by count Own k) c.further_plane.ensures.value in
     let last : c.place_by-last.result ≡ flat_place count k (count_of count / 2 + count_of count / 4) = c.place_by-last.ensures.value ∙ ap (λ n. flat_place count k (n / 2 + n / 4)) many in
     let fourth : bit_at low p ≡ 1 → bit_at high p ≡ 1 → c.if-has_bits.fourth ≡ stored_at (f (flat_place count k (count_of count / 2 + count_of count / 4))) k =
     λ in_low in_high.
@@ -32,6 +32,6 @@ returns c s p h l =
           omega (arith, both, zero))
     ] in
     stored_palette count f k s p low high c.sample-first.result c.sample-second.result c.sample-third.result c.if-has_bits.fourth (c.masks_of-low.ensures s h ∙ ap (λ n. mask_of (f n) s) place)
-    (c.masks_of-high.ensures s h ∙ ap (λ n. mask_of (f n) s) more) (c.sample-first.ensures ∙ ap (λ n. stored_at (f n) k) c.place_by-2.ensures.value)
+    (c.further_masks_of-high.ensures s h ∙ ap (λ n. mask_of (masks_from (first_further count) (f n)) s) more) (c.sample-first.ensures ∙ ap (λ n. stored_at (f n) k) c.place_by-2.ensures.value)
     (c.sample-second.ensures ∙ ap (λ n. stored_at (f n) k) (c.place_by-3.ensures.value ∙ ap (λ n. flat_place count k (n / 2)) many))
     (c.sample-third.ensures ∙ ap (λ n. stored_at (f n) k) (c.place_by-4.ensures.value ∙ ap (λ n. flat_place count k (n / 4)) many)) fourth
