@@ -20,7 +20,7 @@ from tools.sources.rattle import functions_in
 
 # The rows of the table of wrong bodies, and the edits and tests that they name: a wrong body that was named once stays
 # named. Raise them with each new row or name.
-ROWS, NAMES = 108, 485
+ROWS, NAMES = 108, 489
 
 
 def edits() -> list[str]:
