@@ -18,6 +18,7 @@
 # To test what was built:
 #   make test      everything that runs, over bin/ and lib/, which it builds if they are missing or old; make test-long takes longer forms.
 #                  Each check is a goal too, as named below; with LONG=1 it takes its longer form
+#   make packages  install the Debian packages of all checks, as root: those of tools/packages.txt that are missing
 #   make hostile   the check fault-injection: readers, writers, devices and threads that fail
 #   make races     run the program under valgrind; no part of make test
 #   make conformance  compare the machine's OpenGL driver with the program, sample by sample; out/conformance.html.
@@ -26,9 +27,8 @@
 #   make conformance-windows  write dist/trirast-conformance-windows.zip, which asks Direct3D and Vulkan on a Windows machine
 #
 # To prove it:
-#   make prove     everything that needs the prover: each crate with its tests, the programs by two compilers, the must-fail edits that
-#                  are due and a sample; make prove-all runs the whole of rt ci, which tries all of them
-#   make record    write the edits that make prove saw refused into tests/edits_tried.json
+#   make prove     rt ci: each crate from nothing with its tests, the programs by two compilers, and the must-fail edits; what an earlier
+#                  run passed on this machine is taken over by the checksums of all that it read
 #
 # To measure it:
 #   make bench     time the program on generated scenes
@@ -47,6 +47,13 @@ ifndef PYTHON
 HAS_PYTEST := -c 'import importlib.util as found; raise SystemExit(not found.find_spec("pytest"))'
 PYTHON := $(or $(shell for it in python3 /usr/bin/python3; do $$it $(HAS_PYTEST) 2> /dev/null && echo $$it && break; done),python3)
 endif
+# One line if the kit is missing, before anything is built by it.
+KIT = command -v $(RT) > /dev/null || { echo "$(RT): not found. This needs the Rattle kit, which is not public yet (README.md, Quick start)." \
+    "Without it these run: python3 -m tests.reference.renderer < LIST.json, make model reference documents types check-conformance" >&2; \
+    exit 1; }
+# One line if packages of Debian are missing.
+PACKAGES = command -v $(PYTHON) > /dev/null || { echo "make $@ cannot start without these packages: apt-get install" \
+    "python3-pytest gcc libc6-dev binutils netpbm" >&2; exit 1; }; $(PYTHON) -m tools.packages
 PREFIX ?= /usr/local
 # Where libraries go below PREFIX.
 LIBDIR = lib
@@ -56,6 +63,9 @@ ARCH = x86_64
 CPU =
 ADAPTER ?= hardware
 WINDOWS_CXX ?= x86_64-w64-mingw32-g++
+# Set by .ci/run, if all that crates/*/out/ has is what rt ci has just proved: programs are then those that it built, and archives are
+# built over its libraries.
+OVER_RT_CI ?=
 
 PROGRAM := bin/$(if $(CPU),$(CPU)/)trirast
 WHY := bin/trirast_why
@@ -97,10 +107,12 @@ INSTALLED := 755:$(STUB):bin/trirast 755:$(WHY):bin/trirast_why \
     $(foreach name,$(SHARED) $(LEVEL)/$(SHARED),755:lib/$(name):$(LIBDIR)/$(if $(findstring /,$(name)),glibc-hwcaps/)$(name))
 MADE := $(addprefix $(LIBDIR)/,libtrirast.so pkgconfig/trirast.pc $(addprefix cmake/trirast/,$(CMAKE_FILES)))
 
+MADE_FOLDERS := bin dist lib out bench/out conformance/out web/out
+
 # The checks, each a goal: the names in the list of tools/ci/checks.py.
 CHECKS := $(shell sed -n 's/.*\bname="\([a-z-]*\)".*/\1/p' tools/ci/checks.py)
 
-.PHONY: all why look library install uninstall demo test test-long prove prove-all record help races bench frames model conformance \
+.PHONY: all why look library install uninstall demo pictures packages without-links test test-long prove help races bench frames model conformance \
     conformance-windows clean hostile $(CHECKS)
 .DELETE_ON_ERROR:
 
@@ -109,16 +121,19 @@ CHECKS := $(shell sed -n 's/.*\bname="\([a-z-]*\)".*/\1/p' tools/ci/checks.py)
 all: $(PROGRAM_$(ARCH))
 
 $(PROGRAM): $(SOURCES)
-	@RT="$(RT)" $(PYTHON) -m tools.prove $(if $(CPU),--cpu $(CPU)) trirast_cli < examples/triangle.json
+	@$(KIT)
+	$(if $(OVER_RT_CI),,@RT="$(RT)" $(PYTHON) -m tools.prove $(if $(CPU),--cpu $(CPU)) trirast_cli < examples/triangle.json)
 	install -D -m 755 crates/trirast_cli/out/trirast_cli $@
 
 why: $(WHY)
 
 $(WHY): $(SOURCES)
-	@RT="$(RT)" $(PYTHON) -m tools.prove trirast_why 0,0 < examples/triangle.json
+	@$(KIT)
+	$(if $(OVER_RT_CI),,@RT="$(RT)" $(PYTHON) -m tools.prove trirast_why 0,0 < examples/triangle.json)
 	install -D -m 755 crates/trirast_why/out/trirast_why $@
 
 look:
+	@$(KIT)
 	@mkdir -p out
 	@echo "Compiling without any proof. What it draws is not proved; make proves it."
 	@cd crates/trirast_cli && $(RT) try < "$(CURDIR)/examples/mesh.json" > "$(CURDIR)/out/look.ppm" 2> "$(CURDIR)/out/look.log" \
@@ -130,7 +145,11 @@ out/%.pnm: examples/%.json $(PROGRAM)
 	@mkdir -p out
 	$(PROGRAM) < $< > $@
 
-demo: $(PICTURES)
+demo:
+	@$(PACKAGES) demo
+	@$(MAKE) --no-print-directory pictures
+
+pictures: $(PICTURES)
 	@if command -v pnmtopng > /dev/null; then \
 	    for name in $(PICTURES:.pnm=); do pnmtopng $$name.pnm 2> /dev/null > $$name.png || exit 1; done; \
 	else echo "pnmtopng is not installed, so there are PPM and PGM pictures only"; fi
@@ -167,7 +186,8 @@ $(OBJECTS:%/trirast.o=%/calls.o): packaging/calls.c include/trirast.h
 	$(CC) -std=c99 -O2 -fPIC -Wall -Wextra -Wpedantic -Werror -Iinclude -c -o $@ $<
 
 $(ARCHIVE) $(CANVAS_ARCHIVE): crates/%: $(SOURCES)
-	cd $(@D:%/out=%) && $(RT) lib
+	@$(KIT)
+	$(if $(OVER_RT_CI),$(PYTHON) -m tools.packaging.archive $(@F:lib%.a=%) x86-64-v2 --rt $(RT) -o $@,cd $(@D:%/out=%) && $(RT) lib)
 	touch $@
 
 # The same proved crates for another processor, over what rt lib has kept.
@@ -271,7 +291,7 @@ uninstall:
 include packaging/web.mk
 
 clean:
-	rm -rf bin dist lib out bench/out conformance/out web/out .mypy_cache
+	rm -rf $(MADE_FOLDERS) .mypy_cache
 
 help:
 	@sed -n '/^[^#]/q; s/^# \?//p' Makefile
@@ -281,10 +301,18 @@ help:
 # ---- To test what was built
 
 test:
+	@$(PACKAGES) test
+	@$(MAKE) --no-print-directory --question $(PROGRAM) library || $(KIT)
 	@$(PYTHON) -m tools.ci.run_checks
 
 test-long:
+	@$(PACKAGES) test
 	@$(PYTHON) -m tools.ci.run_checks --long
+
+WAIT = -o DPkg::Lock::Timeout=300
+packages:
+	@lacking="$$($(PYTHON) -m tools.packages --lacking)"; test -z "$$lacking" || { set -x; apt-get $(WAIT) update -q && \
+	    DEBIAN_FRONTEND=noninteractive apt-get $(WAIT) install -y -q --no-install-recommends $$lacking; }
 
 $(CHECKS):
 	@$(PYTHON) -m tools.ci.run_checks $@ $(if $(LONG),--long)
@@ -292,15 +320,17 @@ $(CHECKS):
 hostile: fault-injection
 
 $(TILES): $(SOURCES)
-	cd crates/refused_tiles && $(RT) run < stdin > /dev/null
+	@$(KIT)
+	$(if $(OVER_RT_CI),,cd crates/refused_tiles && $(RT) run < stdin > /dev/null)
 	install -D -m 755 crates/refused_tiles/out/refused_tiles $@
 
 $(READER): $(SOURCES)
-	cd crates/list_bench && $(RT) run < "$(CURDIR)/examples/triangle.json" > /dev/null
+	@$(KIT)
+	$(if $(OVER_RT_CI),,cd crates/list_bench && $(RT) run < "$(CURDIR)/examples/triangle.json" > /dev/null)
 	install -D -m 755 crates/list_bench/out/list_bench $@
 
 races: $(PROGRAM)
-	$(PYTHON) -m pytest tools/checks/races.py
+	$(PYTHON) -m pytest tests/program/races.py
 
 conformance: $(PROGRAM) $(RASTERIZE_$(DEVICE))
 	@mkdir -p out
@@ -318,14 +348,13 @@ include conformance/vulkan/rasterize.mk
 
 # ---- To prove it
 
-prove:
-	@$(PYTHON) -m tools.ci.prove --rt $(RT)
+# rt ci takes no links below the top. Those that make and its checks leave are made anew when they are needed.
+without-links:
+	@$(foreach folder,$(wildcard $(MADE_FOLDERS)),find $(folder) -type l -delete;)
 
-prove-all:
-	@$(PYTHON) -m tools.ci.prove --rt $(RT) --all
-
-record:
-	@$(PYTHON) -m tools.ci.edits record
+prove: without-links
+	@$(KIT)
+	$(RT) ci
 
 # ---- To measure it
 

@@ -8,7 +8,7 @@
 //     canvas blend FILE ROUNDS BLEND CHANNELS
 //                                   the same with four samples, by a blend of a name on a canvas of 3 or 4 channels
 //
-// A FILE is three counts, a head and the arrays of a batch, as 32-bit integers: tools/checks/library/lists.py writes
+// A FILE is three counts, a head and the arrays of a batch, as 32-bit integers: tests/library/lists.py writes
 // it, and scenes.c beside it reads it.
 #define _POSIX_C_SOURCE 200809L
 #include <stdio.h>

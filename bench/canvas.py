@@ -32,7 +32,7 @@ from typing import Callable, Sequence
 from bench import llvmpipe, report, run, scenes
 from bench.options import add_runs, add_scenes
 from tools import places
-from tools.checks.library.lists import arrays_of
+from tests.library.lists import arrays_of
 from tools.places import BENCH_OUT, EXAMPLES, FRAMES_PROGRAM, INCLUDE, STATIC_LIBRARY, TOP, is_built
 
 SCENES = tuple(name for name in run.SCENES if name not in run.REFUSED)
@@ -58,7 +58,7 @@ BATCH_SIZES = (1, 16, 64, 256, 1024, 4096)
 
 def built() -> bool:
     """Builds the program in C over the static library."""
-    tests = os.path.join(TOP, "tools", "checks", "library")
+    tests = os.path.join(TOP, "tests", "library")
     sources = [os.path.join(TOP, "bench", "canvas.c"), os.path.join(tests, "scenes.c")]
     command = ["gcc", "-std=c11", "-O2", "-I", INCLUDE, "-I", tests, "-o", PROGRAM, *sources, STATIC_LIBRARY]
     return subprocess.run(command).returncode == 0

@@ -32,7 +32,7 @@ def of_positions(positions: Any) -> Any:
 
 
 def forms(rows: Any) -> dict[str, dict[str, Any]]:
-    """The same vertices in several forms: as records, which are not copied, as rows, and as positions and colours."""
+    """The same vertices in several forms: as records, as rows, and as positions and colours."""
     records = np.zeros(len(rows), trirast.VERTEX)
     for (name, _kind), values in zip(trirast.VERTEX, rows.T):
         records[name] = values

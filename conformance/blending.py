@@ -11,7 +11,7 @@ from functools import lru_cache
 from typing import NamedTuple, Sequence
 
 from tools.draw_list import Draw, DrawList, Vertex, triangles_of
-from tools.reference import blending
+from tests.reference import blending
 
 PIXEL = 256
 # Red, green, blue and alpha.

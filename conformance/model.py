@@ -1,11 +1,11 @@
-"""The rules as a renderer without a driver: tools/reference/renderer.py, or one of its mutants."""
+"""The rules as a renderer without a driver: tests/reference/renderer.py, or one of its mutants."""
 
 from __future__ import annotations
 
 from conformance.rules import Rules
 from conformance.sample_counts import resolved
 from tools import picture_file
-from tools.reference import renderer
+from tests.reference import renderer
 from tools.draw_list import DrawList, encode
 
 

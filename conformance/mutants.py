@@ -13,7 +13,7 @@ from conformance.blending import ADD, REVERSE_SUBTRACT, SUBTRACT, Equation, equa
 from conformance.suites.depth_ends import Corner, cut, fan
 from conformance.suites.setting import Setting, colour_by, move, turn_culling
 from conformance.suites.shapes import PIXEL, Triangle, coarser, each_draw, triangles_in, with_triangles
-from tools.reference import renderer
+from tests.reference import renderer
 from tools.draw_list import Draw, DrawList, Vertex
 
 

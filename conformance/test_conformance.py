@@ -1,4 +1,4 @@
-"""Tests of the comparison with a driver, without a driver: tools/reference/renderer.py stands on both sides, and on the
+"""Tests of the comparison with a driver, without a driver: tests/reference/renderer.py stands on both sides, and on the
 driver's side one of its mutants. Each mutant must be found under its own subject, and only if it can be seen there.
 conformance/test_mutants.py tries the others.
 
@@ -30,7 +30,7 @@ from conformance.report import Report, page, text
 from conformance.run import measure
 from conformance.suites.setting import Setting
 from conformance.suites.shapes import Lists, coarser, draw, rectangle, scene
-from tools.reference import renderer
+from tests.reference import renderer
 from tools.draw_list import DrawList
 from tools.opengl.frames import DrawState, Mesh, Viewport
 from tools.places import TOP
@@ -265,7 +265,7 @@ def one_scissor(_rng: random.Random, samples: int) -> Lists:
 PROGRAM = """#!{python}
 import sys
 sys.path.insert(0, "{top}")
-from tools.reference.renderer import main
+from tests.reference.renderer import main
 sys.exit(main())
 """
 

@@ -95,7 +95,7 @@ typedef enum trirast_status {
     TRIRAST_STATUS_BAD_CANVAS = 8,       /* no such canvas: the members of trirast_canvas say which sides, samples
                                           * and channels it has */
     TRIRAST_STATUS_BAD_MEMORY = 9,       /* the memory of the samples is not of the size that the tile rows need,
-                                          * NULL or misaligned */
+                                          * NULL or misaligned, or the canvas was never initialized */
     TRIRAST_STATUS_BAD_FORMAT = 10,      /* the number is no trirast_format */
     TRIRAST_STATUS_BAD_SAMPLE = 11,      /* a pixel has no sample of this index: 0 to its samples less 1 */
     TRIRAST_STATUS_BAD_POSITION = 12,    /* a position is outside of -8388608 to 8388607 in 1/256 pixel, which is -32768
@@ -386,6 +386,8 @@ typedef struct trirast_proved_batch {
     size_t vertex_count;
     const void *strided;       /* the bytes in which the vertices lie; none if vertex_stride is 0 or 16 */
     size_t strided_size;
+    size_t vertex_total;       /* of the caller's trirast_batch: unless as many lie there, the batch is
+                                * TRIRAST_BATCH_LEFT_OVER */
     const void *indices;       /* uint32_t; none if index_size is 2 */
     size_t index_count;
     const void *short_indices; /* uint16_t; none if index_size is not 2 */
@@ -397,13 +399,17 @@ inline trirast_proved_batch trirast_proved_batch_of(const trirast_batch *batch) 
     const size_t stride = batch->vertex_stride;
     const int is_packed = stride == 0 || stride == sizeof(trirast_vertex);
     const int is_strided = stride > sizeof(trirast_vertex) && stride <= TRIRAST_MAX_STRIDE && stride % 4 == 0;
+    const size_t step = is_strided ? stride : sizeof(trirast_vertex);
+    /* No object has more bytes than half of all addresses. Vertices that would are not passed on: their bytes, as a
+     * size_t, may be few. */
+    const size_t count = batch->vertex_count <= (size_t)-1 / 2 / step ? batch->vertex_count : 0;
+    const size_t packed = is_packed ? count : 0;
     /* The last vertex has its 16 bytes, and none behind them. */
-    const size_t size =
-        is_strided && batch->vertex_count ? (batch->vertex_count - 1) * stride + sizeof(trirast_vertex) : 0;
+    const size_t size = is_strided && count ? (count - 1) * stride + sizeof(trirast_vertex) : 0;
     const trirast_proved_batch proved = {
         batch->struct_size, batch->vertex_stride, batch->index_size, batch->indices || batch->index_count ? 0u : 1u,
-        batch->draws, batch->draw_count, is_packed ? batch->vertices : NULL, is_packed ? batch->vertex_count : 0,
-        size ? batch->vertices : NULL, size,
+        batch->draws, batch->draw_count, packed ? batch->vertices : NULL, packed,
+        size ? batch->vertices : NULL, size, batch->vertex_count,
         is_short ? NULL : batch->indices, is_short ? 0 : batch->index_count,
         is_short ? batch->indices : NULL, is_short ? batch->index_count : 0};
     return proved;
@@ -437,6 +443,7 @@ typedef struct trirast_canvas {
     uint32_t first;       /* the first of these tile rows. trirast_canvas_init sets this and what follows,
                            * for the whole canvas */
     uint32_t end;         /* the tile row behind the last one */
+    uint32_t initialized; /* 1 once trirast_canvas_init gave the canvas its memory */
     void *memory;         /* the samples of these tile rows. Their layout is not specified. Clear them before the first
                            * draw: till then they are unspecified */
     size_t plane_count;   /* the size of the memory in units of TRIRAST_PLANE_BYTES */
@@ -471,7 +478,7 @@ size_t trirast_canvas_size(const trirast_canvas *canvas);
  * such canvas. */
 uint32_t trirast_canvas_tile_rows(const trirast_canvas *canvas);
 
-/* Gives a canvas its memory: sets first, end, memory and plane_count, for the whole canvas.
+/* Gives a canvas its memory: sets first, end, initialized, memory and plane_count, for the whole canvas.
  *
  * @canvas: of which struct_size, width, height, samples, channels and the origin are set.
  * @memory: the samples: aligned to 2; aligned to 64 is faster.
@@ -485,6 +492,7 @@ inline trirast_status trirast_canvas_init(trirast_canvas *canvas, void *memory, 
     if (!memory || (uintptr_t)memory % 2 != 0 || size < needed) return TRIRAST_STATUS_BAD_MEMORY;
     canvas->first = 0;
     canvas->end = trirast_canvas_tile_rows(canvas);
+    canvas->initialized = 1;
     canvas->memory = memory;
     canvas->plane_count = needed / TRIRAST_PLANE_BYTES;
     return TRIRAST_STATUS_OK;
@@ -492,9 +500,9 @@ inline trirast_status trirast_canvas_init(trirast_canvas *canvas, void *memory, 
 
 /* Checks of every call on a canvas, of which the first that fails is reported: TRIRAST_STATUS_BAD_STRUCT_SIZE,
  * TRIRAST_STATUS_BAD_CANVAS, TRIRAST_STATUS_BAD_TILE_ROWS if first is greater than end, or end is greater than
- * the number of tile rows, TRIRAST_STATUS_BAD_MEMORY if plane_count is not exactly as great as these tile rows
- * need. Then come those that the call's own text names. `first` may be `end`: then there are no samples, and
- * memory may be NULL. */
+ * the number of tile rows, TRIRAST_STATUS_BAD_MEMORY if trirast_canvas_init was never called, or plane_count is not
+ * exactly as great as these tile rows need. Then come those that the call's own text names. `first` may be `end`: then
+ * there are no samples, and memory may be NULL. */
 
 /* Makes a struct for some of the tile rows of another. The piece has no memory of its own: it is a part of the whole's.
  *
@@ -503,8 +511,8 @@ inline trirast_status trirast_canvas_init(trirast_canvas *canvas, void *memory, 
  * @piece: where the struct goes.
  *
  * Returns TRIRAST_STATUS_OK; TRIRAST_STATUS_BAD_CANVAS if there is no such canvas or its struct_size is wrong;
- * TRIRAST_STATUS_BAD_TILE_ROWS if the whole lacks one of the tile rows; or TRIRAST_STATUS_BAD_MEMORY, also if the
- * memory of the whole is NULL or not aligned to 2, which no other call can see. */
+ * TRIRAST_STATUS_BAD_TILE_ROWS if the whole lacks one of the tile rows; or TRIRAST_STATUS_BAD_MEMORY, as every call on
+ * the whole, and also if its memory is NULL or not aligned to 2, which no other call can see. */
 inline trirast_status trirast_canvas_split(const trirast_canvas *whole, uint32_t first, uint32_t end,
                                            trirast_canvas *piece) {
     const uint32_t rows = trirast_canvas_tile_rows(whole);
@@ -513,7 +521,8 @@ inline trirast_status trirast_canvas_split(const trirast_canvas *whole, uint32_t
     if (first < whole->first || first > end || end > whole->end || whole->end > rows)
         return TRIRAST_STATUS_BAD_TILE_ROWS;
     row = trirast_canvas_size(whole) / TRIRAST_PLANE_BYTES / rows;
-    if (whole->plane_count != (whole->end - whole->first) * row) return TRIRAST_STATUS_BAD_MEMORY;
+    if (whole->initialized != 1 || whole->plane_count != (whole->end - whole->first) * row)
+        return TRIRAST_STATUS_BAD_MEMORY;
     if (row != 0 && whole->plane_count != 0 && (!whole->memory || (uintptr_t)whole->memory % 2 != 0))
         return TRIRAST_STATUS_BAD_MEMORY;
     *piece = *whole;
@@ -555,7 +564,8 @@ inline trirast_status trirast_canvas_clear(trirast_canvas *canvas, const trirast
  * or TRIRAST_BLEND_PREMULTIPLIED, is the picture of what was drawn, without a background. A channel c with alpha a is
  * written as 0 where a is 0, else as the q with a q <= 255 c + a / 2 < a (q + 1), of which a / 2 is rounded down, or as
  * 255 if that is less; and it is loaded as the q with 255 q <= c a + 127 < 255 (q + 1). What was written of colours
- * that are at most alpha, is loaded as it was stored.
+ * that are at most alpha, is loaded as it was stored. The other way round it may differ: red 200 with alpha 10 is
+ * stored as 8, and written as 204.
  *
  * A canvas without alpha has 255 there since it was cleared or loaded, which is written, and alpha that is loaded is
  * not stored. A picture in RGB8 is loaded with alpha 255. */
@@ -612,7 +622,8 @@ trirast_status trirast_proved_canvas_draw(trirast_canvas *canvas, const trirast_
  * - TRIRAST_BATCH_BAD_POSITION if a coordinate of a vertex that an index names is not -8388608 to 8388607, or is not so
  *   as seen from the window's corner: x - 256 * origin_x and y - 256 * origin_y;
  * - TRIRAST_BATCH_NOT_CONVEX if a quad is not strictly convex;
- * or, outside of the draws, TRIRAST_BATCH_LEFT_OVER if a vertex or an index is in no draw. */
+ * or, outside of the draws, TRIRAST_BATCH_LEFT_OVER if a vertex or an index is in no draw. A batch with more vertices
+ * than there are addresses for them is TRIRAST_BATCH_LEFT_OVER before any draw is looked at. */
 inline trirast_status trirast_canvas_draw(trirast_canvas *canvas, const trirast_batch *batch, trirast_error *error) {
     const trirast_proved_batch proved = trirast_proved_batch_of(batch);
     trirast_error unread;
@@ -725,8 +736,8 @@ trirast_status trirast_proved_polygons_measure(const trirast_polygons *polygons,
  *
  * Returns TRIRAST_STATUS_OK; or the first check that fails: TRIRAST_STATUS_BAD_STRUCT_SIZE of the polygons, then
  * TRIRAST_STATUS_BUFFER_TOO_SMALL if there is no room for a box of each, then TRIRAST_STATUS_BAD_BATCH with the first
- * error of corners, rings and polygons, as trirast_canvas_draw_polygons without boxes has it. After that what is in
- * boxes is unspecified. */
+ * error of corners, rings and polygons, as trirast_canvas_draw_polygons without boxes has it. After
+ * TRIRAST_STATUS_BAD_BATCH what is in boxes is unspecified; after any other error they are unchanged. */
 inline trirast_status trirast_polygons_measure(const trirast_polygons *polygons, trirast_box *boxes, size_t box_count,
                                                trirast_error *error) {
     trirast_error unread;
@@ -785,8 +796,9 @@ trirast_status trirast_proved_canvas_draw_polygon_ids(trirast_canvas *canvas, co
                                                       uint32_t first_id, void *flags, size_t flag_columns,
                                                       void *counters, size_t counter_columns, trirast_error *error);
 
-/* Draws polygons over what is stored, with the id of each in place of a colour: first_id and its index. What the state
- * keeps and its blending are not used.
+/* Draws polygons over what is stored, with the id of each in place of a colour: first_id and its index. As by
+ * trirast_canvas_draw_ids they are written unblended, whatever channels the state keeps; the alpha of a canvas that has
+ * one becomes 255, unless the state keeps it.
  *
  * @canvas, @polygons, @scratch, @scratch_size, @error: as for trirast_canvas_draw_polygons.
  * @first_id: the id of the first polygon.
@@ -870,7 +882,9 @@ trirast_status trirast_canvas_colors(const trirast_canvas *canvas, uint32_t samp
                                      size_t size, size_t stride);
 
 /* Makes a picture the colour of one sample of its pixels, whose alpha is 255 on a canvas without alpha. Depths and
- * other samples are unchanged. What trirast_canvas_colors then writes are the same colours.
+ * other samples are unchanged. What trirast_canvas_colors then writes in this format are the same colours, with the
+ * same alpha or 255 on a canvas without alpha. In the two formats with colours divided by alpha they may differ: red
+ * 200 with alpha 10 is stored as 8, and written as 204.
  *
  * @canvas, @sample, @format, @size, @stride: as for trirast_canvas_colors.
  * @pixels: the first pixel of the first row of pixels of these tile rows.
@@ -885,8 +899,8 @@ trirast_status trirast_canvas_store(trirast_canvas *canvas, uint32_t sample, tri
 #define TRIRAST_TILE_ENTRIES(samples) (4096 * (size_t)(samples))
 
 /* Writes the ids of all samples of one tile, red + 256 * green + 65536 * blue each, those of pixels beside the picture
- * too. Of a tile that is unchanged since it was cleared one entry is written, which is the id of all of its samples,
- * and the others are unchanged.
+ * too. If all blocks of the tile are stored as cleared and have one id, as after trirast_canvas_clear, only that entry
+ * is written, and the others are unchanged.
  *
  * @canvas: the tile rows.
  * @column: of tiles, from 0 at the left: less than width / TRIRAST_TILE_SIZE, rounded up.
@@ -907,8 +921,8 @@ trirast_status trirast_canvas_tile_ids(const trirast_canvas *canvas, uint32_t co
  *
  * @canvas, @column, @row: as for trirast_canvas_tile_ids.
  * @colors: as trirast_canvas_tile_ids writes ids.
- * @count: TRIRAST_TILE_ENTRIES(samples); or 1, and then all samples of the tile get the one colour, and a tile that is
- *     unchanged since it was cleared stays so.
+ * @count: TRIRAST_TILE_ENTRIES(samples); or 1, and then all samples of the tile get the one colour, and a tile of which
+ *     trirast_canvas_tile_ids writes one id stays such a tile.
  *
  * Returns TRIRAST_STATUS_OK; or the first check that fails, then TRIRAST_STATUS_BAD_TILE, then
  * TRIRAST_STATUS_BUFFER_TOO_SMALL if count is neither of the two. If the status is not TRIRAST_STATUS_OK, no sample is
@@ -953,7 +967,8 @@ trirast_status trirast_edges_at_point(const trirast_corners *corners, int32_t x,
  *
  * @corners: the triangle.
  * @points: the first trirast_point; a trirast_vertex begins with one.
- * @stride: the bytes from a point to the next: 0 for 8, or a multiple of 4 from 8 on.
+ * @stride: the bytes from a point to the next: 0 for 8, or a multiple of 4 from 8 on, by which the points fit into
+ *     memory.
  * @count: the number of points.
  * @edges: where their edge functions go: as many.
  *
@@ -966,6 +981,7 @@ inline trirast_status trirast_edges_at(const trirast_corners *corners, const voi
     trirast_status status;
     size_t number;
     if (step < sizeof(trirast_point) || step % 4 != 0) return TRIRAST_STATUS_BAD_STRIDE;
+    if (count > 1 && step > (size_t)-1 / 2 / count) return TRIRAST_STATUS_BAD_STRIDE;
     status = trirast_edges_at_point(corners, 0, 0, &tried);
     for (number = 0; status == TRIRAST_STATUS_OK && number < count; number++) {
         const trirast_point *point = (const trirast_point *)((const unsigned char *)points + number * step);
@@ -1229,6 +1245,68 @@ inline trirast_status trirast_list_triangle_samples(const char *json, size_t jso
 
 #ifdef __cplusplus
 }
+#endif
+
+/* ---- Checks of a program that is being written ---- */
+
+/* Define TRIRAST_CHECKS before you include this header, and calls look for mistakes that no status reports:
+ *
+ * - ids are drawn on a canvas that was not cleared to white (here);
+ * - a sample has an id that no triangle has, or a tile is shaded twice (trirast_shade.h, trirast_shade.hpp).
+ *
+ * For each mistake a call passes a line of text to TRIRAST_CHECK_FAILED. It prints the line and aborts, unless you
+ * define it as something else. The checks read samples and allocate, so leave them out of what you ship. */
+#ifdef TRIRAST_CHECKS
+#include <stdio.h>
+#include <stdlib.h>
+
+#ifndef TRIRAST_CHECK_FAILED
+#define TRIRAST_CHECK_FAILED(text) (fprintf(stderr, "trirast: %s\n", text), abort())
+#endif
+
+/* The id that no triangle has. */
+#define TRIRAST_CHECKS_WHITE 0xFFFFFFu
+
+/* Checks that a tile is white if it is unchanged since it was cleared, or has the number of an id before the first. */
+static inline void trirast_check_tile_is_white(const trirast_canvas *canvas, uint32_t column, uint32_t row,
+                                               uint32_t first_id, uint32_t *ids, size_t count) {
+    uint32_t uniform = 0;
+    char text[160];
+    if (trirast_canvas_tile_ids(canvas, column, row, ids, count, &uniform) != TRIRAST_STATUS_OK || !uniform) return;
+    if (ids[0] == TRIRAST_CHECKS_WHITE || ids[0] < first_id) return;
+    snprintf(text, sizeof text, "ids are drawn on a canvas that was cleared to %u, %u, %u: clear it to 255, 255, 255",
+             (unsigned)(ids[0] & 255), (unsigned)(ids[0] >> 8 & 255), (unsigned)(ids[0] >> 16));
+    TRIRAST_CHECK_FAILED(text);
+}
+
+/* Checks each tile of these tile rows. A canvas that a call rejects, or no memory, leaves nothing to check. */
+static inline void trirast_check_is_white(const trirast_canvas *canvas, uint32_t first_id) {
+    const uint32_t columns = canvas->width / TRIRAST_TILE_SIZE + (canvas->width % TRIRAST_TILE_SIZE != 0);
+    const size_t count = TRIRAST_TILE_ENTRIES(canvas->samples == 0 ? 1 : canvas->samples);
+    uint32_t *ids = trirast_canvas_size(canvas) ? (uint32_t *)malloc(count * sizeof *ids) : NULL;
+    uint32_t column, row;
+    for (row = canvas->first; ids && canvas->end <= trirast_canvas_tile_rows(canvas) && row < canvas->end; row++)
+        for (column = 0; column < columns; column++)
+            trirast_check_tile_is_white(canvas, column, row, first_id, ids, count);
+    free(ids);
+}
+
+static inline trirast_status trirast_checked_canvas_draw_ids(trirast_canvas *canvas, const trirast_batch *batch,
+                                                             uint32_t first_id, trirast_error *error) {
+    trirast_check_is_white(canvas, first_id);
+    return trirast_canvas_draw_ids(canvas, batch, first_id, error);
+}
+
+static inline trirast_status trirast_checked_canvas_draw_polygon_ids(trirast_canvas *canvas,
+                                                                     const trirast_polygons *polygons,
+                                                                     uint32_t first_id, void *scratch,
+                                                                     size_t scratch_size, trirast_error *error) {
+    trirast_check_is_white(canvas, first_id);
+    return trirast_canvas_draw_polygon_ids(canvas, polygons, first_id, scratch, scratch_size, error);
+}
+
+#define trirast_canvas_draw_ids trirast_checked_canvas_draw_ids
+#define trirast_canvas_draw_polygon_ids trirast_checked_canvas_draw_polygon_ids
 #endif
 
 #endif

@@ -66,7 +66,8 @@ typedef enum trirast_clip_near {
 /* Which planes cut a triangle beside near and far. */
 typedef enum trirast_clip_sides {
     TRIRAST_CLIP_GUARD_BAND = 0, /* those of the guard band, far outside of the viewport, so that few triangles are cut.
-                                  * What lies outside of the viewport may be drawn or not; a scissor leaves it out */
+                                  * What lies outside of the viewport may be drawn or not; a scissor leaves it out. A
+                                  * canvas takes the vertices if its origin is 0 or in the viewport, corners included */
     TRIRAST_CLIP_VIEWPORT = 1    /* those of the viewport, but for the rounding to 1/256 pixel */
 } trirast_clip_sides;
 
@@ -185,10 +186,12 @@ static inline trirast_clipping_plane trirast_clipping_plane_of(double factor, do
 }
 
 /* Returns the largest power of two of half viewports from the middle that fit the positions of a canvas, with a pixel
- * to spare. */
+ * to spare: on the screen, and relative to an origin in the viewport, which is at most half a viewport from the middle.
+ */
 static inline double trirast_clipping_guard(double half, double centre) {
+    const double away = centre < 0 ? -centre : centre, reach = away < half ? half : away;
     double found = 1;
-    while (2 * found * half + (centre < 0 ? -centre : centre) <= 8388607.0 - 256) found *= 2;
+    while (2 * found * half + reach <= 8388607.0 - 256) found *= 2;
     return found;
 }
 

@@ -376,6 +376,59 @@ static inline int32_t trirast_shading_on_screen(uint32_t pixel, int32_t origin) 
     return (int32_t)(found < -far_away ? -far_away : found > far_away ? far_away : found);
 }
 
+/* ---- Checks: TRIRAST_CHECKS of trirast.h ---- */
+
+#ifdef TRIRAST_CHECKS
+/* Returns 1 if a point lies in a triangle or on an edge of it, as each sample does that shows the triangle. */
+static inline int trirast_shading_has(const trirast_shade_triangle *t, int32_t x, int32_t y) {
+    const int64_t dx = (int64_t)x - t->ax, dy = (int64_t)y - t->ay, bx = t->bx, by = t->by, cx = t->cx, cy = t->cy;
+    const int64_t b = dx * cy - dy * cx, c = bx * dy - by * dx, area = bx * cy - by * cx, a = area - b - c;
+    return (area > 0 && a >= 0 && b >= 0 && c >= 0) || (area < 0 && a <= 0 && b <= 0 && c <= 0);
+}
+
+/* Checks the id of sample s of a pixel of the canvas. `names` has the triangle of each id, or is NULL if that is the
+ * id. */
+static inline void trirast_shading_check_id(const trirast_canvas *canvas, uint32_t x, uint32_t y, uint32_t s,
+                                            uint32_t id, const trirast_shade_triangle *triangles,
+                                            const uint32_t *names, size_t count) {
+    const trirast_shade_place place = trirast_shade_sample_place(canvas->samples, s);
+    char text[160];
+    if (id == TRIRAST_SHADE_NO_TRIANGLE) return;
+    if (id >= count)
+        snprintf(text, sizeof text,
+                 "sample %u of pixel %u, %u has the id %u, which none of %lu triangles has: is the canvas cleared to "
+                 "white, and shaded once?",
+                 (unsigned)s, (unsigned)x, (unsigned)y, (unsigned)id, (unsigned long)count);
+    else if (!trirast_shading_has(&triangles[names ? names[id] : id],
+                                  trirast_shading_on_screen(x, canvas->origin_x) + place.x,
+                                  trirast_shading_on_screen(y, canvas->origin_y) + place.y))
+        snprintf(text, sizeof text,
+                 "sample %u of pixel %u, %u has the id %u, but lies outside of that triangle: is the canvas shaded "
+                 "twice?",
+                 (unsigned)s, (unsigned)x, (unsigned)y, (unsigned)id);
+    else
+        return;
+    TRIRAST_CHECK_FAILED(text);
+}
+
+/* Checks the ids of a tile that is about to be shaded: all entries, or the first one if they are uniform. */
+static inline void trirast_shading_check(const trirast_canvas *canvas, uint32_t column, uint32_t row,
+                                         const uint32_t *entries, int uniform, const trirast_shade_triangle *triangles,
+                                         const uint32_t *names, size_t count) {
+    const uint32_t samples = canvas->samples == 0 ? 1 : canvas->samples, side = TRIRAST_TILE_SIZE;
+    uint32_t x, y, s;
+    for (y = 0; y < side && row * side + y < canvas->height; y++)
+        for (x = 0; x < side && column * side + x < canvas->width; x++)
+            for (s = 0; s < samples; s++) {
+                const size_t block = y / TRIRAST_SHADING_BLOCK * TRIRAST_SHADING_BLOCK + x / TRIRAST_SHADING_BLOCK;
+                const size_t pixel = y % TRIRAST_SHADING_BLOCK * TRIRAST_SHADING_BLOCK + x % TRIRAST_SHADING_BLOCK;
+                const size_t entry = (block * samples + s) * TRIRAST_SHADING_BLOCK_PIXELS + pixel;
+                trirast_shading_check_id(canvas, column * side + x, row * side + y, s, entries[uniform ? 0 : entry],
+                                         triangles, names, count);
+            }
+}
+#endif
+
 /* ---- Calls ---- */
 
 /* Shades one tile: the id of each sample becomes the colour of its triangle, or the background if there is none of this
@@ -398,6 +451,9 @@ static inline trirast_status trirast_shade_tile(trirast_canvas *canvas, uint32_t
     size_t k, all;
     const trirast_status status = trirast_canvas_tile_ids(canvas, column, row, entries, count, &uniform);
     if (status != TRIRAST_STATUS_OK) return status;
+#ifdef TRIRAST_CHECKS
+    trirast_shading_check(canvas, column, row, entries, uniform == 1, shade->triangles, NULL, shade->triangle_count);
+#endif
     if (uniform && entries[0] >= shade->triangle_count) {
         entries[0] = trirast_shading_background(shade);
         return trirast_canvas_tile_store(canvas, column, row, entries, 1);

@@ -12,9 +12,9 @@ web: web/out/canvas.wasm.gz web/out/examples.json.gz $(PAGE)
 $(PAGE): web/out/%: web/%
 	install -D -m 644 $< $@
 
-web/out/canvas.wasm.gz: lib/wasm64/canvas.wasm tools/checks/web/module.py
+web/out/canvas.wasm.gz: lib/wasm64/canvas.wasm tests/web/module.py
 	@mkdir -p $(@D)
-	$(PYTHON) -m tools.checks.web.module $< $@
+	$(PYTHON) -m tests.web.module $< $@
 
 lib/wasm64/canvas.wasm: lib/wasm64/canvas_c.a
 	kit="$$(dirname "$$($(RT) doc)")" && "$$kit/bin/rattle-link" --target wasm64-unknown-unknown \
@@ -24,6 +24,6 @@ lib/wasm64/canvas_c.a: $(CANVAS_ARCHIVE)
 	@mkdir -p $(@D)
 	$(PYTHON) -m tools.packaging.archive canvas_c wasm64 --rt $(RT) -o $@
 
-web/out/examples.json.gz: $(LISTS) examples/README.md tools/checks/web/examples.py
+web/out/examples.json.gz: $(LISTS) examples/README.md tests/web/examples.py
 	@mkdir -p $(@D)
-	$(PYTHON) -m tools.checks.web.examples $@
+	$(PYTHON) -m tests.web.examples $@

@@ -7,7 +7,7 @@ import subprocess
 from typing import Any, NamedTuple, Sequence
 
 from tools.places import OUT, TOP
-from tools.reference import renderer
+from tests.reference import renderer
 
 MAX_SECONDS = 60
 

@@ -5,7 +5,7 @@ from __future__ import annotations
 import json
 from typing import Any, Iterable, Sequence
 
-from tools.reference.renderer import triangles_of_quad, triangles_of_strip
+from tests.reference.renderer import triangles_of_quad, triangles_of_strip
 
 # The format decides what stands under each key, so a value's type is open here.
 DrawList = dict[str, Any]

@@ -23,7 +23,7 @@ import sys
 import time
 from typing import Collection, Sequence, TextIO
 
-from tools.sources.crates import Tree, Uses, below
+from tools.sources.crates import Uses, below, uses_in
 from tools.places import OUT, TOP
 
 WAITING = 2
@@ -94,7 +94,7 @@ class Prover:
 
     def build(self, program: str, flags: Sequence[str], arguments: Sequence[str]) -> int:
         """Proves a program's crates and runs it. Returns the status of the first command that failed."""
-        uses = Tree(TOP).uses
+        uses = uses_in(TOP)
         lone = alone(program, uses)
         others = below(program, uses).difference(lone)
         jobs = ["--jobs", str(self.jobs)]

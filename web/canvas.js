@@ -76,7 +76,7 @@ export class Batch {
       .map((row) => Object.fromEntries(keys.map((key, place) => [key, row[place]])));
     this.address = BATCH.put(core, {
       draws: DRAW.putAll(core, draws.map(membersOf)), draw_count: draws.length,
-      vertices: VERTEX.putAll(core, corners), vertex_count: corners.length,
+      vertices: VERTEX.putAll(core, corners), vertex_count: corners.length, vertex_total: corners.length,
       indices: core.put(Uint32Array, indices), index_count: indices.length,
     });
   }
@@ -95,7 +95,8 @@ export class Canvas {
     if (bytes === 0) throw new RangeError(`there is no canvas of ${width} by ${height} with ${samples} samples`);
     const memory = core.take(bytes);
     CANVAS.set(core, this.address, {
-      width, height, samples, end: Math.ceil(height / TILE_SIZE), memory, plane_count: bytes / PLANE_BYTES,
+      width, height, samples, end: Math.ceil(height / TILE_SIZE), initialized: 1, memory,
+      plane_count: bytes / PLANE_BYTES,
     });
     this.error = ERROR.put(core, {});
   }

@@ -72,11 +72,11 @@ export const DRAW = new Struct({
 /** trirast_proved_batch: without any index, and `in_order` 0, nothing is drawn. */
 export const BATCH = new Struct({
   struct_size: 'u32', vertex_stride: 'u32', index_size: 'u32', in_order: 'u32', draws: 'size', draw_count: 'size',
-  vertices: 'size', vertex_count: 'size', strided: 'size', strided_size: 'size', indices: 'size', index_count: 'size',
-  short_indices: 'size', short_index_count: 'size',
+  vertices: 'size', vertex_count: 'size', strided: 'size', strided_size: 'size', vertex_total: 'size', indices: 'size',
+  index_count: 'size', short_indices: 'size', short_index_count: 'size',
 });
 
 export const CANVAS = new Struct({
   struct_size: 'u32', width: 'u32', height: 'u32', samples: 'u32', channels: 'u32', origin_x: 'i32', origin_y: 'i32',
-  first: 'u32', end: 'u32', memory: 'size', plane_count: 'size',
+  first: 'u32', end: 'u32', initialized: 'u32', memory: 'size', plane_count: 'size',
 });

@@ -2,16 +2,19 @@
 
 from __future__ import annotations
 
+import getpass
 import os
 import shlex
 import shutil
 import subprocess
+import tempfile
 from typing import Mapping, Sequence
 
-from tools.places import OUT, TOP
+from tools.places import TOP
 
 EXE = os.path.join(TOP, "conformance", "out", "rasterize.exe")
-WINE_FOLDER = os.path.join(OUT, "wine")
+# Wine keeps a link to the root of the file system in its folder, which does not belong below the repository.
+WINE_FOLDER = os.path.join(tempfile.gettempdir(), f"trirast-wine-{getpass.getuser()}")
 # -a takes a display that is free. Debian's `wine` starts the 64-bit program.
 WINE = ("xvfb-run", "-a", "wine")
 ENVIRONMENT = {

@@ -34,7 +34,7 @@ from conformance.run import measure
 from conformance.sample_counts import OF_LISTS, alone
 from conformance.suites.setting import PLAIN, Setting
 from conformance.suites.shapes import PLACES, draw, flat, rectangle, scene, vertex
-from tools.reference import renderer
+from tests.reference import renderer
 from tools.draw_list import DrawList
 from tools.places import TOP
 
@@ -350,10 +350,19 @@ class Command(unittest.TestCase):
         self.assertIn(b"there is no program at no.exe", line)
 
 
-HAS_EXE = os.path.isfile(process.EXE) and all(map(shutil.which, process.WINE[::2]))
+def why_not_built() -> str:
+    """Builds rasterize.exe, or says what is missing for that or for Wine."""
+    for tool in ("x86_64-w64-mingw32-g++", *process.WINE[::2]):
+        if not shutil.which(tool):
+            return f"no {tool}, so rasterize.exe is not run"
+    subprocess.run(["make", "-s", os.path.relpath(process.EXE, TOP)], cwd=TOP, check=True, stdout=subprocess.DEVNULL)
+    return ""
 
 
-@unittest.skipUnless(HAS_EXE, "no rasterize.exe and Wine: make conformance DEVICE=d3d11")
+NO_PROGRAM = why_not_built()
+
+
+@unittest.skipIf(NO_PROGRAM, NO_PROGRAM)
 class Rasterize(unittest.TestCase):
     """rasterize.exe with streams that it cannot draw, which needs no device."""
 

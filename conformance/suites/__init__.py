@@ -9,7 +9,7 @@ from typing import Callable
 from conformance.suites.setting import PLAIN, Setting
 from conformance.suites import blends, coverage, depth_ends, planes, primitives, states, values
 from conformance.suites.shapes import Lists, coarser, colours_of_steps
-from tools.reference.renderer import CANVAS, LIST
+from tests.reference.renderer import CANVAS, LIST
 
 # A viewport that holds every vertex of most lists, so that nothing is clipped.
 WIDE = Setting(viewport=2048)

@@ -6,7 +6,7 @@ import random
 from typing import Any, Callable, Iterable, Iterator, Sequence
 
 from tools.draw_list import Draw, DrawList, Vertex, triangles_of
-from tools.reference.renderer import BAND, SAMPLES
+from tests.reference.renderer import BAND, SAMPLES
 
 Point = tuple[int, int]
 # Three corners.

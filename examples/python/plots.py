@@ -1,46 +1,42 @@
 #!/usr/bin/python3
-"""Draws half transparent plots by matplotlib's Agg and by trirast.matplotlib side by side, and counts the
-pixels of their seams.
+"""Draws translucent plots with matplotlib's Agg and with trirast.matplotlib, and counts the pixels in their seams.
 
     PYTHONPATH=python/src python3 examples/python/plots.py plots.png
 
-Each plot fills its axes with faces side by side. In one colour at half opacity each pixel of the axes has to be of that
-colour, blended once over the white ground, which is the most frequent one: a pixel of another colour was drawn twice,
-or not wholly. The picture shows a part of each plot in its own colours, enlarged. It needs numpy and matplotlib
-(python3-matplotlib in Debian). After `pip install ./python` no PYTHONPATH is needed.
+Each plot fills its axes with neighbouring areas. Drawn in one colour at half opacity, every pixel should show that
+colour, blended once over the white background. A pixel of any other colour is in a seam: it was blended twice, or only
+in part. The image shows a part of the `contourf` plot in several colours, enlarged, with its count. The program needs
+numpy and matplotlib (python3-matplotlib in Debian). After `pip install ./python` no PYTHONPATH is needed.
 """
 
 import argparse
 from typing import Any, Callable, Dict, List, Tuple
 
 import numpy as np
+from matplotlib import colormaps
 from matplotlib.backends.backend_agg import FigureCanvasAgg
+from matplotlib.colors import to_rgba
 from matplotlib.figure import Figure
 from matplotlib.patches import Polygon
 
 from trirast.matplotlib import FigureCanvasTrirast
 
 CANVASES = (("Agg", FigureCanvasAgg), ("trirast", FigureCanvasTrirast))
-# The axes, as parts of a figure of 640 by 480 pixels, and the pixels inside of them that are counted.
+TITLES = {"Agg": "matplotlib's Agg", "trirast": "trirast"}
+# The axes, as parts of a figure of 640 by 480 pixels, and the pixels inside them that are counted.
 AXES = (0.1, 0.1, 0.8, 0.8)
-INSIDE = (slice(60, -60), slice(80, -80))
-# What the picture shows of them, three times as large.
-SHOWN = (slice(160, 240), slice(270, 370))
+INSIDE = (slice(49, 431), slice(65, 575))
+# The part that the image shows, enlarged, and the width and height of that part in pixels of the image.
+SHOWN = (slice(80, 280), slice(195, 445))
+PANEL = (500, 400)
 
 Draws = Callable[[Any, Any], None]
 
 
-def grid(columns: int, rows: int) -> Tuple[Any, Any]:
-    """A grid that is bent."""
-    x, y = np.meshgrid(np.linspace(-0.1, 1.1, columns), np.linspace(-0.1, 1.1, rows))
-    return x + 0.03 * np.sin(7 * y), y + 0.03 * np.sin(5 * x)
-
-
 def contourf(axes: Any, colors: Any) -> None:
-    x, y = grid(90, 70)
-    axes.contourf(
-        x, y, np.sin(6 * x) * np.cos(5 * y) + 0.3 * x, np.linspace(-1.5, 1.5, 25), colors=colors(24), antialiased=True
-    )
+    x, y = np.meshgrid(np.linspace(-0.1, 1.1, 90), np.linspace(-0.1, 1.1, 70))
+    z = np.sin(6 * x) * np.cos(5 * y) + 0.3 * x
+    axes.contourf(x, y, z, np.linspace(z.min() - 0.01, z.max() + 0.01, 25), colors=colors(24))
 
 
 def tripcolor(axes: Any, colors: Any) -> None:
@@ -73,55 +69,56 @@ def pixels_of(draw: Draws, canvas_class: Any, colors: Any) -> Any:
     """The pixels of a figure whose axes a plot covers, of the shape (480, 640, 4)."""
     figure = Figure(figsize=(6.4, 4.8), dpi=100)
     canvas = canvas_class(figure)
-    axes = figure.add_axes(AXES)
+    axes = figure.add_axes(AXES, frameon=False)
     draw(axes, colors)
-    axes.set(xlim=(0.05, 0.95), ylim=(0.05, 0.95))
-    axes.set_axis_off()
+    axes.set(xlim=(0, 1), ylim=(0, 1), xticks=(), yticks=())
     canvas.draw()
     return np.asarray(canvas.buffer_rgba()).copy()
 
 
 def one_color(count: int) -> Any:
-    return [(0.1, 0.3, 0.7, 0.5)] * count
+    return [to_rgba("C0", 0.5)] * count
 
 
 def many_colors(count: int) -> Any:
-    """Dark colours from blue to green, of which neighbours differ by little, at alpha 0.8."""
-    part = np.abs(np.arange(count) * 5 % 24 / 12 - 1)
-    return np.stack((0.1 * part, 0.2 + 0.3 * part, 0.55 - 0.15 * part, np.full(count, 0.8)), 1)
+    return colormaps["viridis"](np.linspace(0, 1, count), alpha=0.5)
 
 
 def seams(pixels: Any) -> Tuple[int, int]:
-    """How many pixels inside of the axes are not of the colour that most have, and how many there are."""
+    """How many pixels inside the axes are in seams, and how many there are."""
     inside = pixels[INSIDE][..., :3].reshape(-1, 3)
     _colors, counts = np.unique(inside, axis=0, return_counts=True)
     return len(inside) - int(counts.max()), len(inside)
 
 
-def show(path: str, pictures: List[List[Tuple[str, Any]]]) -> None:
-    """Writes a picture of parts of pictures, a row for each backend, each with a line below it."""
-    figure = Figure(figsize=(12.2, 5.4), dpi=100)
+def show(path: str, pictures: List[Tuple[str, Any]]) -> None:
+    """Writes an image of parts of pictures side by side, each below its title."""
+    (width, height), gap, title = PANEL, 20, 40
+    size = len(pictures) * (width + gap) - gap, height + title
+    # An inch has 128 pixels, so that no size is rounded.
+    figure = Figure(figsize=(size[0] / 128, size[1] / 128), dpi=128)
     FigureCanvasAgg(figure)
-    for row, shown in enumerate(pictures):
-        for column, (line, pixels) in enumerate(shown):
-            axes = figure.add_axes((0.002 + 0.25 * column, 0.55 - 0.5 * row, 0.246, 0.444))
-            axes.imshow(pixels[SHOWN], interpolation="nearest")
-            axes.set_axis_off()
-            figure.text(0.125 + 0.25 * column, 0.515 - 0.5 * row, line, fontsize=11, ha="center")
+    for n, (text, pixels) in enumerate(pictures):
+        left = n * (width + gap)
+        axes = figure.add_axes((left / size[0], 0, width / size[0], height / size[1]))
+        axes.imshow(pixels[SHOWN], interpolation="nearest")
+        axes.set_axis_off()
+        figure.text((left + width / 2) / size[0], 1 - title / 2 / size[1], text, fontsize=10, ha="center", va="center")
     figure.savefig(path)
 
 
 def main() -> None:
-    parser = argparse.ArgumentParser(description="Draws half transparent plots by Agg and by trirast.matplotlib.")
+    parser = argparse.ArgumentParser(description="Draws translucent plots with Agg and with trirast.matplotlib.")
     parser.add_argument("picture", help="the PNG file to write")
     path = parser.parse_args().picture
-    pictures: List[List[Tuple[str, Any]]] = []
+    pictures: List[Tuple[str, Any]] = []
     for name, canvas_class in CANVASES:
-        pictures.append([])
         for plot, draw in PLOTS.items():
             wrong, count = seams(pixels_of(draw, canvas_class, one_color))
-            print(f"{name}: {plot}: {wrong} of {count} pixels are not of the most frequent colour")
-            pictures[-1].append((f"{plot}, {name}: {wrong:,} pixels", pixels_of(draw, canvas_class, many_colors)))
+            print(f"{name}: {plot}: {wrong} of {count} pixels are in seams")
+            if draw is contourf:
+                title = f"{TITLES[name]}: {wrong:,} of {count:,} pixels in seams"
+                pictures.append((title, pixels_of(draw, canvas_class, many_colors)))
     show(path, pictures)
 
 

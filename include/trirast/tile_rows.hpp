@@ -257,8 +257,8 @@ public:
     std::uint32_t tile_columns() const noexcept { return (rows_.width + TRIRAST_TILE_SIZE - 1) / TRIRAST_TILE_SIZE; }
     std::size_t tile_entries() const noexcept { return TRIRAST_TILE_ENTRIES(samples()); }
 
-    /* Writes the ids of all samples of one tile to tile_entries() entries. Returns those that were written: of a tile
-     * that is unchanged since it was cleared one, which is that of all of its samples. */
+    /* Writes the ids of all samples of one tile to tile_entries() entries. Returns those that were written: one
+     * if all blocks of the tile are stored as cleared and have one id, as after clear. */
     Span<const std::uint32_t> tile_ids(std::uint32_t column, std::uint32_t row, Span<std::uint32_t> entries) const {
         std::uint32_t uniform = 0;
         detail::check(trirast_canvas_tile_ids(&rows_, column, row, entries.data(), entries.size(), &uniform),

@@ -46,6 +46,11 @@ def as_list(scene: poster.Scene) -> Dict[str, Any]:
     return {"width": scene.sheet.width, "height": scene.sheet.height, "samples": scene.sheet.samples, "draws": draws}
 
 
+def is_mapped(array: Any) -> bool:
+    """Whether an array lies in a file that is mapped."""
+    return array is not None and (isinstance(array, np.memmap) or is_mapped(getattr(array, "base", None)))
+
+
 class Files(unittest.TestCase):
     """Tests with a folder of their own."""
 

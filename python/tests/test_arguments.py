@@ -446,6 +446,24 @@ class Buffers(Refusals):
                 call()
         self.assertEqual(bytes_of(canvas.rgb()), bytes(27))
 
+    def test_of_vertices_lie_apart_from_the_samples(self) -> None:
+        np = self.need_numpy()
+        memory = np.zeros(trirast.Canvas.size(3, 3) + 480, np.uint8)
+        canvas = trirast.Canvas(3, 3, memory=memory)
+        canvas.clear()
+        wide = np.dtype([*trirast.VERTEX, ("more", "u4", 4)])
+        for vertices in (
+            memory[:48].view(trirast.VERTEX), memory[-496:].view(trirast.VERTEX), memory[-512:].view(wide)[::2],
+            memory[:24].view(np.int32).reshape(3, 2),
+        ):
+            with self.assertRaisesRegex(ValueError, "^vertices: memory apart from that of the canvas$"):
+                canvas.draw(vertices)
+        behind = memory[-480:].view(wide)[:3]
+        for (name, _kind), values in zip(trirast.VERTEX, zip(*VERTICES)):
+            behind[name] = values
+        canvas.draw(behind)
+        self.assertEqual(bytes_of(canvas.rgb()), PIXELS)
+
 
 class Files(Refusals):
     """Pictures are saved by the end of the name."""

@@ -1,4 +1,4 @@
-"""Clipping: worked values, what is refused, attributes, and no crack. tools/checks/clip compares the same calls with
+"""Clipping: worked values, what is refused, attributes, and no crack. tests/clip compares the same calls with
 the headers in C and C++."""
 
 import importlib.util
@@ -58,6 +58,21 @@ class Worked(unittest.TestCase):
                 positions = np.array([[0, 0, 0, 1], [1, 0, 0, 1], [0, 1, 0, 1]], np.float64)
                 positions[1, axis] = odd
                 self.assertEqual(len(trirast.clip(positions, [[0, 1, 2]], VIEWPORT).triangles), 0)
+
+
+class Origins(unittest.TestCase):
+    def test_a_canvas_anywhere_in_the_viewport_takes_what_is_left(self) -> None:
+        """Also one with a negative origin, from which all lies farther to the right and downwards."""
+        corners = [[x * 1e6, y * 1e6, 0.5, 1] for x, y in CORNERS]
+        for size in (64, 1020, 2000, 4000, 4096, 16384):
+            for left, top in ((-size // 2, -size // 2), (-size, 0), (-16384, -16384), (16384 - size, 0), (0, -size)):
+                seen = trirast.clip(corners, [[0, 1, 2], [0, 2, 3]], (left, top, size, size))
+                self.assertGreater(len(seen.triangles), 0)
+                for column, row in ((0, 0), (size - 8, 0), (0, size - 8), (size // 2, size // 2)):
+                    canvas = trirast.Canvas(8, 8, origin=(left + column, top + row))
+                    canvas.clear((255, 255, 255))
+                    canvas.draw(seen.vertices, seen.triangles, first_id=0)
+                    self.assertLess(int(canvas.ids().max()), len(seen.triangles))
 
 
 class Refusals(unittest.TestCase):

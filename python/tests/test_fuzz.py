@@ -1,8 +1,9 @@
-"""Calls that hypothesis makes up: layouts, types, shapes, threads, interrupts, copies and arrays that change.
+"""Calls that hypothesis makes up: layouts, types, shapes, derived classes, threads, interrupts, copies and arrays that
+change, triangles, polygons with boxes, and what clip leaves for any origin.
 
 Each call is made on a canvas in the way that was made up, and on a second one in the plainest way: lists of integers,
 one thread. Both have the same picture after each call, and what one refuses the other does. TRIRAST_FUZZ_CALLS says how
-many calls there are, and then each run makes up other ones; python3 -m tools.checks.fuzz_package does so with 10,000.
+many calls there are, and then each run makes up other ones; python3 -m tests.python.fuzz_package does so with 10,000.
 """
 
 import copy
@@ -136,6 +137,10 @@ def of_records(data: Data, rows: Rows, columns: int) -> Any:
         lambda: own, lambda: np.repeat(own, 2)[::2], lambda: other, lambda: np.frombuffer(own.tobytes(), own.dtype),
         lambda: np.frombuffer(b"12" + own.tobytes(), np.uint8)[2:].view(own.dtype),
         lambda: among_others(own, [("before", "u4")], [("behind", "u1", 4 * len(own))]),
+        lambda: among_others(own, [], [("behind", "u1", 509)]),
+        lambda: among_others(own, [("before", "u2")], [("behind", "O")]),
+        lambda: among_others(own, [("before", "f8")], [])[::-1].copy()[::-1],
+        lambda: np.repeat(own, 3).reshape(len(own), 3)[:, 1],
     ]
     return data.draw(st.sampled_from(forms))()
 
@@ -146,6 +151,38 @@ def among_others(own: Any, before: List[Any], behind: List[Any]) -> Any:
     for name, _kind in trirast.VERTEX:
         made[name] = own[name]
     return made
+
+
+class Lying:
+    """What a class derived from bytes, a sequence or an array says of itself."""
+
+    def __len__(self) -> int:
+        return 1 << 30
+
+    def __bytes__(self) -> bytes:
+        return LongBytes(b"12")
+
+
+class LongBytes(Lying, bytes):
+    pass
+
+
+class LongBytearray(Lying, bytearray):
+    pass
+
+
+class LongArray(Lying, np.ndarray):  # type: ignore[misc]
+    strides = property(lambda _self: (4096,))
+    shape = property(lambda _self: (1 << 30,))
+
+
+def of_derived(data: Data, rows: Rows, columns: int) -> Any:
+    """Of classes that say something else of themselves than they have."""
+    if data.draw(st.booleans()):
+        made = of_bytes(data, rows, columns)
+        return made if made is rows else data.draw(st.sampled_from((LongBytes, LongBytearray)))(made)
+    array = of_records(data, rows, columns)
+    return np.ndarray.view(array, LongArray) if isinstance(array, np.ndarray) and array.flags.c_contiguous else array
 
 
 def of_ctypes(data: Data, rows: Rows, columns: int) -> Any:
@@ -162,7 +199,7 @@ def of_sequences(data: Data, rows: Rows, columns: int) -> Any:
     return outer(inner(row) for row in rows)
 
 
-FORMS = (of_numpy, of_records, of_array, of_bytes, of_ctypes, of_sequences)
+FORMS = (of_numpy, of_records, of_array, of_bytes, of_derived, of_ctypes, of_sequences)
 
 
 def in_a_form(data: Data, rows: Rows, columns: int) -> Any:
@@ -251,6 +288,30 @@ def given_to_draw(data: Data, rows: Rows) -> Dict[str, Any]:
     return {"vertices": form(data, places, 2), "colors": form(data, colors, 4), "depth": depth}
 
 
+def change_in_place(data: Data, array: Any) -> None:
+    """Gives an array other numbers, and another type or shape if it has room for that."""
+    if isinstance(array, bytearray):
+        array[:] = bytes(2 * len(array))
+    if not isinstance(array, np.ndarray):
+        return
+    kind, shape = data.draw(st.sampled_from(("u1", "i2", "f8"))), data.draw(st.sampled_from(((1, -1), (-1, 1))))
+    changes: List[Callable[[], Any]] = [
+        lambda: array.fill(array.dtype.type(0) if array.dtype.names is None else 0),
+        lambda: setattr(array, "dtype", kind), lambda: setattr(array, "shape", shape),
+    ]
+    for change in changes:
+        try:
+            change()
+        except (TypeError, ValueError, AttributeError):
+            pass
+
+
+def a_polygon(data: Data) -> List[Rows]:
+    ring = st.lists(st.tuples(NEAR, NEAR).map(lambda place: [*place]), max_size=7)
+    rings: List[Rows] = data.draw(st.lists(ring, max_size=3))
+    return rings
+
+
 # ---- Sessions
 
 
@@ -260,7 +321,8 @@ class Session:
     def __init__(self, data: Data, interrupts: Interrupts) -> None:
         self.data, self.interrupts = data, interrupts
         size = data.draw(st.integers(1, 70)), data.draw(st.integers(1, 330))
-        origin = data.draw(st.sampled_from(((0, 0), (-7, 0), (3, -70), (-100, -3), (40, 8))))
+        far = st.integers(-16384, 12288)
+        origin = data.draw(st.sampled_from(((0, 0), (-7, 0), (3, -70), (-100, -3), (40, 8))) | st.tuples(far, far))
         self.more: Dict[str, Any] = {"samples": data.draw(st.sampled_from((1, 2, 4, 8, 16))), "origin": origin}
         self.canvas = trirast.Canvas(size[0], size[1], **self.more, memory=self.memory(size))
         self.plain = trirast.Canvas(size[0], size[1], **self.more)
@@ -358,6 +420,63 @@ class Session:
             lambda: self.canvas.draw_batch(batch(forms), first_id=first, threads=threads),
             lambda: self.plain.draw_batch(batch(plain), first_id=first),
         )
+
+    def draw_what_has_changed(self) -> None:
+        """Draws are made of arrays, which then change."""
+        data, vertices, state = self.data, vertices_of(self.data), state_of(self.data)
+        triangles = indices_of(data, len(vertices), 3)
+        rows, indices, threads = in_a_form(data, vertices, 7), in_a_form(data, triangles, 3), self.threads
+
+        def draw_changed() -> None:
+            draw = trirast.Draw(rows, indices, **state)
+            for given in (rows, indices):
+                change_in_place(data, given)
+            self.canvas.draw_batch([draw], threads=threads)
+
+        wanted = refused(lambda: self.plain.draw(vertices, triangles, **state))
+        found = refused(draw_changed)
+        if (wanted is None) != (found is None):
+            raise AssertionError(f"{found!r}, and not {wanted!r}")
+
+    def draw_polygons(self) -> None:
+        """With boxes and threads, and without any."""
+        data = self.data
+        polygons = [a_polygon(data) for _ in range(data.draw(st.integers(0, 4)))]
+        corners = [corner for rings in polygons for ring in rings for corner in ring]
+        ring_ends = np.cumsum([len(ring) for rings in polygons for ring in rings], dtype=int).tolist()
+        polygon_ends = np.cumsum([len(rings) for rings in polygons], dtype=int).tolist()
+        colors = [[*data.draw(st.tuples(BYTES, BYTES, BYTES, BYTES))] for _ in polygons]
+        state = {name: value for name, value in state_of(data).items() if name != "cull"}
+        state["rule"] = data.draw(st.sampled_from(("even-odd", "nonzero")))
+        ids: Dict[str, Any] = data.draw(st.sampled_from(({}, {"first_id": 7})))
+        boxes = trirast.polygon_boxes(corners, ring_ends, polygon_ends) if data.draw(st.booleans()) else None
+        if boxes is not None and len(boxes) and data.draw(st.booleans()):
+            boxes = np.asarray(boxes).astype(np.int64) + (-300, -1, 9, 70000)
+        form, threads = of_numpy if corners else of_sequences, self.threads
+        places, ends = form(data, corners, 2), (np.array(ring_ends, "u4"), array("I", polygon_ends))
+        more: Dict[str, Any] = {**state, **ids}
+
+        self.both(
+            lambda: self.canvas.draw_polygons(places, ends[0], ends[1], colors, boxes=boxes, threads=threads, **more),
+            lambda: self.plain.draw_polygons(corners, ring_ends, polygon_ends, colors, **more),
+        )
+
+    def draw_clipped(self) -> None:
+        """What clip leaves is drawn, wherever the viewport lies: around the canvas, or the canvas itself."""
+        data, (left, top) = self.data, self.canvas.origin
+        number = st.floats(-4, 4, width=32) | st.floats(-(2.0**40), 2.0**40, width=32)
+        positions = data.draw(st.lists(st.tuples(number, number, number, number), min_size=3, max_size=6))
+        triangles = data.draw(st.lists(st.permutations(range(len(positions))).map(lambda all: all[:3]), max_size=3))
+        before = data.draw(st.integers(0, 2000)), data.draw(st.integers(0, 2000))
+        viewport = (
+            max(left - before[0], -16384), max(top - before[1], -16384), self.canvas.width + before[0],
+            self.canvas.height + data.draw(st.integers(0, 2000)) + before[1],
+        )
+        sides = data.draw(st.sampled_from(("guard_band", "viewport")))
+        seen = trirast.clip(positions, triangles, viewport, sides=sides)
+        rows = [list(row)[:7] for row in seen.vertices.tolist()]
+        for canvas, vertices, threads in ((self.canvas, seen.vertices, self.threads), (self.plain, rows, 1)):
+            canvas.draw(vertices, seen.triangles.tolist(), first_id=3, threads=threads)
 
     def draw_nonsense(self) -> None:
         vertices: Any = vertices_of(self.data)
@@ -469,8 +588,8 @@ class Session:
 
 
 NAMES = (
-    "clear", "load", "draw", "draw", "draw", "draw_several", "draw_nonsense", "read", "read_nonsense", "copy",
-    "change_arrays_meanwhile", "compare_with_a_list",
+    "clear", "load", "draw", "draw", "draw", "draw_several", "draw_what_has_changed", "draw_polygons", "draw_clipped",
+    "draw_nonsense", "read", "read_nonsense", "copy", "change_arrays_meanwhile", "compare_with_a_list",
 )
 
 

@@ -24,6 +24,44 @@ from trirast.matplotlib import FigureCanvasTrirast, RendererTrirast, _colors, _c
 from . import neighbours
 
 
+class NoNumbers(unittest.TestCase):
+    """Faces with corners that are no numbers: Agg leaves these out, and what is left is one face of several rings."""
+
+    def check(self, draw: Draws) -> None:
+        found = differences(draw)
+        self.assertLess(int((found > 64).sum()), 6)
+
+    def test_beside_faces_of_which_nothing_is_left(self) -> None:
+        nan = np.nan
+        nowhere, parted = [(nan, nan)] * 4, [(0.1, 0.1), (0.4, 0.1), (0.2, 0.4), (nan, nan), (0.6, 0.6), (0.9, 0.6)]
+        crossed = [(0.1, 0.1), (0.7, 0.2), (0.4, 0.8), (nan, 0.5), (0.3, 0.1), (0.9, 0.3), (0.5, 0.9), (0.2, 0.6)]
+        faces = [(nowhere, "red"), ([*parted, (0.7, 0.9)], "blue"), (nowhere, "red"), (crossed, "green")]
+        for given in (faces[:2], faces):
+            paths = [Path(corners) for corners, _color in given]
+
+            def one_by_one(axes: Any) -> None:
+                for path, (_corners, color) in zip(paths, given):
+                    axes.add_patch(PathPatch(path, facecolor=color, linewidth=0))
+
+            def by_fill(axes: Any) -> None:
+                for corners, color in given:
+                    axes.fill(*zip(*corners), color)
+
+            def together(axes: Any) -> None:
+                colors = [color for _corners, color in given]
+                axes.add_collection(PolyCollection([corners for corners, _color in given], facecolor=colors))
+
+            for draw in (one_by_one, by_fill, together):
+                self.check(draw)
+
+    def test_anywhere(self) -> None:
+        random = np.random.default_rng(4)
+        for number in range(6):
+            corners = random.random((random.integers(3, 9), 2))
+            corners[random.integers(len(corners), size=2)] = np.nan
+            self.check(lambda axes: axes.fill(*corners.T, "red", alpha=(0.5, 1)[number % 2]))
+
+
 class EqualToAgg(unittest.TestCase):
     """Byte for byte."""
 

@@ -27,7 +27,7 @@ from trirast.poster import _arrays, _journal, _poster, _threads, _tile_folder
 from trirast.poster._own_file import open_alone
 
 from .common import DRAW_LIST, FILE, PYTHON, SECONDS, VERTICES
-from .poster_common import Commands, Files, as_list, random_scene
+from .poster_common import Commands, Files, as_list, is_mapped, random_scene
 
 VALUE = {"width": 3, "height": 3, "draws": [{"triangles": 1}]}
 PNG = b"\x89PNG\r\n\x1a\n"
@@ -232,7 +232,7 @@ class Locks(Runs):
 
     def test_a_run_to_one_of_two_places_ends_with_a_line(self) -> None:
         os.mkdir(self.path("tiles.part"))
-        opened = open_alone(self.path("tiles.part"), os.O_RDONLY)
+        opened = open_alone(self.path("tiles.part"), os.O_RDONLY | os.O_DIRECTORY)
         self.must_refuse("BusyError", "--tiles", self.path("tiles"))
         self.must_refuse("BusyError", "-o", self.path("a.ppm"), "--tiles", self.path("tiles"))
         os.close(opened)
@@ -447,13 +447,15 @@ class BrokenArrays(Files):
         self.saved()
         wanted = trirast.draw_file(as_list(poster.scene_of(self.path("a.npz"))))
         scene = poster.scene_of(self.path("a.npz"))
-        self.assertIsInstance(scene.vertices, np.memmap)
+        self.assertTrue(is_mapped(scene.vertices))
         os.truncate(self.path("a.npz"), 0)
         poster.draw_poster(scene, self.path("a.ppm"))
         self.assertEqual(self.content("a.ppm"), wanted)
 
     def test_a_file_that_shrinks_while_it_is_copied_is_an_error(self) -> None:
-        data = self.saved()
+        vertices, triangles = np.zeros((100_000, 7), np.int32), np.zeros((1, 3), np.int32)
+        poster.save_arrays(self.path("a.npz"), vertices, triangles, VALUE)
+        data = self.content("a.npz")
 
         def shrink(*given: Any) -> Any:
             os.truncate(self.path("a.npz"), len(data) // 4)

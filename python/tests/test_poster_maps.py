@@ -9,10 +9,12 @@ import pytest
 from .test_poster_polygons import box, feature
 
 from trirast import poster
-from trirast.poster import _command
+from trirast.poster import _command, _geojson
 
 SQUARE = box(0, 0, 3, 3)
 STEPS = [[10, "#000000"]]
+# A number of JSON that no float holds.
+HUGE = 10**400
 
 
 def polygon(*rings: Any) -> Dict[str, Any]:
@@ -119,6 +121,10 @@ def scene(folder: Any, value: Any, style: Any) -> poster.Scene:
         (polygon([*SQUARE, ["x", 5]]), {}, r"polygon 0, ring 0: positions of .*, and not \['x', 5\]$"),
         ({**feature(polygon([*SQUARE, [1, 91]])), "id": 7}, {}, r"feature 0 \(counted from 0, id 7\): a longitude"),
         ({**feature(polygon([[1, 1]])), "id": "DE"}, {}, r"feature 0 \(counted from 0, id 'DE'\), polygon 0"),
+        (polygon([*SQUARE, [True, 2]]), {}, r"polygon 0, ring 0: positions of .*, and not \[True, 2\]$"),
+        (polygon([[False, False], [True, False], [True, True]]), {}, r"positions of .*, and not \[False, False\]$"),
+        (polygon([*SQUARE, {"x": 1}]), {}, r"positions of .*, and not \{'x': 1\}$"),
+        (polygon([*SQUARE, [HUGE, 2]]), {}, r"positions of .*, and not \[10{70,}\.\.\.$"),
         # Places.
         (
             collection(feature(polygon(SQUARE)), feature(None), feature(polygon([*SQUARE, [5, 95]]))), {},
@@ -144,11 +150,34 @@ def scene(folder: Any, value: Any, style: Any) -> poster.Scene:
             feature(polygon(SQUARE), a=7), {"property": "a", "steps": [[5, "#000000"], [3, "#000000"]]},
             r"numbers that rise, and not \[5, 3\]",
         ),
+        (feature(polygon(SQUARE)), {"projection": []}, r"projection: plate carree, .*, and not \[\]"),
+        (feature(polygon(SQUARE)), {"projection": {}}, r"projection: plate carree, .*, and not \{\}"),
+        (feature(polygon(SQUARE)), {"color": "#11 22 33"}, "color: a colour as #rrggbb, .*, and not '#11 22 33'$"),
+        (feature(polygon(SQUARE)), {"background": "# 1 2 3 4"}, "background: a colour as #rrggbb, .*, and not "),
+        (feature(polygon(SQUARE)), {"color": "#1122330\n"}, "color: a colour as #rrggbb, .*, and not "),
+        (feature(polygon(SQUARE)), {"opacity": HUGE}, "opacity: 0 to 1, and not 10{70,}"),
+        (feature(polygon(SQUARE)), {"window": [0, 0, HUGE, 3]}, "window: west, south, east and north"),
+        (
+            feature(polygon(SQUARE), a=7), {"property": "a", "steps": [[HUGE, "#000000"]]},
+            r"steps: pairs of a number and a colour, and not \[10{70,}",
+        ),
+        (feature(polygon(SQUARE), a=HUGE), {"property": "a", "steps": STEPS}, "no feature of .* has a number as 'a'"),
     ],
 )
 def test_a_slip_is_an_error(tmp_path: Any, value: Any, style: Any, text: str) -> None:
     with pytest.raises(poster.MapError, match=text):
         scene(tmp_path, value, style)
+
+
+def test_a_position_that_cannot_be_cut_is_an_error() -> None:
+    """From Python 3.12 on an object of JSON has no key that is a slice, where it had a type error before."""
+
+    class Object(Dict[Any, Any]):
+        def __getitem__(self, key: Any) -> Any:
+            raise KeyError(key)
+
+    with pytest.raises(poster.MapError, match="positions of a longitude and a latitude, and not {'x': 1}"):
+        _geojson.ring_of([*SQUARE, Object(x=1)], "here", "")
 
 
 def test_a_map_whose_name_ends_in_json_needs_a_style(tmp_path: Any) -> None:

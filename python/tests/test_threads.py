@@ -116,6 +116,36 @@ print(found <= {(0,), (7, 8, 9)} or found)
             "True\n",
         )
 
+    def test_come_between_tile_rows_of_what_takes_long(self) -> None:
+        self.must_end_well(
+            """
+import random
+pick = random.Random(1)
+corners = array("i", [pick.randrange(side) for _ in range(20000) for side in (16384, 1048576)])
+corners = memoryview(corners).cast("B").cast("i", shape=[20000, 2])
+
+def polygons(canvas, threads):
+    canvas.draw_polygons(corners, [20000], [1], (9, 9, 9), threads=threads)
+
+def triangles(canvas, threads):
+    square = [(0, 0), (16384, 0), (16384, 1048576), (0, 1048576)]
+    canvas.draw(square, quads=[(0, 1, 2, 3)] * 700, colors=(9, 9, 9, 200), blend="over", threads=threads)
+
+def drawn(draw, seconds, threads=4):
+    canvas = trirast.Canvas(64, 4096, samples=16)
+    interrupted(lambda: draw(canvas, threads), seconds)
+    pixels = memoryview(canvas.rgb()).tobytes()
+    return [pixels[first : first + 12288] for first in range(0, len(pixels), 12288)]
+
+whole = {polygons: drawn(polygons, 0), triangles: 64 * [bytes([9]) * 12288]}
+for draw, wanted in whole.items():
+    for threads in 1, 3:
+        others = [row for row, other in zip(drawn(draw, 0.1, threads), wanted) if row != other]
+        print(0 < len(others) <= 64, set(others) == {bytes(12288)})
+""",
+            4 * "True True\n",
+        )
+
     def test_come_after_the_threads(self) -> None:
         events: List[str] = []
         
@@ -182,6 +212,42 @@ class Arrays(unittest.TestCase):
     def test_of_positions(self) -> None:
         for threads in (1, 3):
             self.must_not_crash("numbers[8] = 0x7fffffff; numbers[8] = 1024", threads)
+
+    def test_of_records(self) -> None:
+        """Of an array of numpy, one after another and with other members between them."""
+        if NUMPY is None:
+            self.skipTest("there is no numpy")
+        for behind in ("[]", "[('more', 'u4', 5)]"):
+            done = run(f"""
+                import threading, time
+                import numpy as np, trirast
+                vertices = np.zeros(30000, trirast.VERTEX + {behind})
+                vertices["x"], vertices["y"] = np.random.default_rng(1).integers(0, 65536, (2, 30000))
+                vertices["depth"] = 65535
+                kept, canvas = vertices.copy(), trirast.Canvas(256, 256, samples=4)
+                canvas.clear()
+                is_over = False
+
+                def change():
+                    while not is_over:
+                        for value in -8388608, 8388607, (1 << 31) - 1, -(1 << 31):
+                            vertices["x"], vertices["y"] = value, -1 - value
+                            vertices[:] = kept
+
+                changing = threading.Thread(target=change)
+                changing.start()
+                end = time.monotonic() + 3
+                while time.monotonic() < end:
+                    for threads in 1, 3:
+                        try:
+                            canvas.draw(vertices, depth_test="less", depth_write=True, threads=threads)
+                        except trirast.BatchError as error:
+                            assert error.name == "BadPosition", error
+                is_over = True
+                changing.join()
+                print("ended")
+            """)
+            self.assertEqual((done.returncode, done.stdout, done.stderr), (0, b"ended\n", b""))
 
 
 class Errors(unittest.TestCase):

@@ -9,7 +9,7 @@ from typing import Any, List
 import trirast
 from trirast import _vertices
 
-from .common import NUMPY, PIXELS, VERTICES, bytes_of, drawn
+from .common import NUMPY, PIXELS, VERTICES, bytes_of, drawn, run
 
 XY = [row[:2] for row in VERTICES]
 TRIANGLE = [[0, 1, 2]]
@@ -19,7 +19,7 @@ RECORDS = b"".join(struct.pack("=iiHBBBB2x", *row) for row in VERTICES)
 
 def records(*given: Any, **more: Any) -> List[Any]:
     """The records that are made of vertices, each as its seven numbers."""
-    return list(struct.iter_unpack("=iiHBBBB2x", bytes(_vertices.packed(_vertices.vertices_of(*given, **more)))))
+    return list(struct.iter_unpack("=iiHBBBB2x", bytes(_vertices.vertices_of(*given, **more))))
 
 
 class Forms(unittest.TestCase):
@@ -83,12 +83,10 @@ class Forms(unittest.TestCase):
             self.assertEqual(drawn(vertices, TRIANGLE), PIXELS, vertices)
         self.assertEqual(records(other), [tuple(row) for row in VERTICES])
         given = own.copy()
-        self.assertTrue(np.shares_memory(_vertices.vertices_of(given), given))
-        self.assertFalse(np.shares_memory(_vertices.vertices_of(unaligned), unaligned))
         self.assertEqual(records(given, colors=(1, 2, 3, 4), depth=5), [(*row[:2], 5, 1, 2, 3, 4) for row in VERTICES])
         self.assertEqual(bytes_of(given), RECORDS)
 
-    def test_among_other_members_are_read_where_they_lie(self) -> None:
+    def test_of_records_among_other_members(self) -> None:
         if NUMPY is None:
             self.skipTest("there is no numpy")
         np = NUMPY
@@ -101,9 +99,6 @@ class Forms(unittest.TestCase):
         for vertices in (first, middle, nested, widest, widest.view(np.recarray), np.zeros(6, middle.dtype)[::2]):
             for name, _kind in trirast.VERTEX:
                 vertices[name] = own[name]
-            found = _vertices.vertices_of(vertices)
-            self.assertIs(found.array, vertices)
-            self.assertEqual(found.stride, vertices.strides[0])
             self.assertEqual(drawn(vertices, TRIANGLE), PIXELS)
             self.assertEqual(drawn(vertices, None), PIXELS)
             self.assertEqual(records(vertices), [tuple(row) for row in VERTICES])
@@ -122,7 +117,7 @@ class Forms(unittest.TestCase):
                 canvas.draw(vertices, TRIANGLE)
             self.assertEqual((caught.exception.name, caught.exception.element), ("BadPosition", 0))
 
-    def test_that_cannot_be_read_where_they_lie_are_copied(self) -> None:
+    def test_of_records_of_another_layout(self) -> None:
         if NUMPY is None:
             self.skipTest("there is no numpy")
         np = NUMPY
@@ -138,12 +133,49 @@ class Forms(unittest.TestCase):
             ]
         )
         padded = np.zeros(3, [*trirast.VERTEX, ("more", "u4")])
-        for vertices in (too_wide, odd, turned, cut, swapped, padded[::-1]):
+        objects = np.zeros(3, [*trirast.VERTEX, ("more", "O")])
+        for vertices in (too_wide, odd, turned, cut, swapped, padded[::-1], objects):
             for name, _kind in trirast.VERTEX:
                 if name in vertices.dtype.names:
                     vertices[name] = own[name]
-            self.assertIsInstance(_vertices.vertices_of(vertices), bytearray)
             self.assertEqual(drawn(vertices, TRIANGLE), PIXELS)
+
+    def test_of_arrays_that_change_after_a_draw_was_made_are_those_that_were_given(self) -> None:
+        if NUMPY is None:
+            self.skipTest("there is no numpy")
+        done = run("""
+            import warnings
+            import numpy as np, trirast
+            warnings.simplefilter("ignore")
+
+            def other_type(array):
+                array.dtype = np.uint8
+
+            def other_shape(array):
+                array.shape = (1, len(array))
+
+            def other_numbers(array):
+                array["x"] = array["y"] = 99999
+
+            def other_memory(array):
+                array.resize(1 << 20, refcheck=False)
+
+            canvas = trirast.Canvas(8, 8)
+            for behind in [], [("more", "u1", 48)], [("more", "u4")]:
+                for change in other_type, other_shape, other_numbers, other_memory:
+                    for index in None, [(0, 1, 2)]:
+                        vertices = np.zeros(3, trirast.VERTEX + behind)
+                        vertices["x"], vertices["y"] = (0, 4096, 0), (0, 0, 4096)
+                        vertices["red"] = vertices["alpha"] = 255
+                        draws = [trirast.Draw(vertices, index), trirast.Draw(vertices, index, depth=7)]
+                        change(vertices)
+                        for some in draws, draws[:1]:
+                            canvas.clear()
+                            canvas.draw_batch(some, threads=2)
+                            assert set(memoryview(canvas.rgb()).tobytes()) == {0, 255}, (behind, change)
+            print("ended")
+        """)
+        self.assertEqual((done.returncode, done.stdout, done.stderr), (0, b"ended\n", b""))
 
     def test_that_are_none_draw_nothing(self) -> None:
         empty: List[Any] = [

@@ -45,8 +45,6 @@ class Check:
     long_seconds: int = 0
     # What it runs of what make builds.
     runs: tuple[str, ...] = ()
-    # Whether its short form is left out where what it runs is not built, since that would take too long.
-    only_if_built: bool = False
     # Commands of the system and modules of Python (as `python:NAME`) without which it is skipped.
     needs: tuple[str, ...] = ()
 
@@ -56,7 +54,7 @@ class Check:
         return [sys.executable, "-m", *words] if self.is_module() else words
 
     def is_module(self) -> bool:
-        return self.command.startswith(("tools.", "pytest "))
+        return self.command.startswith(("tools.", "tests.", "pytest "))
 
     def missing(self) -> list[str]:
         """What it needs of the system and is not there."""
@@ -78,8 +76,8 @@ INSTALLATION = (*EVERYTHING, "why", "installed")
 CHECKS = (
     Check(
         name="check-ci",
-        about="what `make prove` and `make test` count and refuse",
-        command="pytest tools/ci", seconds=25,
+        about="what `make test` and `.ci/run` count and refuse",
+        command="pytest tests/gate", seconds=8,
     ),
     Check(
         name="types",
@@ -90,59 +88,49 @@ CHECKS = (
     Check(
         name="reference",
         about="worked values of the second renderer",
-        command="pytest tools/reference/test_renderer.py", seconds=3,
+        command="pytest tests/reference/test_renderer.py", seconds=3,
     ),
     Check(
         name="documents",
-        about="what documents name",
-        command="pytest tools/checks/test_documents.py", seconds=2,
-    ),
-    Check(
-        name="statement",
-        about="docs/statement.md against the sources",
-        command="pytest tools/sources/test_statement.py", seconds=1,
-    ),
-    Check(
-        name="edits",
-        about="must-fail edits by name, the statuses, causes and numbers of samples of header, bindings and page, "
-        "names that two crates have, how contracts are compared, and the length of lines",
-        command="pytest tools/sources --ignore tools/sources/test_statement.py", seconds=2,
+        about="documents, the statement, must-fail edits and contracts against the sources; the statuses, causes and "
+        "numbers of samples of header, bindings and page; the length of lines and sentences",
+        command="pytest tests/documents --ignore tests/documents/pages", seconds=12,
     ),
     Check(
         name="schema",
         about="the JSON Schema on examples and refused lists",
-        command="tools.checks.schema", seconds=20,
+        command="tests.list.schema", seconds=20,
         needs=("python:jsonschema",),
     ),
     Check(
         name="acceptance",
         about="the program's pictures, lines and statuses, by lists, arguments and devices that fail",
-        command="pytest tests/acceptance", seconds=8,
+        command="pytest tests/program", seconds=8,
         runs=("program", "why"),
     ),
     Check(
         name="check-compare",
         about="what generated lists cover",
-        command="pytest tools/reference/test_compare.py", seconds=15,
+        command="pytest tests/reference/test_compare.py", seconds=15,
     ),
     Check(
         name="compare",
         about="generated lists, every byte against a second renderer",
-        command="tools.reference.compare --lists 600 --refused 300", seconds=60,
+        command="tests.reference.compare --lists 600 --refused 300", seconds=60,
         long="--lists 4000 --refused 2000", long_seconds=300,
         runs=("program",),
     ),
     Check(
         name="compare-history",
         about="histories of trirast_why against the second renderer, reason by reason, and the pictures",
-        command="tools.reference.compare_history --lists 100 --counted 100", seconds=22,
+        command="tests.reference.compare_history --lists 100 --counted 100", seconds=22,
         long="--lists 500 --counted 500", long_seconds=130,
         runs=("program", "why"),
     ),
     Check(
         name="compare-library-history",
         about="histories of the library against those of trirast_why",
-        command="tools.reference.compare_library_history --lists 60 --counted 60", seconds=10,
+        command="tests.reference.compare_library_history --lists 60 --counted 60", seconds=10,
         long="--lists 500 --counted 500", long_seconds=80,
         runs=("program", "why", "library"), needs=COMPILER,
     ),
@@ -150,7 +138,7 @@ CHECKS = (
         name="compare-canvas",
         about="generated lists on canvases, split into batches, by Python and by C, against "
         "program and second renderer",
-        command="tools.reference.compare_canvas --lists 200", seconds=20,
+        command="tests.reference.compare_canvas --lists 200", seconds=20,
         long="--lists 1000", long_seconds=90,
         runs=EVERYTHING, needs=COMPILER,
     ),
@@ -158,37 +146,37 @@ CHECKS = (
         name="compare-polygons",
         about="polygons, triangles and pictures on canvases that keep blocks in every way, against the rules sample "
         "by sample",
-        command="tools.reference.compare_polygons --scenes 45", seconds=15,
+        command="tests.reference.compare_polygons --scenes 45", seconds=15,
         long="--scenes 450", long_seconds=110,
         runs=("library",), needs=("python:numpy",),
     ),
     Check(
         name="canvas-mutants",
         about="mutants of the second renderer's canvases",
-        command="tools.reference.canvas_mutants", seconds=25,
+        command="tests.reference.canvas_mutants", seconds=25,
         runs=EVERYTHING, needs=COMPILER,
     ),
     Check(
         name="polygon-mutants",
         about="mutants of a canvas that keeps blocks in ways, which the comparison of polygons has to find",
-        command="pytest tools/reference/test_compare_polygons.py", seconds=45,
+        command="pytest tests/reference/test_compare_polygons.py", seconds=45,
         needs=("python:numpy",),
     ),
     Check(
         name="check-golden",
         about="how pictures are compared and recorded",
-        command="pytest tools/checks/test_golden.py", seconds=3,
+        command="pytest tests/program/test_golden.py", seconds=3,
     ),
     Check(
         name="golden",
         about="pictures of examples/ and tests/regressions/ by their checksums",
-        command="tools.checks.golden", seconds=37,
+        command="tests.program.golden", seconds=37,
         runs=("program",),
     ),
     Check(
         name="mutants",
         about="mutants of the second renderer, which the comparison has to find",
-        command="tools.reference.mutants", seconds=25,
+        command="tests.reference.mutants", seconds=25,
         runs=("program",),
     ),
     Check(
@@ -200,45 +188,46 @@ CHECKS = (
     Check(
         name="injection",
         about="mistakes after failed allocations, by mutants",
-        command="pytest tools/checks/test_injection.py", seconds=20,
+        command="pytest tests/program/test_injection.py", seconds=20,
         needs=COMPILER,
     ),
     Check(
         name="allocation-failures",
         about="the program where allocations fail",
-        command="pytest tools/checks/allocation_failures.py -k 'not Draws and not Tiles'", seconds=22,
+        command="pytest tests/program/allocation_failures.py -k 'not Draws and not Tiles'", seconds=22,
         runs=("program",), needs=COMPILER,
     ),
     Check(
         name="allocation-failures-inside",
         about="tiles and readers by themselves where allocations fail, and tiles beside the reference crate",
-        command="pytest tools/checks/allocation_failures.py tools/checks/test_tiles.py -k 'Draws or Tiles'", seconds=15,
-        runs=("readers",), needs=COMPILER, only_if_built=True,
+        command="pytest tests/program/allocation_failures.py tests/program/test_tiles.py -k 'Draws or Tiles'",
+        seconds=15,
+        runs=("readers",), needs=COMPILER,
     ),
     Check(
         name="fuzz-reader",
         about="made-up texts, right, nearly right and cut, by both readers of draw lists",
-        command="tools.checks.fuzz_reader --texts 20000", seconds=4,
+        command="tests.list.fuzz_reader --texts 20000", seconds=4,
         long="--texts 1000000", long_seconds=150,
-        runs=("readers",), only_if_built=True,
+        runs=("readers",),
     ),
     Check(
         name="fault-injection",
         about="readers, writers, devices and threads that fail, and lists at their limits",
-        command="pytest tools/checks/fault_injection.py", seconds=70,
+        command="pytest tests/program/fault_injection.py", seconds=70,
         runs=("program",), needs=COMPILER,
     ),
     Check(
         name="check-library",
         about="library, header, packages in Python and Rust and examples against the program",
-        command="pytest tools/checks/library", seconds=350,
+        command="pytest tests/library", seconds=350,
         long="-m 'long or not long'", long_seconds=390,
         runs=INSTALLATION, needs=COMPILER,
     ),
     Check(
         name="pages",
         about="each command and example of README and docs/, run as it stands",
-        command="pytest tools/checks/pages", seconds=50,
+        command="pytest tests/documents/pages", seconds=50,
         runs=INSTALLATION, needs=COMPILER,
     ),
     Check(
@@ -250,7 +239,7 @@ CHECKS = (
     Check(
         name="clip",
         about="clipping in C, C++ and Python: samples covered once, the same bytes by every compiler, wrong edits",
-        command="pytest tools/checks/clip", seconds=80,
+        command="pytest tests/clip", seconds=80,
         long="-m 'long or not long'", long_seconds=110,
         runs=("library",), needs=(*COMPILER, "g++"),
     ),
@@ -258,34 +247,42 @@ CHECKS = (
         name="shade",
         about="shading in C and C++: weights and pictures beside exact ones, the same bytes by "
         "every compiler, wrong edits",
-        command="pytest tools/checks/shade", seconds=85,
+        command="pytest tests/shade", seconds=85,
         long="-m 'long or not long'", long_seconds=600,
+        runs=("library",), needs=(*COMPILER, "g++"),
+    ),
+    Check(
+        name="guarded",
+        about="random calls on canvases between guard pages, beside a plain renderer, random clipping and shading "
+        "under sanitizers, and the mistakes that TRIRAST_CHECKS reports",
+        command="pytest tests/guarded", seconds=80,
+        long="-m 'long or not long'", long_seconds=1300,
         runs=("library",), needs=(*COMPILER, "g++"),
     ),
     Check(
         name="fuzz-package",
         about="calls of the Python package that are made up, each picture against a plain one",
-        command="tools.checks.fuzz_package --calls 400", seconds=4,
+        command="tests.python.fuzz_package --calls 400", seconds=4,
         long="--calls 10000", long_seconds=200,
         runs=EVERYTHING, needs=COMPILER,
     ),
     Check(
         name="check-packages",
         about="Debian packages, wheels and CMake files, each installed in a clean folder",
-        command="pytest tools/packaging", seconds=50,
+        command="pytest tests/packages", seconds=50,
         runs=INSTALLATION, needs=COMPILER,
     ),
     Check(
         name="check-poster",
-        about="posters against the program, stopped and resumed",
-        command="pytest tools/checks/poster", seconds=230,
-        long="--long -m 'long or not long'", long_seconds=900,
+        about="posters against the program, stopped, damaged and resumed",
+        command="pytest tests/posters", seconds=260,
+        long="--long -m 'long or not long'", long_seconds=1400,
         runs=EVERYTHING, needs=(*COMPILER, "python:numpy"),
     ),
     Check(
         name="check-web",
         about="the page in Chromium, each sample against the program",
-        command="pytest tools/checks/web", seconds=46,
+        command="pytest tests/web", seconds=46,
         long="-m 'long or not long'", long_seconds=150,
         runs=EVERYTHING, needs=COMPILER,
     ),

@@ -22,7 +22,7 @@ from typing import Sequence
 
 from tools.ci.checks import BUILDS, CHECKS, Check, by_name
 from tools.ci.schedule import Ended, Outcome, Schedule, Task, clock
-from tools.ci.toolchain import Ran, run, stop_all
+from tools.ci.commands import Ran, run, stop_all
 from tools.counts import MISSING, Counts
 from tools.places import PYTHON_SOURCES, TOP
 
@@ -32,7 +32,7 @@ MINUTE = 60
 CHECK_SECONDS, LONG_SECONDS, BUILD_SECONDS = 40 * MINUTE, 120 * MINUTE, 120 * MINUTE
 # For the order of tasks alone.
 BUILD_LIKELY = 5 * MINUTE
-SKIPPED = re.compile(r"^(?:skipped\b|SKIPPED\b).*", re.MULTILINE)
+SKIPPED = re.compile(r"^skipped\b.*", re.MULTILINE)
 
 
 def counted(ran: Ran) -> Counts:
@@ -64,14 +64,14 @@ class Tests:
         with open(path, "w", encoding="utf-8") as file:
             file.write(ran.text)
 
-    def build(self, name: str, _processors: int) -> Outcome:
+    def build(self, name: str) -> Outcome:
         ran = run(["make", *BUILDS[name]], self.top, BUILD_SECONDS)
         self.log(f"build-{name}", ran)
         if ran.status != 0:
             return Outcome(False, f"make failed with status {ran.status}", ran.seconds, tuple(ran.last_lines(12)))
         return Outcome(True, "there", ran.seconds, counts=Counts())
 
-    def check(self, check: Check, _processors: int) -> Outcome:
+    def check(self, check: Check) -> Outcome:
         # Some checks start programs that import the package.
         environment = {**os.environ, "PYTHONUNBUFFERED": "1", "PYTHONPATH": PYTHON_SOURCES}
         ran = run(check.words(self.is_long), self.top, LONG_SECONDS if self.is_long else CHECK_SECONDS, environment)
@@ -92,16 +92,6 @@ class Tests:
             print(f"{clock(ended.at)} {outcome.seconds:7.1f}  {ended.task.name}: {outcome.remark}", flush=True)
         if not outcome.has_passed:
             self.failures.append(ended)
-
-    def lacks(self, check: Check) -> str:
-        """Why a check is skipped, or nothing."""
-        if check.missing():
-            return f"there is no {' and no '.join(check.missing())}"
-        if check.only_if_built and not self.is_long:
-            goals = [goal for name in check.runs for goal in BUILDS[name]]
-            old = [goal for goal in goals if run(["make", "-q", goal], self.top, MINUTE).status != 0]
-            return f"{' and '.join(old)} is not built, or old; make test-long builds it" if old else ""
-        return ""
 
     def tasks(self, checks: Sequence[Check]) -> list[Task]:
         """The builds that are needed, one after the other, and the checks behind them."""
@@ -124,8 +114,8 @@ class Tests:
         os.makedirs(os.path.join(self.top, LOGS))
         able: list[Check] = []
         for check in checks:
-            if why := self.lacks(check):
-                self.skipped.append(f"{check.name}: {why}")
+            if lacking := check.missing():
+                self.skipped.append(f"{check.name}: there is no {' and no '.join(lacking)}")
                 self.counts += Counts(skipped=1)
             else:
                 able.append(check)

@@ -5,8 +5,8 @@ from __future__ import annotations
 import threading
 import time
 from concurrent.futures import FIRST_COMPLETED, Future, ThreadPoolExecutor, wait
-from dataclasses import dataclass, field, replace
-from typing import Callable, Iterable, Mapping
+from dataclasses import dataclass, field
+from typing import Callable, Iterable
 
 from tools.counts import Counts
 
@@ -27,8 +27,6 @@ class Outcome:
     details: tuple[str, ...] = ()
     # What it counts for, if that is not one.
     counts: Counts | None = None
-    # How its parts ended, by their names.
-    parts: Mapping[str, Outcome] = field(default_factory=dict)
 
     def number(self) -> Counts:
         return Counts(int(self.has_passed), int(not self.has_passed)) if self.counts is None else self.counts
@@ -37,19 +35,14 @@ class Outcome:
 @dataclass(frozen=True)
 class Task:
     name: str
-    # Is given the number of processors that it may use.
-    run: Callable[[int], Outcome]
+    run: Callable[[], Outcome]
     # Names of the tasks that have to pass before.
     needs: tuple[str, ...] = ()
     # The seconds that it is likely to take.
     seconds: float = 1.0
-    # Whether it can use more than one processor.
-    is_wide: bool = False
-    # The names of what it consists of, each of which is printed and counted.
-    parts: tuple[str, ...] = ()
 
 
-@dataclass
+@dataclass(frozen=True)
 class Ended:
     """A task that has ended, or that was not run since one before it failed."""
 
@@ -57,14 +50,6 @@ class Ended:
     outcome: Outcome
     # By the clock, from the first task on.
     at: float = 0.0
-
-    def each(self) -> list[Ended]:
-        """Its parts, each with its own outcome, or the task itself if it has none."""
-        parts = self.outcome.parts
-        return [
-            Ended(replace(self.task, name=name, parts=()), parts.get(name, self.outcome), self.at)
-            for name in self.task.parts
-        ] or [self]
 
 
 @dataclass
@@ -75,7 +60,6 @@ class Schedule:
     processors: int
     tell: Callable[[Ended], None]
     ended: dict[str, Ended] = field(default_factory=dict)
-    stopping: threading.Event = field(default_factory=threading.Event)
 
     def chains(self) -> dict[str, float]:
         """The seconds from the start of each task to the end of the longest chain of tasks that it begins."""
@@ -113,28 +97,22 @@ class Schedule:
         """Runs all tasks, and returns how each ended, in that order."""
         chains, start = self.chains(), time.monotonic()
         waiting = sorted(self.tasks, key=lambda task: -chains[task.name])
-        running: dict[Future[Outcome], tuple[Task, int]] = {}
+        running: dict[Future[Outcome], Task] = {}
         with ThreadPoolExecutor(self.processors) as pool:
             while waiting or running:
                 # A task behind one that failed may itself stand before others.
                 while len(left := self.give_up(waiting, start)) < len(waiting):
                     waiting = left
-                ready = self.ready(waiting)
-                free = self.processors - sum(jobs for _task, jobs in running.values())
-                while ready and free > 0:
-                    task = ready.pop(0)
-                    jobs = max(1, free - len(ready)) if task.is_wide else 1
+                for task in self.ready(waiting)[: self.processors - len(running)]:
                     waiting.remove(task)
-                    running[pool.submit(self.one, task, jobs)] = (task, jobs)
-                    free -= jobs
+                    running[pool.submit(self.one, task)] = task
                 for future in wait(running, return_when=FIRST_COMPLETED).done if running else ():
-                    task, _jobs = running.pop(future)
-                    self.end(task, future.result(), start)
+                    self.end(running.pop(future), future.result(), start)
         return list(self.ended.values())
 
-    def one(self, task: Task, jobs: int) -> Outcome:
+    def one(self, task: Task) -> Outcome:
         """Runs a task. An error of this program is a failure of the task alone."""
         try:
-            return task.run(jobs)
+            return task.run()
         except Exception as error:  # noqa: BLE001
             return Outcome(False, f"{type(error).__name__}: {error}")

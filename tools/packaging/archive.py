@@ -16,7 +16,7 @@ import subprocess
 import sys
 from typing import Iterable, Sequence
 
-from tools.sources.crates import Tree, Uses, below
+from tools.sources.crates import Uses, below, uses_in
 from tools.places import TOP
 
 # The crates of the library.
@@ -60,7 +60,7 @@ def build_command(top: str, kit: str, uses: Uses, crate: str, archive: str, more
 def run(top: str, rt: str, crate: str, archive: str, more: Sequence[str]) -> bool:
     """Builds the archive of a crate over what is proved. Returns whether it was built."""
     page = subprocess.run([rt, "doc"], stdout=subprocess.PIPE, text=True, check=True).stdout.strip()
-    command = build_command(top, os.path.dirname(page), Tree(top).uses, crate, archive, more)
+    command = build_command(top, os.path.dirname(page), uses_in(top), crate, archive, more)
     place = os.path.join(top, "crates", crate)
     return subprocess.run(command, cwd=place, stdin=subprocess.DEVNULL).returncode == 0
 

@@ -17,7 +17,7 @@ import shutil
 import sys
 from dataclasses import dataclass
 
-from tools.checks.library.commands import python_with
+from tests.library.commands import python_with
 from tools.packaging.common import (
     DIST, OUT, PROGRAM_MODE, files_below, make_anew, put, release, release_time, run, write
 )

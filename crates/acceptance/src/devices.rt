@@ -1,40 +1,97 @@
-//! A writer over memory that takes little at a time, and fails.
+//! A reader and a writer over memory that move few bytes a call, and fail.
 use std::alloc::Global;
 use std::io;
-use std::io::{ErrorKind, Write};
+use std::io::{ErrorKind, Read, Write};
 
-/// A writer that takes `room` bytes, at most `a_call` a call. Then each further write is an error, or takes nothing.
+/// How a reader gives its text: at most this many bytes a call, and after so many calls each further one is an error.
+#[derive(Clone, Copy, Debug)]
+pub(crate) struct Reading {
+    pub(crate) bytes_a_call: usize,
+    pub(crate) calls: u64,
+}
+
+/// What a writer does if it has no room left.
+#[derive(Clone, Copy, Debug)]
+pub(crate) enum Full {
+    Fails,
+    TakesNothing,
+}
+
+/// How a writer takes bytes: at most this many a call, as long as it has room. It can be flushed, or not.
+#[derive(Clone, Copy, Debug)]
+pub(crate) struct Writing {
+    pub(crate) bytes_a_call: usize,
+    pub(crate) room: usize,
+    pub(crate) full: Full,
+    pub(crate) can_flush: bool,
+}
+
+/// A reader of a text.
+#[derive(Drop)]
+pub(crate) struct Source<'a> {
+    text: &'a [u8],
+    reading: Reading,
+    has_failed: bool,
+    /// How often it was called after it had failed.
+    pub(crate) late_calls: u64,
+}
+
+impl<'a> Source<'a> {
+    pub(crate) fn new(text: &'a [u8], reading: Reading) -> Source<'a> {
+        Source {
+            text,
+            reading,
+            has_failed: false,
+            late_calls: 0,
+        }
+    }
+}
+
+impl Read for Source<'_> {
+    fn read(&mut self, buffer: &mut [u8]) -> io::Result<usize> {
+        if self.has_failed {
+            self.late_calls = self.late_calls.wrapping_add(1);
+        }
+        if self.reading.calls == 0 {
+            self.has_failed = true;
+            // The kind that std's own loops call again.
+            return Err(io::Error::from(ErrorKind::Interrupted));
+        }
+        self.reading.calls -= 1;
+        let text = self.text;
+        let count = buffer.len().min(self.reading.bytes_a_call).min(text.len());
+        buffer[..count].copy_from_slice(&text[..count]);
+        self.text = &text[count..];
+        Ok(count)
+    }
+}
+
+/// A writer that keeps what it takes.
 #[derive(Drop)]
 pub(crate) struct Sink {
     pub(crate) taken: Vec<u8>,
-    pub(crate) room: usize,
-    pub(crate) a_call: usize,
-    pub(crate) takes_nothing: bool,
-    pub(crate) can_flush: bool,
+    writing: Writing,
     /// How often it was flushed.
     pub(crate) flushes: u64,
-    /// How often it was called after it had returned that it takes no more.
+    has_failed: bool,
+    /// How often it was called after it had failed or had taken nothing.
     pub(crate) late_calls: u64,
-    has_ended: bool,
 }
 
 impl Sink {
-    pub(crate) fn new(alloc: Global, room: usize, a_call: usize) -> Sink {
+    pub(crate) fn new(alloc: Global, writing: Writing) -> Sink {
         Sink {
             taken: Vec::new(alloc),
-            room,
-            a_call,
-            takes_nothing: false,
-            can_flush: true,
+            writing,
             flushes: 0,
+            has_failed: false,
             late_calls: 0,
-            has_ended: false,
         }
     }
 
     /// Counts a call that comes too late.
     fn count_call(&mut self) {
-        if self.has_ended {
+        if self.has_failed {
             self.late_calls = self.late_calls.wrapping_add(1);
         }
     }
@@ -43,14 +100,13 @@ impl Sink {
 impl Write for Sink {
     fn write(&mut self, bytes: &[u8]) -> io::Result<usize> {
         self.count_call();
-        let left = self.room.saturating_sub(self.taken.len());
-        let count = bytes.len().min(self.a_call).min(left);
+        let left = self.writing.room.saturating_sub(self.taken.len());
+        let count = bytes.len().min(self.writing.bytes_a_call).min(left);
         if count == 0 {
-            self.has_ended = true;
-            return if self.takes_nothing {
-                Ok(0)
-            } else {
-                Err(io::Error::from(ErrorKind::BrokenPipe))
+            self.has_failed = true;
+            return match self.writing.full {
+                Full::Fails => Err(io::Error::from(ErrorKind::Interrupted)),
+                Full::TakesNothing => Ok(0),
             };
         }
         self.taken.extend_from_slice(&bytes[..count])?;
@@ -60,10 +116,10 @@ impl Write for Sink {
     fn flush(&mut self) -> io::Result<()> {
         self.count_call();
         self.flushes = self.flushes.wrapping_add(1);
-        if self.can_flush {
+        if self.writing.can_flush {
             return Ok(());
         }
-        self.has_ended = true;
-        Err(io::Error::from(ErrorKind::BrokenPipe))
+        self.has_failed = true;
+        Err(io::Error::from(ErrorKind::Interrupted))
     }
 }

@@ -1,98 +1,69 @@
 //! What a run returns, and what its writer took.
 ghost use Rattle.std.specs.Prelude.{◌≤◌};
 
-use crate::devices::Sink;
+use crate::cases::{Case, cases};
+use crate::devices::{Sink, Source};
+use crate::half::{FILE_BYTES, HALF, LIST_BYTES, half_file};
 use grid::TileSide;
-use pool::{Gate, Open};
-use std::alloc::{AllocError, Global};
+use pool::{Gate, PoolFault};
+use std::alloc::Global;
 use std::process::Abort;
 use std::sync::Wait;
 use std::sync::atomic::{AtomicU64, Ordering};
 use std::test::Fail;
 use std::thread;
 use std::thread::Threads;
-use trirast::{Counted, Fault, Options, pgm_header, ppm_header, ppm_rows, run_with, write_ppm};
+use trirast::{
+    Counted, Fault, Options, fault_line, pgm_header, ppm_header, ppm_rows, run, run_with, write_ppm,
+};
 
-/// 9 by 9 white pixels, so four tiles of 8 by 8 pixels.
-const WHITE: &str = r#"{"width":9,"height":9,"clear":[255,255,255],"draws":[]}"#;
-
-/// Its file of 254 bytes: a header of 11 bytes, and three bytes a pixel.
-fn white(alloc: Global) -> Result<Vec<u8>, AllocError> {
-    let mut bytes = Vec::from_slice(alloc, b"P6\n9 9\n255\n")?;
-    for _ in 0..243 {
-        bytes.push(255)?;
-    }
-    Ok(bytes)
-}
-
-/// Draws the picture over this writer, and gives the writer back, with how many of its calls failed.
-fn run_into<R: Threads + Wait + Sync, G: Gate>(
-    rt: &R,
-    alloc: Global,
-    sink: Sink,
-    workers: u32,
-    gate: &G,
-) -> (Result<(), Fault>, Sink, u64)
-    requires { (1 ≤ workers) × (workers ≤ 16) }
-{
-    let mut input = Counted::new(WHITE.as_bytes());
-    let mut output = Counted::new(sink);
-    let options = Options {
-        tile: TileSide::T8,
-        workers,
-    };
-    let result = run_with(rt, alloc, &mut input, &mut output, options, gate);
-    let failures = output.failures();
-    (result, output.into_inner(), failures)
-}
-
-/// Asserts that a run over this writer ends so, that it has taken this part of the file, was flushed so often, and was
-/// not called after it had returned that it takes no more.
+/// Asserts that the run ends as the case says: its result, the beginning of the file that was written, one flush after
+/// a whole file and none else, one failure where a fault is due and none else, and no call after it.
 fn ends<R: Threads + Wait + Sync + Abort>(
     rt: &R,
     alloc: Global,
-    sink: Sink,
+    case: &Case,
+    file: &[u8],
     workers: u32,
-    wanted: (Result<(), Fault>, Option<&[u8]>, u64),
 )
     requires { (1 ≤ workers) × (workers ≤ 16) }
 {
-    let (result, taken, flushes) = wanted;
-    let room = sink.room;
-    let (found, sink, failures) = run_into(rt, alloc, sink, workers, &Open);
-    assert_eq!(rt; found, result, "{room}");
-    assert_eq!(rt; failures, u64::from(result.is_err()), "{room}");
-    assert_eq!(rt; Some(sink.taken.as_slice()), taken, "{room}");
-    assert_eq!(rt; (sink.flushes, sink.late_calls), (flushes, 0), "{room}");
+    let mut input = Counted::new(Source::new(HALF.as_bytes(), case.reading));
+    let mut output = Counted::new(Sink::new(alloc, case.writing));
+    let options = Options {
+        tile: TileSide::T32,
+        workers,
+    };
+    let result = run(rt, alloc, &mut input, &mut output, options);
+    assert_eq!(rt; result, case.result, "{case:?}");
+    let read_failed = case.result == Err(Fault::InputFailed);
+    assert_eq!(rt; input.failures(), u64::from(read_failed), "{case:?}");
+    let write_failed = matches!(case.result, Err(Fault::WriteFailed(_)));
+    assert_eq!(rt; output.failures(), u64::from(write_failed), "{case:?}");
+    let (source, sink) = (input.into_inner(), output.into_inner());
+    let taken = file.get(..case.written());
+    assert!(rt; Some(sink.taken.as_slice()) == taken, "{case:?}");
+    let is_whole = sink.taken.len() == file.len();
+    assert_eq!(rt; sink.flushes, u64::from(is_whole), "{case:?}");
+    assert_eq!(rt; (source.late_calls, sink.late_calls), (0, 0), "{case:?}");
 }
 
 #[test]
-fn reports_how_much_went_out_at_each_byte(rt: HostRuntime) -> Result<(), Fail> {
-    let file = white(rt.alloc())?;
-    assert_eq!(rt; file.len(), 254);
-    for room in 0..254usize {
-        for takes_nothing in [false, true] {
-            for workers in [1u32, 2] {
-                let mut sink = Sink::new(rt.alloc(), room, 4096);
-                sink.takes_nothing = takes_nothing;
-                let fault = Err(Fault::WriteFailed(room as u64));
-                ends(&rt, rt.alloc(), sink, workers, (fault, file.get(..room), 0));
-            }
-        }
+fn fails_where_a_device_fails_and_nowhere_else(rt: HostRuntime) -> Result<(), Fail> {
+    let file = half_file(rt.alloc())?;
+    assert_eq!(rt; (HALF.len(), file.len()), (LIST_BYTES, FILE_BYTES));
+    for case in &cases(rt.alloc())? {
+        ends(&rt, rt.alloc(), case, &file, 1);
     }
     Ok(())
 }
 
-// The runs before it do not change what a run draws.
+// Threads take longer to start than the picture takes to draw, so only some cases are run.
 #[test]
-fn writes_in_small_pieces_and_flushes_once(rt: HostRuntime) -> Result<(), Fail> {
-    let file = white(rt.alloc())?;
-    for a_call in [1, 7, 4096usize] {
-        for (can_flush, result) in [(false, Err(Fault::WriteFailed(254))), (true, Ok(()))] {
-            let mut sink = Sink::new(rt.alloc(), 4096, a_call);
-            sink.can_flush = can_flush;
-            ends(&rt, rt.alloc(), sink, 1, (result, Some(file.as_slice()), 1));
-        }
+fn fails_with_seven_workers_where_a_device_fails(rt: HostRuntime) -> Result<(), Fail> {
+    let file = half_file(rt.alloc())?;
+    for case in cases(rt.alloc())?.iter().skip(1).step_by(10) {
+        ends(&rt, rt.alloc(), case, &file, 7);
     }
     Ok(())
 }
@@ -125,11 +96,17 @@ fn two_at_once_picture(rt: HostRuntime) -> Result<(), Fail> {
         entered: AtomicU64::new(0),
         met: AtomicU64::new(0),
     };
-    let sink = Sink::new(rt.alloc(), 4096, 4096);
-    let (result, sink, _failures) = run_into(&rt, rt.alloc(), sink, 2, &gate);
+    let mut input = Counted::new(HALF.as_bytes());
+    let mut output = Counted::new(Vec::new(rt.alloc()));
+    let options = Options {
+        tile: TileSide::T32,
+        workers: 2,
+    };
+    let result = run_with(&rt, rt.alloc(), &mut input, &mut output, options, &gate);
     assert_eq!(rt; result, Ok(()));
     assert_eq!(rt; gate.met.load(Ordering::SeqCst), 1);
-    assert_eq!(rt; sink.taken.as_slice(), white(rt.alloc())?.as_slice());
+    let written: Vec<u8> = output.into_inner();
+    assert_eq!(rt; written.as_slice(), half_file(rt.alloc())?.as_slice());
     Ok(())
 }
 
@@ -147,5 +124,13 @@ fn writes_files_headers_and_rows(rt: HostRuntime) -> Result<(), Fail> {
     let expected =
         b"P6\n1 1\n255\n\x01\x02\x03P6\n4096 65\n255\n\x07\x08P5\n1 1\n65535\n\0\x5FP5\n4096 4095\n65535\n";
     assert_eq!(rt; written.as_slice(), expected.as_slice());
+    Ok(())
+}
+
+// No run reports it, so the program never prints this line.
+#[test]
+fn has_a_line_for_a_thread_that_was_not_started(rt: HostRuntime) -> Result<(), Fail> {
+    let line = fault_line(&Fault::from(PoolFault::NoWorker));
+    assert_eq!(rt; line.as_str(), "trirast: pool fault 2 NoWorker\n");
     Ok(())
 }

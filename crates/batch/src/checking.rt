@@ -181,12 +181,7 @@ pub(crate) fn check_draws<V: Vertices>(
         vertices_left = vertices_left.behind(draw.vertices);
     }
     if vertices_left.count() > 0 || indices_left.count() > 0 {
-        return Err(BatchFault {
-            cause: BatchCause::LeftOver,
-            draw: None,
-            element: None,
-            value: None,
-        });
+        return Err(BatchFault::left_over());
     }
     Ok(())
 }

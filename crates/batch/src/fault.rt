@@ -72,6 +72,23 @@ pub struct BatchFault {
     pub value: Option<usize>,
 }
 
+impl BatchFault {
+    ghost use Rattle.std.specs.Prelude.{◌≡◌};
+    ghost use Rattle.batch.specs.Causes.{left_over};
+
+    /// A vertex or an index is in no draw.
+    pub fn left_over() -> BatchFault
+        ensures { result ≡ left_over }
+    {
+        BatchFault {
+            cause: BatchCause::LeftOver,
+            draw: None,
+            element: None,
+            value: None,
+        }
+    }
+}
+
 impl DrawFault {
     ghost use Rattle.std.specs.Prelude.{◌≡◌};
     ghost use Rattle.batch.specs.Causes.{of_draw, at_element, bad_index, in_draw};

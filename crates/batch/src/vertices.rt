@@ -1,6 +1,7 @@
 //! The vertices of draws, however a caller has them.
 
 use crate::stride::Stride;
+use crate::strided::Strided;
 use crate::vertex::BatchVertex;
 
 /// The vertices of a batch.
@@ -10,6 +11,21 @@ pub enum BatchVertices<'a> {
     Packed(&'a [BatchVertex]),
     /// Each in the 16 bytes at its index times the stride, laid out as in C.
     Strided(&'a [u8], Stride),
+}
+
+impl BatchVertices<'_> {
+    ghost use Rattle.std.specs.Prelude.{◌≡◌, length};
+    ghost use Rattle.batch.specs.Vertices.{vertices_given};
+
+    /// How many vertices lie in the caller's memory.
+    pub fn count(&self) -> usize
+        ensures { result ≡ length (vertices_given self.now) }
+    {
+        match self {
+            BatchVertices::Packed(vertices) => vertices.len(),
+            BatchVertices::Strided(bytes, stride) => Strided::new(bytes, *stride).count(),
+        }
+    }
 }
 
 /// The vertices of draws, one after another, each of which is read when it is asked for.

@@ -9,59 +9,98 @@ use Rattle.shade.specs.declared.sample.CanvasSample.{CanvasSample}
 use Rattle.lanes.specs.declared.block_samples.BlockSamples.{BlockSamples}
 use Rattle.canvas.proofs.Cut.{put, put_here, put_elsewhere}
 use Rattle.canvas.proofs.Places.{none, same_in}
+use Rattle.canvas.proofs.TileEntries.{uniform_same, plane_in}
 use Rattle.canvas.specs.declared.canvas.Canvas.{Canvas}
-use Rattle.canvas.specs.Layout.{IsStoredIn, columns_of, planes_of_tile, planes_of_row, plane_of, stored, stored_in_tile}
+use Rattle.canvas.specs.Layout.{IsStoredIn, HasTile, columns_of, planes_of_tile, planes_of_row, plane_of, stored, stored_in_tile}
 use Rattle.canvas.specs.Drawing.{AreCleared}
+use Rattle.canvas.specs.Tiles.{IsUniformTile, IsUniform, AreUniform, planes_in}
 
 -- a tile's place by its number
 pub tiles_before : (r columns column each k : ℕ) → r * (columns * each) + column * each + k ≡ (r * columns + column) * each + k
 tiles_before r columns column each k = grind arith
 
+tile_before : (r columns column each k : ℕ) → r * (columns * each) + (column * each + k) ≡ (r * columns + column) * each + k
+tile_before r columns column each k = grind arith
+
 pub all_tiles : (r columns each : ℕ) → r * (columns * each) ≡ r * columns * each
 all_tiles r columns each = grind arith
 
 module _ (c : Canvas) (first end : ℕ) (sample : CanvasSample) where
+  -- the number of a tile
   abbrev pub number_of : ℕ → ℕ → ℕ
-  number_of i j = (j / 64 - first) * columns_of c + i / 64
+  number_of column row = (row - first) * columns_of c + column
 
   -- the tiles before this one have been cleared
-  abbrev pub AreTilesCleared : ℕ → List BlockSamples → Type 0
-  AreTilesCleared n xs = (i j s : ℕ) → IsStoredIn c first end i j s → number_of i j < n → stored c first xs i j s ≡ sample
+  pub record AreTilesCleared (n : ℕ) (xs : List BlockSamples) : Type 0 where
+    pub cleared : (i j s : ℕ) → IsStoredIn c first end i j s → number_of (i / 64) (j / 64) < n → stored c first xs i j s ≡ sample
+    pub uniform : (column row : ℕ) → HasTile c first end column row → number_of column row < n → IsUniform c first column row xs
+
+  number_below : (n column row : ℕ) → (end - first) * columns_of c ≤ n → column < columns_of c → first ≤ row → row < end → number_of column row < n
+  number_below n column row past wide from below =
+      let few = mul-add-lt (row - first) (columns_of c) column (end - first) (omega (arith, from, below)) wide in
+      omega (arith, past, few, mul_comm (columns_of c) (end - first))
+
+  pub none_cleared : (xs : List BlockSamples) → AreTilesCleared 0 xs
+  none_cleared xs = record { cleared = λ i j s h l. absurd (omega (arith, l)); uniform = λ column row h l. absurd (omega (arith, l)) }
 
   pub all_cleared : (n : ℕ) (xs : List BlockSamples) → (end - first) * columns_of c ≤ n → AreTilesCleared n xs → AreCleared c first end sample xs
-  all_cleared n xs past cleared i j s h =
-      let row : j / 64 - first < end - first = (let from = h.from in let below = h.below in omega (arith, from, below)) in
-      let few = mul-add-lt (j / 64 - first) (columns_of c) (i / 64) (end - first) row h.column in
-      cleared i j s h (omega (arith, past, few, mul_comm (columns_of c) (end - first)))
+  all_cleared n xs past before i j s h = before.cleared i j s h (number_below n (i / 64) (j / 64) past h.column h.from h.below)
 
-  module _ (n : ℕ) (xs part : List BlockSamples) (many a : ℕ) (room : a + many ≤ length xs) (long : length part ≡ many) (size : many ≡ planes_of_tile c.count) (at : a ≡ n * planes_of_tile c.count)
-      (clears : (i j s : ℕ) → s < count_of c.count → stored_in_tile c.count part i j s ≡ sample) (before : AreTilesCleared n xs) where
+  pub all_uniform : (n : ℕ) (xs : List BlockSamples) → (end - first) * columns_of c ≤ n → AreTilesCleared n xs → AreUniform c first end xs
+  all_uniform n xs past before column row h = before.uniform column row h (number_below n column row past h.wide h.from h.below)
+
+  module _ (n : ℕ) (xs part : List BlockSamples) (many a : ℕ) (room : a + many ≤ length xs) (long : length part ≡ many) (size : many ≡ planes_of_tile c.count) (at : a ≡ n * planes_of_tile c.count) where
+    -- the planes of that tile, and those of another
+    here : (q k : ℕ) → q ≡ n → k < planes_of_tile c.count → slice_index_or (put xs part a many) (q * planes_of_tile c.count + k) none ≡ slice_index_or part k none
+    here q k same small =
+        let there : q * planes_of_tile c.count ≡ a = ap (λ m. m * planes_of_tile c.count) same ∙ sym at in
+        ap (λ p. slice_index_or (put xs part a many) (p + k) none) there ∙ put_here xs part a many none room long k (omega (arith, size, small))
+
+    elsewhere : (q k : ℕ) → q ≢ n → k < planes_of_tile c.count → slice_index_or (put xs part a many) (q * planes_of_tile c.count + k) none ≡ slice_index_or xs (q * planes_of_tile c.count + k) none
+    elsewhere q k other small =
+        put_elsewhere xs part a many none room long (q * planes_of_tile c.count + k)
+        (λ m l e.
+        let left : q * planes_of_tile c.count + k ≡ n * planes_of_tile c.count + m = e ∙ ap (λ b. b + m) at in
+        let same = same_from_place q k n m (planes_of_tile c.count) small (omega (arith, size, l)) left in
+        other same.0)
+
     module _ (i j s : ℕ) (h : IsStoredIn c first end i j s) where
-      place : (k : ℕ) → (j / 64 - first) * planes_of_row c + i / 64 * planes_of_tile c.count + k ≡ number_of i j * planes_of_tile c.count + k
-      place k = tiles_before (j / 64 - first) (columns_of c) (i / 64) (planes_of_tile c.count) k
+      place : (ys : List BlockSamples) (k : ℕ) → plane_of c first ys i j k ≡ slice_index_or ys (number_of (i / 64) (j / 64) * planes_of_tile c.count + k) none
+      place ys k = ap (λ p. slice_index_or ys p none) (tiles_before (j / 64 - first) (columns_of c) (i / 64) (planes_of_tile c.count) k)
 
-      here : number_of i j ≡ n → stored c first (put xs part a many) i j s ≡ sample
-      here same =
+      sample_here : number_of (i / 64) (j / 64) ≡ n → stored c first (put xs part a many) i j s ≡ stored_in_tile c.count part i j s
+      sample_here same =
           same_in c.count (plane_of c first (put xs part a many) i j) (λ k. slice_index_or part k none) i j s h.is_sample
-          (λ k small.
-          let there : number_of i j * planes_of_tile c.count ≡ a = ap (λ m. m * planes_of_tile c.count) same ∙ sym at in
-          ap (λ p. slice_index_or (put xs part a many) p none) (place k ∙ ap (λ m. m + k) there)
-          ∙ put_here xs part a many none room long k (omega (arith, size, small)))
-          ∙ clears i j s h.is_sample
+          (λ k small. place (put xs part a many) k ∙ here (number_of (i / 64) (j / 64)) k same small)
 
-      elsewhere : number_of i j ≢ n → stored c first (put xs part a many) i j s ≡ stored c first xs i j s
-      elsewhere other =
+      sample_elsewhere : number_of (i / 64) (j / 64) ≢ n → stored c first (put xs part a many) i j s ≡ stored c first xs i j s
+      sample_elsewhere other =
           same_in c.count (plane_of c first (put xs part a many) i j) (plane_of c first xs i j) i j s h.is_sample
-          (λ k small.
-          put_elsewhere xs part a many none room long _
-          (λ m l e.
-          let left : number_of i j * planes_of_tile c.count + k ≡ n * planes_of_tile c.count + m = sym (place k) ∙ e ∙ ap (λ b. b + m) at in
-          let same = same_from_place (number_of i j) k n m (planes_of_tile c.count) small (omega (arith, size, l)) left in
-          other same.0))
+          (λ k small. place (put xs part a many) k ∙ elsewhere (number_of (i / 64) (j / 64)) k other small ∙ sym (place xs k))
 
-    pub one_cleared : AreTilesCleared (n + 1) (put xs part a many)
-    one_cleared i j s h l =
-        elim (cases_lt (number_of i j) n) [
-          | inl less ↦ elsewhere i j s h (λ e. omega (arith, e, less)) ∙ before i j s h less
-          | inr more ↦ here i j s h (omega (arith, l, more))
-        ]
+    module _ (column row : ℕ) (h : HasTile c first end column row) where
+      plane : (ys : List BlockSamples) (k : ℕ) → k < planes_of_tile c.count → slice_index_or (planes_in c first column row ys) k none ≡ slice_index_or ys (number_of column row * planes_of_tile c.count + k) none
+      plane ys k small =
+          plane_in c first column row ys k h.wide small ∙ ap (λ p. slice_index_or ys p none) (tile_before (row - first) (columns_of c) column (planes_of_tile c.count) k)
+
+      uniform_here : number_of column row ≡ n → IsUniformTile c.count part → IsUniform c first column row (put xs part a many)
+      uniform_here same = uniform_same c.count part (planes_in c first column row (put xs part a many)) (λ k small. plane (put xs part a many) k small ∙ here (number_of column row) k same small)
+
+      uniform_elsewhere : number_of column row ≢ n → IsUniform c first column row xs → IsUniform c first column row (put xs part a many)
+      uniform_elsewhere other =
+          uniform_same c.count (planes_in c first column row xs) (planes_in c first column row (put xs part a many))
+          (λ k small. plane (put xs part a many) k small ∙ elsewhere (number_of column row) k other small ∙ sym (plane xs k small))
+
+    pub one_cleared : ((i j s : ℕ) → s < count_of c.count → stored_in_tile c.count part i j s ≡ sample) → IsUniformTile c.count part → AreTilesCleared n xs → AreTilesCleared (n + 1) (put xs part a many)
+    one_cleared clears uniform before = record {
+      cleared = λ i j s h l.
+          elim (cases_lt (number_of (i / 64) (j / 64)) n) [
+            | inl less ↦ sample_elsewhere i j s h (λ e. omega (arith, e, less)) ∙ before.cleared i j s h less
+            | inr more ↦ sample_here i j s h (omega (arith, l, more)) ∙ clears i j s h.is_sample
+          ];
+      uniform = λ column row h l.
+          elim (cases_lt (number_of column row) n) [
+            | inl less ↦ uniform_elsewhere column row h (λ e. omega (arith, e, less)) (before.uniform column row h less)
+            | inr more ↦ uniform_here column row h (omega (arith, l, more)) uniform
+          ];
+    }

@@ -25,6 +25,7 @@ pub mod DrawnIds
 pub mod Changes
 pub mod Moved
 pub mod Windows
+pub mod Views
 pub mod Listed
 pub mod Sources
 pub mod TileEntries

@@ -104,7 +104,7 @@ moved_back x y t u m = record {
 }
 
 module _ (x y : ℤ) (t u : Placed) (m : IsMoved x y t u) (count : SampleCount) (s i j i' j' : ℕ) (at : IsShift x y (sample_position i j s count) (sample_position i' j' s count)) where
-  meets_moved : (IsInBox t.state.scissor i j → IsInBox u.state.scissor i' j') → Meets t count i j s → Meets u count i' j' s
+  pub meets_moved : (IsInBox t.state.scissor i j → IsInBox u.state.scissor i' j') → Meets t count i j s → Meets u count i' j' s
   meets_moved box h = record {
     kept = (λ z. h.kept (rw (m.cull, area_same x y t.tri.a t.tri.b t.tri.c (sample_position i j s count) u.tri.a u.tri.b u.tri.c (sample_position i' j' s count) m.a m.b m.c at) at z));
     covered = covers_same x y t.tri.a t.tri.b t.tri.c (sample_position i j s count) u.tri.a u.tri.b u.tri.c (sample_position i' j' s count) m.a m.b m.c at h.covered;

@@ -158,8 +158,9 @@
 --   AreTileIds: The entries are the ids of the samples of a tile.
 --   IsUniformTile: All blocks of the tile are kept as the one to which it was cleared, and all of its samples have one id.
 --   planes_in: The planes of the tile in a column and a row of tiles.
---   IsUniform: The tile in a column and a row of tiles is unchanged since it was cleared, and all of its samples have one id.
---   IsIdCount: The number of ids that are written of a tile: one if it is unchanged since it was cleared, else one for each sample.
+--   IsUniform: All blocks of the tile in a column and a row of tiles are cleared, and all of its samples have one id.
+--   AreUniform: Each tile of the tile rows from `first` to before `end` is uniform.
+--   IsIdCount: The number of ids that are written of a tile: one if it is uniform, else one for each sample.
 --   with_colour: The sample in the colour of this number, red its lowest byte.
 --   AreTileColours: The samples of a tile have the colours that the entries say, and the depths that they had.
 --   HasBytes: The channels of the sample are bytes.
@@ -188,6 +189,7 @@
 --   moved: The triangle, with its scissor, as seen from the corner of pixel (x, y).
 --   CanMove: All vertices of the triangle are in the guard band as seen from the corner of pixel (x, y).
 --   HaveEndsOnScreen: Each sample ends as what the triangles make of it as a sample of the screen.
+--   IsSamePixel: Pixel (i, j) of a canvas at the first origin and pixel (i', j') of one at the second show the same pixel of the screen.
 
 pub mod Layout
 pub mod Lanes

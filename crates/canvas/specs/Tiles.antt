@@ -58,11 +58,15 @@ abbrev pub planes_in : Canvas → ℕ → ℕ → ℕ → List BlockSamples → 
 planes_in c first column row samples =
     take (planes_of_tile c.count) (drop (column * planes_of_tile c.count) (take (planes_of_row c) (drop ((row - first) * planes_of_row c) samples)))
 
--- The tile in a column and a row of tiles is unchanged since it was cleared, and all of its samples have one id.
+-- All blocks of the tile in a column and a row of tiles are cleared, and all of its samples have one id.
 abbrev pub IsUniform : Canvas → ℕ → ℕ → ℕ → List BlockSamples → Type 0
 IsUniform c first column row samples = IsUniformTile c.count (planes_in c first column row samples)
 
--- The number of ids that are written of a tile: one if it is unchanged since it was cleared, else one for each sample.
+-- Each tile of the tile rows from `first` to before `end` is uniform.
+abbrev pub AreUniform : Canvas → ℕ → ℕ → List BlockSamples → Type 0
+AreUniform c first end samples = (column row : ℕ) → HasTile c first end column row → IsUniform c first column row samples
+
+-- The number of ids that are written of a tile: one if it is uniform, else one for each sample.
 abbrev pub IsIdCount : Canvas → ℕ → ℕ → ℕ → List BlockSamples → ℕ → Type 0
 IsIdCount c first column row samples many =
     ((many ≡ 1) × IsUniform c first column row samples) ⊎ ((many ≡ tile_entries c.count) × ¬ IsUniform c first column row samples)

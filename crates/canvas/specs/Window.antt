@@ -46,3 +46,9 @@ abbrev pub HaveEndsOnScreen : Origin → List Placed → Canvas → ℕ → ℕ 
 HaveEndsOnScreen origin ts c first end old new =
     (i j s column row : ℕ) → IsStoredIn c first end i j s → pos column ≡ pos i +ℤ origin.x → pos row ≡ pos j +ℤ origin.y
     → CanvasEnds ts c.count column row s (stored c first old i j s) (stored c first new i j s)
+
+-- Pixel (i, j) of a canvas at the first origin and pixel (i', j') of one at the second show the same pixel of the screen. It may also lie
+-- left of the screen or above it.
+pub record IsSamePixel (origin origin' : Origin) (i j i' j' : ℕ) : Type 0 where
+  pub across : pos i +ℤ origin.x ≡ pos i' +ℤ origin'.x
+  pub down : pos j +ℤ origin.y ≡ pos j' +ℤ origin'.y

@@ -3,6 +3,7 @@ ghost use Rattle.std.specs.Prelude.{◌≡◌, ◌-◌, ◌*◌, ◌≤◌, leng
 ghost use Rattle.shade.specs.Canvas.{with_alpha};
 ghost use Rattle.canvas.specs.Layout.{columns_of, planes_of_rows};
 ghost use Rattle.canvas.specs.Drawing.{AreCleared};
+ghost use Rattle.canvas.specs.Tiles.{AreUniform};
 
 use crate::tile_planes::clear_tile;
 use crate::tile_rows::TileRows;
@@ -21,8 +22,9 @@ impl TileRows {
     /// Makes each sample of these tile rows the given one, with this alpha if alpha is stored.
     pub(crate) fn clear_all(&self, sample: Sample, alpha: u8, samples: &mut [BlockSamples])
         requires { length samples.old ≡ planes_of_rows self.now.canvas self.now.first self.now.end }
-        ensures { AreCleared self.now.canvas self.now.first self.now.end (with_alpha sample alpha)
+        ensures cleared { AreCleared self.now.canvas self.now.first self.now.end (with_alpha sample alpha)
             samples.new }
+        ensures uniform { AreUniform self.now.canvas self.now.first self.now.end samples.new }
     {
         let each = self.canvas.planes_of_tile();
         for number in 0..self.tiles() {

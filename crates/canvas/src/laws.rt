@@ -1,5 +1,5 @@
 //! Laws of what is drawn. Their functions do nothing.
-ghost use Rattle.std.specs.Prelude.{Bool, ◌≡◌, ◌↔◌, ◌<◌, ◌≤◌, ◌^◌, ℕ, ◌+◌, ℤ, pos, ◌+ℤ◌, map, slice_index, List, ◌++◌, Option as Maybe, None as Nothing};
+ghost use Rattle.std.specs.Prelude.{Bool, if◌then◌else◌, ◌≡◌, ◌↔◌, ◌<◌, ◌≤◌, ◌^◌, ℕ, ◌+◌, ℤ, pos, ◌+ℤ◌, map, slice_index, List, ◌++◌, Option as Maybe, None as Nothing};
 ghost use Rattle.grid.specs.Samples.{count_of};
 ghost use Rattle.grid.specs.declared.sample_count.SampleCount.{SampleCount};
 ghost use Rattle.lanes.specs.declared.block_samples.BlockSamples.{BlockSamples};
@@ -10,12 +10,12 @@ ghost use Rattle.canvas.specs.declared.canvas.Canvas.{Canvas};
 ghost use Rattle.canvas.specs.declared.window.Origin.{Origin};
 ghost use Rattle.canvas.specs.declared.format.Format.{Format};
 ghost use Rattle.canvas.specs.Layout.{IsStoredIn, HasPixel, rows_of, stored};
-ghost use Rattle.canvas.specs.Pixels.{IsAsStored, pixel_bytes, entry_of};
+ghost use Rattle.canvas.specs.Pixels.{IsAsStored, HasAlpha, pixel_bytes, entry_of};
 ghost use Rattle.canvas.specs.Colours.{AreColours};
 ghost use Rattle.canvas.specs.Loaded.{AreStored};
 ghost use Rattle.canvas.specs.Tiles.{IsInTile, said_of, HasBytes, AreTileIds, AreTileColours};
 ghost use Rattle.canvas.specs.Drawing.{HaveEnds};
-ghost use Rattle.canvas.specs.Window.{moved, HaveEndsOnScreen};
+ghost use Rattle.canvas.specs.Window.{moved, HaveEndsOnScreen, IsSamePixel};
 ghost use Rattle.canvas.specs.Ids.{with_ids, IsLast, HasId};
 
 /// Triangles that are drawn in two calls make of each sample what all of them make of it in one call, and of a sample
@@ -37,13 +37,26 @@ pub fn tells_last()
 {}
 
 /// Triangles as seen from the corner of pixel (x, y) make of sample s of pixel (i, j) what the triangles themselves
-/// make of sample s of pixel (i + x, j + y) of the screen; and so of all samples of a canvas.
+/// make of sample s of pixel (i + x, j + y) of the screen; and so of all samples of a canvas. A pixel may also lie left
+/// of the screen or above it: from wherever it is seen, the triangles make the same of its samples. So two canvases that
+/// show the same pixel and hold the same of its sample hold the same afterwards: the screen may be split into windows.
 pub fn moves_by_pixels()
     ensures sample { (x y : ℤ) (ts : List Placed) (count : SampleCount) (i j column row s : ℕ) (start end : CanvasSample) → i < 4096 → j < 4096 → pos column ≡ pos i +ℤ x → pos row ≡ pos j +ℤ y
         → (CanvasEnds (map (moved x y) ts) count i j s start end ↔ CanvasEnds ts count column row s start end) }
     ensures canvas { (origin : Origin) (ts : List Placed) (c : Canvas) (first end : ℕ) (old new : List BlockSamples) → end ≤ rows_of c
         → HaveEnds (map (moved origin.x origin.y) ts) c first end old new →
         HaveEndsOnScreen origin ts c first end old new }
+    ensures anywhere { (origin origin' : Origin) (ts : List Placed) (count : SampleCount) (i j i' j' s : ℕ) (start end : CanvasSample) → IsSamePixel origin origin' i j i' j'
+        → i < 4096 → j < 4096 → i' < 4096 → j' < 4096
+        → (CanvasEnds (map (moved origin.x origin.y) ts) count i j s start end ↔
+        CanvasEnds (map (moved origin'.x origin'.y) ts) count i' j' s start end) }
+    ensures windows { (origin origin' : Origin) (ts : List Placed) (c c' : Canvas) (first end first' end' : ℕ) (old new old' new' : List BlockSamples)
+        → end ≤ rows_of c → end' ≤ rows_of c' → c'.count ≡ c.count
+        → HaveEnds (map (moved origin.x origin.y) ts) c first end old new
+        → HaveEnds (map (moved origin'.x origin'.y) ts) c' first' end' old' new'
+        → (i j i' j' s : ℕ) → IsStoredIn c first end i j s → IsStoredIn c' first' end' i' j' s → IsSamePixel origin origin' i j i' j'
+        → stored c' first' old' i' j' s ≡ stored c first old i j s →
+        stored c' first' new' i' j' s ≡ stored c first new i j s }
 {}
 
 /// Storing the ids that were read of a tile changes no sample, and what was stored in a tile is what is read of it.
@@ -59,11 +72,17 @@ pub fn keeps_tiles()
 {}
 
 /// The colours that were stored for one sample index are those that are read of it, in a format whose channels are those
-/// that are stored: the first three bytes of each pixel are the same.
+/// that are stored: the first three bytes of each pixel are the same. So is its alpha, if alpha was stored too; else 255
+/// is read.
 pub fn keeps_colours()
-    ensures { (c : Canvas) (first end s stride : ℕ) (format : Format) (bytes before after : List ℕ) (too : Bool) (old new : List BlockSamples) → IsAsStored format → s < count_of c.count
+    ensures colours { (c : Canvas) (first end s stride : ℕ) (format : Format) (bytes before after : List ℕ) (too : Bool) (old new : List BlockSamples) → IsAsStored format → s < count_of c.count
         → AreStored c first end s bytes format stride too old new → AreColours c first end new s format stride before after
         → (i j k : ℕ) → HasPixel c first end i j → k < 3 →
         slice_index after (entry_of first (pixel_bytes format) stride i j + k) ≡
         slice_index bytes (entry_of first (pixel_bytes format) stride i j + k) }
+    ensures alpha { (c : Canvas) (first end s stride : ℕ) (format : Format) (bytes before after : List ℕ) (too : Bool) (old new : List BlockSamples) → IsAsStored format → HasAlpha format → s < count_of c.count
+        → AreStored c first end s bytes format stride too old new → AreColours c first end new s format stride before after
+        → (i j : ℕ) → HasPixel c first end i j →
+        slice_index after (entry_of first (pixel_bytes format) stride i j + 3) ≡
+        (if too then slice_index bytes (entry_of first (pixel_bytes format) stride i j + 3) else 255) }
 {}

@@ -61,6 +61,3 @@ pub use vertex::Vertex;
 pub use view::View;
 pub use way::Way;
 pub use window::{Origin, Window, seen_point};
-
-#[cfg(test)]
-mod tests;

@@ -51,7 +51,8 @@ pub fn second_place(count: SampleCount, k: usize) -> usize
 
 /// Makes block `k` of a tile a pair with these masks, whose two planes are alike, if one plane stands for all samples of
 /// its pixels. Then the samples in the masks are changed in the second plane alone. Returns whether it is such a pair;
-/// else all planes are unchanged.
+/// else all planes are unchanged. No clause says when it is one: whoever calls it has to go on without, which costs time
+/// alone.
 pub fn pair_block(
     count: SampleCount,
     k: usize,
@@ -76,7 +77,7 @@ pub fn pair_block(
 
 /// Stores the samples of a plane in place of those of block `k` of a tile that are in the masks: sample `s` of a pixel
 /// whose bit is set in `masks[s]`. Returns whether that was done without planes for each sample; else all planes are
-/// unchanged.
+/// unchanged. No clause says when it is done: whoever calls it has to do it otherwise then, which costs time alone.
 pub fn replace_samples(
     count: SampleCount,
     k: usize,

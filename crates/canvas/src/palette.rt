@@ -289,7 +289,7 @@ impl Palette {
     }
 
     /// The samples of a block of one or two once, where these masks have a bit, `first` has taken the place of the first one,
-    /// and `second` that of the second one. Where `first` and `second` are the same, there is no fourth sample.
+    /// and `second` that of the second one. If `first` and `second` are the same, no sample is the fourth.
     #[inline(always)]
     pub fn flat_replaced(
         count: SampleCount,
@@ -298,7 +298,8 @@ impl Palette {
         first: CanvasSample,
         second: CanvasSample,
     ) -> Palette
-        ensures { IsFlatReplacedInFour count flat.now masks.now first second result }
+        ensures replaced { IsFlatReplacedInFour count flat.now masks.now first second result }
+        ensures fourth { first ≡ second → (s p : ℕ) → s < count_of count → p < 64 → palette_number result s p ≢ 3 }
     {
         let high = *masks;
         let samples = [flat.first, flat.second, first, second];

@@ -3,6 +3,7 @@ ghost use Rattle.std.specs.Prelude.{◌≡◌, ◌↔◌, length, IsTrue};
 ghost use Rattle.shade.specs.Canvas.{with_alpha};
 ghost use Rattle.canvas.specs.Layout.{planes_of_rows};
 ghost use Rattle.canvas.specs.Drawing.{AreCleared, HaveEnds};
+ghost use Rattle.canvas.specs.Tiles.{AreUniform};
 
 use crate::tile_rows::TileRows;
 use lanes::BlockSamples;
@@ -41,10 +42,12 @@ impl TileRows {
 }
 
 impl Piece<'_> {
-    /// Makes each sample of these tile rows the given one, with this alpha if alpha is stored.
+    /// Makes each sample of these tile rows the given one, with this alpha if alpha is stored. Each block of each tile is
+    /// then kept as the one to which the tile was cleared, so `View::tile_ids` writes one id for each tile.
     pub fn clear(&mut self, sample: Sample, alpha: u8)
         ensures cleared { AreCleared self.old.rows.canvas self.old.rows.first self.old.rows.end
             (with_alpha sample alpha) self.new.planes.now }
+        ensures uniform { AreUniform self.old.rows.canvas self.old.rows.first self.old.rows.end self.new.planes.now }
         ensures rows { self.new.rows ≡ self.old.rows }
         ensures same { self.new.planes.ghost_name ≡ self.old.planes.ghost_name }
     {

@@ -34,7 +34,8 @@ fn has_id(plane: &BlockSamples, id: u32) -> bool
     true
 }
 
-/// The id of all samples of a tile that is unchanged since it was cleared.
+/// The id of all samples of a tile, if all of its blocks are kept as the one to which it was cleared and there is such
+/// an id.
 fn cleared_id(count: SampleCount, samples: &[BlockSamples]) -> Option<u32>
     requires { length samples.now ≡ planes_of_tile count }
     ensures some { IsSome result ↔ IsUniformTile count samples.now }
@@ -117,8 +118,9 @@ fn ids_of_tile(count: SampleCount, samples: &[BlockSamples], ids: &mut [u32]) ->
 impl View<'_> {
     /// Writes the ids that are stored in place of the colours of all samples of a tile, those of pixels beside the
     /// picture too, and returns how many. That is one for each sample: of each of the tile's 64 blocks, row by row,
-    /// sample index by sample index, those of its 8 by 8 pixels, row by row. Of a tile that is unchanged since it was
-    /// cleared it is one, which is the id of all samples. Entries behind those are unchanged.
+    /// sample index by sample index, those of its 8 by 8 pixels, row by row. It is one, the id of all samples, exactly if
+    /// all blocks of the tile are kept as the one to which it was cleared and all samples have one id: so it is after
+    /// `Piece::clear`. Entries behind those are unchanged.
     pub fn tile_ids(&self, column: u32, row: u32, ids: &mut [u32]) -> Result<usize, Misfit>
         ensures fits { IsOk result ↔ FitTile self.now.rows.canvas self.now.rows.first self.now.rows.end column row
             (length ids.old) }

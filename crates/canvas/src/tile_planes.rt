@@ -6,6 +6,7 @@ ghost use Rattle.std.specs.Prelude.{◌≡◌, ◌≢◌, ◌↔◌, ℕ, ◌%�
 ghost use Rattle.grid.specs.Samples.{count_of};
 ghost use Rattle.shade.specs.Canvas.{with_alpha};
 ghost use Rattle.lanes.specs.Block.{stored_at};
+ghost use Rattle.canvas.specs.Tiles.{IsUniformTile};
 ghost use Rattle.canvas.specs.declared.way.Way.TheVariants.{Cleared as AsCleared, Single as AsSingle, Own as AsOwn, FlatFour as AsFour};
 ghost use Rattle.canvas.specs.Layout.{planes_of_tile, block_in_tile, pixel_in_block, stored_in_tile, way_in_tile, IsSameTile, KeepsOtherSamples, KeepsOtherWays, AreOwnBy, KeepsOtherPlanes, in_list, is_plain, place_by as place_of_way};
 
@@ -39,7 +40,8 @@ pub fn block_way(k: usize, samples: &[BlockSamples]) -> Way
     way_of(&samples[0], k)
 }
 
-/// Makes all samples of a tile the given one, with this alpha if alpha is stored.
+/// Makes all samples of a tile the given one, with this alpha if alpha is stored. All blocks are then kept as the one to
+/// which the tile was cleared.
 pub(crate) fn clear_tile(
     count: SampleCount,
     sample: Sample,
@@ -47,8 +49,9 @@ pub(crate) fn clear_tile(
     samples: &mut [BlockSamples],
 )
     requires { length samples.old ≡ planes_of_tile count }
-    ensures { (i j s : ℕ) → s < count_of count → stored_in_tile count samples.new i j s ≡
+    ensures cleared { (i j s : ℕ) → s < count_of count → stored_in_tile count samples.new i j s ≡
         with_alpha sample alpha }
+    ensures uniform { IsUniformTile count samples.new }
 {
     samples[0] = all_cleared();
     samples[1] = BlockSamples::filled(sample, alpha);
@@ -174,7 +177,8 @@ pub fn fill_tile(count: SampleCount, samples: &mut [BlockSamples])
 }
 
 /// Gives block `k` of a tile a single plane of its own, if one plane stands for all samples of its pixels. Returns
-/// whether it has one then; else all planes are unchanged.
+/// whether it has one then; else all planes are unchanged. No clause says when it has one: whoever calls it has to go on
+/// without, which costs time alone.
 pub fn single_block(count: SampleCount, k: usize, samples: &mut [BlockSamples]) -> bool
     requires block { k < 64 }
     requires samples { length samples.old ≡ planes_of_tile count }

@@ -165,8 +165,8 @@ impl TileRows {
 impl Piece<'_> {
     /// Stores colours in place of those of all samples of a tile, those of pixels beside the picture too: red + 256 *
     /// green + 65536 * blue each, laid out as `View::tile_ids` writes ids; what is above the third byte is not read.
-    /// One colour alone is that of all samples, and a tile that is unchanged since it was cleared stays so. Depths and
-    /// other tiles are unchanged.
+    /// One colour alone is that of all samples, and a tile of which `View::tile_ids` writes one id stays such a tile.
+    /// Depths and other tiles are unchanged.
     pub fn tile_store(&mut self, column: u32, row: u32, colours: &[u32]) -> Result<(), Misfit>
         ensures fits { IsOk result ↔ FitTileOrOne self.old.rows.canvas self.old.rows.first self.old.rows.end column row
             (length colours.now) }

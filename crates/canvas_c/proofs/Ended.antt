@@ -1,6 +1,6 @@
 -- What a status says of how a call ended, and room for rows of pixels.
 use Rattle.std.specs.Prelude.{⊤}
-use Rattle.std.proofs.Common.{◌≡◌, ◌≢◌, ◌↔◌, refl, sym, subst, inl, inr, ℕ, max, ℤ, Option, List, Result, Ok, Err, IsOk, IfErr, OnOk, MatchResult}
+use Rattle.std.proofs.Common.{◌≡◌, ◌≢◌, ◌↔◌, ◌∙◌, refl, sym, ap, subst, inl, inr, ℕ, max, ℤ, Option, List, Result, Ok, Err, IsOk, IfErr, OnOk, MatchResult}
 use Rattle.std.proofs.lemmas.Bool.{false≢true}
 use Rattle.canvas.specs.declared.misfit.Misfit.{Misfit}
 use Rattle.canvas.specs.declared.tile_rows.TileRows.{TileRows as Rows}
@@ -40,6 +40,11 @@ large_of head rows unit stride size are room = record {
 pub done_if : {E : Type 0} (P : Type 0) (r : Result ⊤ E) (n : ℕ) → (n ≡ 0 ↔ IsOk r) → OnOk r P → n ≡ 0 → P
 done_if P (Ok x) n done on zero = on
 done_if P (Err e) n done on zero = absurd (false≢true (done.0 zero))
+
+-- what holds after each error but one of the list or the batch holds if the status is neither 0 nor that one's
+pub kept_but : (P : Type 0) (r : Result ⊤ CallError) (n : ℕ) (error : Error) → IsReported r n error → IfErr r (λ e. e.status ≢ BadBatch → P) → n ≢ 0 → n ≢ status_number BadBatch → P
+kept_but P (Ok x) n error is kept some other = absurd (some is.0)
+kept_but P (Err e) n error is kept some other = kept (λ same. other (is.0 ∙ ap status_number same))
 
 -- what holds after rows that fit holds after the call
 pub on_done : (P Q : Type 0) (r : Result ⊤ Misfit) (s : Result ⊤ Status) → (IsOk s ↔ IsOk r) → (P → Q) → OnOk r P → OnOk s Q

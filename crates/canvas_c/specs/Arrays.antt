@@ -1,5 +1,5 @@
 -- A batch's arrays in the caller's memory.
-use Rattle.std.specs.Prelude.{◌≡◌, ◌⊎◌, ℕ, ◌==◌, if◌then◌else◌, List, Option, Some, None}
+use Rattle.std.specs.Prelude.{◌≡◌, ◌⊎◌, ℕ, ◌==◌, if◌then◌else◌, List, length, Option, Some, None}
 use Rattle.batch.specs.Strides.{IsStride, strided_vertices}
 use Rattle.batch.specs.declared.vertex.BatchVertex.{BatchVertex}
 use Rattle.c_abi.specs.Sizes.{IsOwnSize}
@@ -19,6 +19,10 @@ vertices_of batch =
     if batch.vertex_stride == 0 then batch.vertices.now
     else (if batch.vertex_stride == 16 then batch.vertices.now
     else strided_vertices batch.vertex_stride batch.strided.now)
+
+-- The caller's memory holds as many vertices as the caller says there are.
+abbrev pub HasAllVertices : Batch → Type 0
+HasAllVertices batch = length (vertices_of batch) ≡ batch.vertex_total
 
 -- The indices of the batch, if it has any: those of 2 bytes or those of 4, as the caller says.
 abbrev pub indices_of : Batch → Option (List ℕ)

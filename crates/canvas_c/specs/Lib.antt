@@ -9,6 +9,7 @@
 --   tile_rows_of: How many tile rows a canvas of this height has.
 --   HasRows: A canvas of this height has the tile rows from `first` to before `end`.
 --   planes_listed: How many planes these tile rows have.
+--   HasMemory: The canvas was initialized, and the memory has as many planes as these tile rows.
 --   AreRowsOf: The tile rows are those that the caller names.
 --   OnRows: `Holds` is true of the tile rows that the caller names.
 --   stride_of: The bytes from the beginning of a row to that of the next: those of a row if the caller says 0.
@@ -30,13 +31,14 @@
 --   tile_ids_checks: The samples of a tile are read to `size` entries.
 --   tile_store_checks: Colours are stored in a tile: one for each sample, or one for all of them.
 --   ids_written: How many ids are written of a tile, by what is said of it.
---   AreIdsOfTile: The ids of a tile's samples are written, or one if the tile is unchanged since it was cleared, which `uniform` says.
+--   AreIdsOfTile: The ids of a tile's samples are written, or one if all of its blocks are cleared and have one id, which `uniform` says.
 --   status_for: The status of a call for a tile that does not fit.
 --
 -- Arrays.antt
 --   HasIndexSize: The indices have 2 bytes or 4, or 0 for 4.
 --   HasVertexStride: The stride of the vertices is one that there is, or 0 for 16.
 --   vertices_of: The vertices of the batch: one at the end of another, or each at its index times the stride.
+--   HasAllVertices: The caller's memory holds as many vertices as the caller says there are.
 --   indices_of: The indices of the batch, if it has any: those of 2 bytes or those of 4, as the caller says.
 --
 -- Batches.antt

@@ -45,10 +45,15 @@ pub record HasRows (height first end : ℕ) : Type 0 where
   pub rising : first ≤ end
   pub within : end ≤ tile_rows_of height
 
--- How many planes these tile rows have. Of each tile one says whether it is unchanged since it was cleared; the others are those of the
+-- How many planes these tile rows have. Of each tile one says in which way its blocks keep their samples; the others are those of the
 -- samples to which it was cleared, and of its own 64 blocks. 0 samples are one.
 abbrev pub planes_listed : ℕ → ℕ → ℕ → ℕ → ℕ
 planes_listed width samples first end = (end - first) * ((width + 63) / 64 * (1 + 65 * max 1 samples))
+
+-- The canvas was initialized, and the memory has as many planes as these tile rows.
+pub record HasMemory (head : CanvasHead) (planes : ℕ) : Type 0 where
+  pub initialized : head.initialized ≡ 1
+  pub fits : planes ≡ planes_listed head.width head.samples head.first head.end
 
 -- The tile rows are those that the caller names.
 pub record AreRowsOf (head : CanvasHead) (rows : TileRows) : Type 0 where
@@ -75,14 +80,14 @@ pub record HasRoom (head : CanvasHead) (unit stride size : ℕ) : Type 0 where
   pub high : (min (64 * head.end) head.height - 64 * head.first) * stride + head.width * unit ≤ size + stride
 
 -- What each call on tile rows checks first.
--- These are the size of the struct, that there is such a canvas, that it has these tile rows, and that the memory has as many planes as
--- they.
+-- These are the size of the struct, that there is such a canvas, that it has these tile rows, and that it was initialized and the memory
+-- has as many planes as they.
 abbrev pub piece_checks : CanvasHead → ℕ → Checks Status
 piece_checks head planes =
     check (IsOwnSize head.struct_size 56) BadStructSize (
     check (IsCanvas head) BadCanvas (
     check (HasRows head.height head.first head.end) BadTileRows (
-    check (planes ≡ planes_listed head.width head.samples head.first head.end) BadMemory
+    check (HasMemory head planes) BadMemory
     done)))
 
 -- There is a format of this number.

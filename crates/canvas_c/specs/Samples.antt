@@ -52,7 +52,7 @@ tile_store_checks head planes column row size =
 abbrev pub ids_written : Canvas → ℕ → ℕ
 ids_written c uniform = if uniform == 1 then 1 else tile_entries c.count
 
--- The ids of a tile's samples are written, or one if the tile is unchanged since it was cleared, which `uniform` says.
+-- The ids of a tile's samples are written, or one if all of its blocks are cleared and have one id, which `uniform` says.
 -- All other entries are unchanged.
 pub record AreIdsOfTile (c : Canvas) (first end column row : ℕ) (samples : List BlockSamples) (old ids : List ℕ) (uniform : ℕ) : Type 0 where
   pub said : ((uniform ≡ 1) × IsUniform c first column row samples) ⊎ ((uniform ≡ 0) × ¬ IsUniform c first column row samples)

@@ -1,5 +1,5 @@
 //! A batch in the caller's memory.
-ghost use Rattle.std.specs.Prelude.{◌≡◌, ◌↔◌, IsTrue, IsSome, IfSome};
+ghost use Rattle.std.specs.Prelude.{◌≡◌, ◌↔◌, length, IsTrue, IsSome, IfSome};
 ghost use Rattle.batch.specs.OwnIndices.{indices_given};
 ghost use Rattle.batch.specs.Vertices.{vertices_given};
 ghost use Rattle.c_abi.specs.Sizes.{IsOwnSize};
@@ -36,6 +36,8 @@ pub struct Batch<'a> {
     pub vertices: &'a [BatchVertex],
     /// The memory in which they lie, if they have another stride.
     pub strided: &'a [u8],
+    /// How many vertices the caller says there are.
+    pub vertex_total: usize,
     /// The indices of all draws, one draw's after another's, if they have 4 bytes.
     pub indices: &'a [u32],
     /// The same, if they have 2 bytes.
@@ -60,6 +62,13 @@ impl Batch<'_> {
         }
         let stride = Stride::new(self.vertex_stride)?;
         Some(BatchVertices::Strided(self.strided, stride))
+    }
+
+    /// Whether these vertices are as many as the caller says there are.
+    pub(crate) fn has_all(&self, vertices: &BatchVertices<'_>) -> bool
+        ensures { IsTrue result ↔ (length (vertices_given vertices.now) ≡ self.now.vertex_total) }
+    {
+        vertices.count() == self.vertex_total
     }
 
     /// Whether the indices have a size that this library knows.

@@ -55,6 +55,9 @@ fn draw_into(
         x: head.origin_x,
         y: head.origin_y,
     };
+    if !batch.has_all(&vertices) {
+        return Err(CallError::of_batch(fault_of(BatchFault::left_over())));
+    }
     let indices = batch.given_indices();
     let mut piece = rows.over(planes);
     let alpha = head.has_alpha();

@@ -38,6 +38,8 @@ pub struct CanvasHead {
     pub first: u32,
     /// The tile row behind the last one.
     pub end: u32,
+    /// 1 once the canvas got its memory, else 0.
+    pub initialized: u32,
 }
 
 impl CanvasHead {
@@ -116,6 +118,9 @@ pub(crate) fn rows_of(head: &CanvasHead, planes: &[BlockSamples]) -> Result<Tile
     let Some(rows) = canvas.rows(head.first, head.end) else {
         return Err(Status::BadTileRows);
     };
+    if head.initialized != 1 {
+        return Err(Status::BadMemory);
+    }
     if !rows.fits(planes.len()) {
         return Err(Status::BadMemory);
     }

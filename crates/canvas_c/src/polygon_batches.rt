@@ -1,9 +1,10 @@
 //! Polygons, drawn at the samples of tile rows.
-ghost use Rattle.std.specs.Prelude.{◌≡◌, ◌≢◌, length, OnOk, OnErr, None as Nothing, Some as Just, ⊤};
+ghost use Rattle.std.specs.Prelude.{◌≡◌, ◌≢◌, length, take, OnOk, OnErr, None as Nothing, Some as Just, ⊤};
 ghost use Rattle.painting.specs.Painting.{ArePainted};
+ghost use Rattle.polygons.specs.Cells.{AreZeros};
 ghost use Rattle.c_abi.specs.Calls.{IsCall, IsReport};
 ghost use Rattle.canvas_c.specs.Pieces.{has_alpha, OnRows};
-ghost use Rattle.canvas_c.specs.PolygonChecks.{origin_of, polygons_checks, shapes_listed, HasRightBoxes, IsFirstOfPolygons};
+ghost use Rattle.canvas_c.specs.PolygonChecks.{origin_of, flag_columns_listed, polygons_checks, shapes_listed, HasRightBoxes, IsFirstOfPolygons};
 
 use crate::piece::{CanvasHead, CanvasPiece, rows_of};
 use crate::polygon_arrays::{PolygonArrays, is_in_band, rule_of};
@@ -28,6 +29,8 @@ fn draw_into(
         (λ c first end. HasRightBoxes arrays.now → ArePainted (shapes_listed (has_alpha head.now) ids arrays.now)
         (origin_of head.now) c first end planes.old planes.new)) }
     ensures kept { OnErr result (planes.new ≡ planes.old) }
+    ensures scratch { OnErr result ((flags.new ≡ flags.old) × (counters.new ≡ counters.old)) }
+    ensures zeros { OnOk result (AreZeros (take (flag_columns_listed head.now arrays.now) flags.new)) }
 {
     let rows = rows_of(head, planes)?;
     if !arrays.has_size() {
@@ -67,8 +70,9 @@ fn draw_into(
 }
 
 /// Draws polygons at the samples of these tile rows, over what is stored there, one after another. Flags and counters
-/// are scratch memory: what is in them before does not matter. Returns the status, and writes the error. If the status
-/// is not 0, the samples are unchanged. By boxes that are not those of the polygons some of them are left out.
+/// are scratch memory: what is in them before does not matter. If the status is 0, the flags that the call needs are
+/// zeros, and what is in the counters is unspecified. Returns the status, and writes the error. If the status is not 0,
+/// the samples and the scratch memory are unchanged. By boxes that are not those of the polygons some of them are left out.
 #[unsafe(no_mangle)]
 pub extern "C" fn trirast_proved_canvas_draw_polygons(
     canvas: &mut CanvasPiece<'_>,
@@ -82,6 +86,8 @@ pub extern "C" fn trirast_proved_canvas_draw_polygons(
     ensures drawn { result ≡ 0 → OnRows canvas.old.head (λ c first end. HasRightBoxes polygons.now →
         ArePainted (shapes_listed (has_alpha canvas.old.head) Nothing polygons.now) (origin_of canvas.old.head) c first end canvas.old.planes.now canvas.new.planes.now) }
     ensures kept { result ≢ 0 → canvas.new.planes.now ≡ canvas.old.planes.now }
+    ensures scratch { result ≢ 0 → (flags.new ≡ flags.old) × (counters.new ≡ counters.old) }
+    ensures zeros { result ≡ 0 → AreZeros (take (flag_columns_listed canvas.old.head polygons.now) flags.new) }
     ensures head { canvas.new.head ≡ canvas.old.head }
     ensures same { canvas.new.planes.ghost_name ≡ canvas.old.planes.ghost_name }
 {
@@ -108,6 +114,8 @@ pub extern "C" fn trirast_proved_canvas_draw_polygon_ids(
     ensures drawn { result ≡ 0 → OnRows canvas.old.head (λ c first end. HasRightBoxes polygons.now →
         ArePainted (shapes_listed (has_alpha canvas.old.head) (Just first_id) polygons.now) (origin_of canvas.old.head) c first end canvas.old.planes.now canvas.new.planes.now) }
     ensures kept { result ≢ 0 → canvas.new.planes.now ≡ canvas.old.planes.now }
+    ensures scratch { result ≢ 0 → (flags.new ≡ flags.old) × (counters.new ≡ counters.old) }
+    ensures zeros { result ≡ 0 → AreZeros (take (flag_columns_listed canvas.old.head polygons.now) flags.new) }
     ensures head { canvas.new.head ≡ canvas.old.head }
     ensures same { canvas.new.planes.ghost_name ≡ canvas.old.planes.ghost_name }
 {

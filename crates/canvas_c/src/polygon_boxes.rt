@@ -1,7 +1,8 @@
 //! The boxes of polygons, which all calls that draw them may share.
-ghost use Rattle.std.specs.Prelude.{◌≡◌, [], length, OnOk, ⊤};
+ghost use Rattle.std.specs.Prelude.{◌≡◌, ◌≢◌, [], length, IfErr, OnOk, ⊤};
 ghost use Rattle.polygons.specs.Arrays.{AreLeastBoxesOf, KeepsBoxesFrom};
 ghost use Rattle.c_abi.specs.Calls.{IsCall, IsReport};
+ghost use Rattle.c_abi.specs.Statuses.{status_number};
 ghost use Rattle.canvas_c.specs.PolygonChecks.{measure_checks, IsFirstOfArrays};
 
 use crate::polygon_arrays::{PolygonArrays, array_fault};
@@ -14,6 +15,7 @@ fn measure_into(arrays: &PolygonArrays<'_>, boxes: &mut [Extent]) -> Result<(), 
     ensures measured { OnOk result (AreLeastBoxesOf boxes.new arrays.now.corners.now arrays.now.ring_ends.now
         arrays.now.polygon_ends.now) }
     ensures behind { KeepsBoxesFrom (length arrays.now.polygon_ends.now) boxes.old boxes.new }
+    ensures kept { IfErr result (λ e. e.status ≢ Status.BadBatch → boxes.new ≡ boxes.old) }
 {
     if !arrays.has_size() {
         return Err(CallError::from(Status::BadStructSize));
@@ -28,7 +30,9 @@ fn measure_into(arrays: &PolygonArrays<'_>, boxes: &mut [Extent]) -> Result<(), 
 }
 
 /// Checks the corners and the ends of rings and polygons, and writes the box of each polygon's corners. Returns the
-/// status, and writes the error. If the status is not 0, what is in these boxes is unspecified. Those behind are unchanged.
+/// status, and writes the error. If an error of the polygons is reported, what is in these boxes is unspecified, as some
+/// may have been measured before the error was found; after any other error they are unchanged. Those behind are
+/// unchanged in any case.
 #[unsafe(no_mangle)]
 pub extern "C" fn trirast_proved_polygons_measure(
     polygons: &PolygonArrays<'_>,
@@ -40,6 +44,7 @@ pub extern "C" fn trirast_proved_polygons_measure(
     ensures measured { result ≡ 0 → AreLeastBoxesOf boxes.new polygons.now.corners.now polygons.now.ring_ends.now
         polygons.now.polygon_ends.now }
     ensures behind { KeepsBoxesFrom (length polygons.now.polygon_ends.now) boxes.old boxes.new }
+    ensures kept { result ≢ 0 → result ≢ status_number Status.BadBatch → boxes.new ≡ boxes.old }
 {
     report(measure_into(polygons, boxes), error)
 }

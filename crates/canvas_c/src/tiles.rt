@@ -49,7 +49,7 @@ fn ids_into(
     }
 }
 
-/// Writes the ids of all samples of a tile, or one if the tile is unchanged since it was cleared, and whether it was
+/// Writes the ids of all samples of a tile, or one if all of its blocks are cleared and have one id, and whether it was
 /// one. Entries behind them are unchanged. Returns the status. If it is not 0, nothing is written.
 #[unsafe(no_mangle)]
 pub extern "C" fn trirast_canvas_tile_ids(

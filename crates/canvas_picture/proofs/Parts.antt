@@ -59,13 +59,13 @@ joined_drawn ts c first at end xs ys xs' ys' upper upper' above below i j s h =
 -- ---- entries
 -- where the entries of a pixel stand
 module _ (c : Canvas) (first at unit stride i j k : ℕ) (wide : c.width * unit ≤ stride) (inside : i < c.width) (small : k < unit) where
-  above_end : first ≤ j / 64 → j / 64 < at → entry_of first unit stride i j + k < (64 * at - 64 * first) * stride
+  pub above_end : first ≤ j / 64 → j / 64 < at → entry_of first unit stride i j + k < (64 * at - 64 * first) * stride
   above_end from below =
       let column = below_unit unit i k c.width inside small in
       let place = mul-add-lt (j - 64 * first) stride (i * unit + k) (64 * at - 64 * first) (omega (arith, from, below)) (omega (arith, column, wide)) in
       omega (arith, place, mul_comm stride (64 * at - 64 * first))
 
-below_end : (first at unit stride i j k : ℕ) → first ≤ at → at ≤ j / 64 → entry_of first unit stride i j + k ≡ (64 * at - 64 * first) * stride + (entry_of at unit stride i j + k)
+pub below_end : (first at unit stride i j k : ℕ) → first ≤ at → at ≤ j / 64 → entry_of first unit stride i j + k ≡ (64 * at - 64 * first) * stride + (entry_of at unit stride i j + k)
 below_end first at unit stride i j k rising from =
     let rows : j - 64 * first ≡ (64 * at - 64 * first) + (j - 64 * at) = omega arith in
     let places : (j - 64 * first) * stride ≡ (64 * at - 64 * first) * stride + (j - 64 * at) * stride = ap (λ n. n * stride) rows ∙ add-mul (64 * at - 64 * first) (j - 64 * at) stride in

@@ -1,5 +1,5 @@
 //! Laws that both ways to a picture are one. Their functions do nothing.
-ghost use Rattle.std.specs.Prelude.{◌≡◌, ℕ, ◌*◌, ◌<◌, List, ◌++◌, length};
+ghost use Rattle.std.specs.Prelude.{◌≡◌, ℕ, ◌*◌, ◌<◌, ◌≤◌, Bool, List, ◌++◌, length};
 ghost use Rattle.grid.specs.Samples.{count_of};
 ghost use Rattle.lanes.specs.declared.block_samples.BlockSamples.{BlockSamples};
 ghost use Rattle.shade.specs.declared.placed.Placed.{Placed};
@@ -13,6 +13,8 @@ ghost use Rattle.canvas.specs.declared.format.Format.TheVariants.{Rgb8};
 ghost use Rattle.canvas.specs.Layout.{rows_of};
 ghost use Rattle.canvas.specs.Drawing.{AreCleared, HaveEnds};
 ghost use Rattle.canvas.specs.Pixels.{pixel_bytes};
+ghost use Rattle.canvas.specs.Loaded.{AreLoaded, AreStored};
+ghost use Rattle.canvas.specs.Tiles.{AreTileIds, AreTileColours};
 ghost use Rattle.canvas.specs.Colours.{AreResolved, AreEntries, AreDepths};
 ghost use Rattle.canvas_picture.specs.Batches.{IsCanvasOf, AreListed, AreMade, ArePairsOf};
 ghost use Rattle.canvas_picture.specs.Parts.{AreUpper, AreUpperRows};
@@ -36,9 +38,10 @@ pub fn draws_depths()
         → IsPicture l bytes }
 {}
 
-/// Two parts of tile rows, one below the other, each cleared, drawn and read out by itself, are the whole: the planes
-/// of the upper part, and behind them those of the lower one, are those of all these tile rows, and so are the rows of
-/// pixels. Either part can be two parts itself, so this is so of any number of them.
+/// Two parts of tile rows, one below the other, each cleared, drawn, loaded and read out by itself, are the whole: the
+/// planes of the upper part, and behind them those of the lower one, are those of all these tile rows, and so are the
+/// rows of pixels. A tile is read and stored in its part as in the whole. Either part can be two parts itself, so this
+/// is so of any number of them.
 pub fn joins_parts()
     ensures cleared { (c : Canvas) (first at end : ℕ) (sample : CanvasSample) (xs ys : List BlockSamples) → AreUpper c first at end xs
         → AreCleared c first at sample xs → AreCleared c at end sample ys → AreCleared c first end sample (xs ++ ys) }
@@ -54,4 +57,20 @@ pub fn joins_parts()
         → s < count_of c.count → AreUpperRows c first at 1 stride old → AreUpperRows c first at 1 stride new
         → AreEntries entry c first at xs s stride old new → AreEntries entry c at end ys s stride old' new'
         → AreEntries entry c first end (xs ++ ys) s stride (old ++ old') (new ++ new') }
+    ensures loaded { (c : Canvas) (first at end : ℕ) (xs ys new new' : List BlockSamples) (bytes bytes' : List ℕ) (format : Format) (stride : ℕ) (alpha : Bool)
+        → AreUpper c first at end xs → AreUpper c first at end new → AreUpperRows c first at (pixel_bytes format) stride bytes
+        → AreLoaded c first at bytes format stride alpha xs new → AreLoaded c at end bytes' format stride alpha ys new'
+        → AreLoaded c first end (bytes ++ bytes') format stride alpha (xs ++ ys) (new ++ new') }
+    ensures stored { (c : Canvas) (first at end s : ℕ) (xs ys new new' : List BlockSamples) (bytes bytes' : List ℕ) (format : Format) (stride : ℕ) (alpha : Bool)
+        → AreUpper c first at end xs → AreUpper c first at end new → AreUpperRows c first at (pixel_bytes format) stride bytes
+        → AreStored c first at s bytes format stride alpha xs new → AreStored c at end s bytes' format stride alpha ys new'
+        → AreStored c first end s (bytes ++ bytes') format stride alpha (xs ++ ys) (new ++ new') }
+    ensures tile_ids { (c : Canvas) (first at end column row : ℕ) (xs ys : List BlockSamples) (ids : List ℕ) → AreUpper c first at end xs
+        → (row < at → AreTileIds c first at column row xs ids → AreTileIds c first end column row (xs ++ ys) ids)
+        × (at ≤ row → AreTileIds c at end column row ys ids → AreTileIds c first end column row (xs ++ ys) ids) }
+    ensures tile_colours { (c : Canvas) (first at end column row : ℕ) (entries : List ℕ) (xs ys new new' : List BlockSamples) → AreUpper c first at end xs → AreUpper c first at end new
+        → (row < at → AreTileColours c first at column row entries xs new →
+        AreTileColours c first end column row entries (xs ++ ys) (new ++ ys))
+        × (at ≤ row → AreTileColours c at end column row entries ys new' →
+        AreTileColours c first end column row entries (xs ++ ys) (xs ++ new')) }
 {}

@@ -1,5 +1,5 @@
 //! Tests of `history`, through what it makes public and no program calls. What reports show of it stands in
-//! tests/acceptance.
+//! tests/program.
 #![tactic(auto)]
 
 #[cfg(test)]

@@ -26,7 +26,7 @@ painted_more f k n origin c first end old mid new before one =
     (λ i j s h. paint_more (map f (range_with_len k n)) (f (k + n)) c.count _ _ s _ _ _ (before i j s h) (one i j s h))
 
 -- some polygons, and others behind them
-paint_both : (ps qs : List Shape) (count : SampleCount) (i j : ℤ) (s : ℕ) (start mid end : CanvasSample) → PaintAll ps count i j s start mid → PaintAll qs count i j s mid end → PaintAll (ps ++ qs) count i j s start end
+pub paint_both : (ps qs : List Shape) (count : SampleCount) (i j : ℤ) (s : ℕ) (start mid end : CanvasSample) → PaintAll ps count i j s start mid → PaintAll qs count i j s mid end → PaintAll (ps ++ qs) count i j s start end
 paint_both [] qs count i j s start mid end same rest = subst (λ (x : CanvasSample). PaintAll qs count i j s x end) same rest
 paint_both (p ∷ ps) qs count i j s start mid end all rest = (all.0, all.1, paint_both ps qs count i j s all.0 mid end all.2 rest)
 

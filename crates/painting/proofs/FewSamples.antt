@@ -44,7 +44,7 @@ merged_once m f old new other h k =
     same_canvas_sample new other (channel_drawn-unique m 0 f.r f.a e old.r _ _ h.red k.red) (channel_drawn-unique m 1 f.g f.a e old.g _ _ h.green k.green)
     (channel_drawn-unique m 2 f.b f.a e old.b _ _ h.blue k.blue) (drawn-unique m.blend.write_alpha m.blend.alpha Alpha (alpha_operands m f.a old.alpha) old.alpha _ _ h.alpha k.alpha) (h.depth ∙ sym k.depth)
 
-applied_once : (m : Merge) (f : Shaded) (old new other : CanvasSample) → IsDecided (Passes m.test f.z old.z) → IsCanvasApplied m f old new → IsCanvasApplied m f old other → new ≡ other
+pub applied_once : (m : Merge) (f : Shaded) (old new other : CanvasSample) → IsDecided (Passes m.test f.z old.z) → IsCanvasApplied m f old new → IsCanvasApplied m f old other → new ≡ other
 applied_once m f old new other (inl p) h k = merged_once m f old new other (h.passed p) (k.passed p)
 applied_once m f old new other (inr n) h k = h.failed n ∙ sym (k.failed n)
 

@@ -14,5 +14,6 @@ pub mod RowMasks
 pub mod WholeTiles
 pub mod TileRows
 pub mod Batches
+pub mod Once
 mod Groups
 pub mod Zeros

@@ -9,6 +9,7 @@ mod column;
 mod covered_block;
 mod flat;
 mod group;
+mod laws;
 mod masks;
 mod pair;
 mod palette;
@@ -23,4 +24,5 @@ mod whole;
 mod window;
 
 pub use batch::{Style, draw_polygons};
+pub use laws::joins_polygons;
 pub use scratch::{clear, counter_columns, flag_columns};

@@ -3,6 +3,7 @@ pub mod Passes
 pub mod Triangle
 pub mod Counts
 pub mod Cancel
+pub mod Cuts
 pub mod Outline
 pub mod Totals
 pub mod Windings
@@ -37,6 +38,7 @@ pub mod Boxes
 pub mod RingParts
 pub mod ArrayParts
 pub mod RunBoxes
+pub mod Corners
 pub mod Seen
 pub mod BoxesOfPolygons
 pub mod Walks

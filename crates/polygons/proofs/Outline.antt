@@ -4,10 +4,8 @@ use Rattle.std.proofs.lemmas.Bool.{eqb-true, eq-eqb}
 use Rattle.std.proofs.lemmas.Bool.Decides.{eqb_tells}
 use Rattle.std.proofs.lemmas.Int.{ints}
 use Rattle.std.proofs.lemmas.List.Sums.{sum_by-cons}
-use Rattle.std.proofs.lemmas.List.Sorted.{sum_by-IsPermutation}
 use Rattle.std.proofs.lemmas.List.Concat.{flat_map-cons}
 use Rattle.std.proofs.lemmas.List.Elements.{All-head, All-tail}
-use Rattle.std.specs.List.Sorted.{IsPermutation}
 use Rattle.grid.specs.Position.{Position}
 use Rattle.polygons.specs.declared.edge.Edge.{Edge}
 use Rattle.polygons.specs.declared.rule.Rule.{Rule}
@@ -17,6 +15,7 @@ use Rattle.polygons.specs.Laws.{reversed}
 use Rattle.polygons.specs.Partition.{all_edges, covering, AreSameEdges, IsOutline, IsFitted, HasParityOf, WindForwards, IsPartition}
 use Rattle.polygons.proofs.Cancel.{opposite, one_down, one_up, reversed_downs, reversed_ups}
 use Rattle.polygons.proofs.Counts.{downs-append, ups-append}
+use Rattle.polygons.proofs.Cuts.{winding-same, parity-same_winding}
 use Rattle.polygons.proofs.Triangle.{at_most_or_over}
 
 -- ---- the test is the definition
@@ -26,7 +25,7 @@ same_truth true P false h k = sym (k.1 (h.0 refl))
 same_truth false P true h k = h.1 (k.0 refl)
 same_truth false P false h k = refl
 
-inside_is_true : (rule : Rule) (es : List Edge) (p : Position) → IsTrue (is_inside rule es p) ↔ IsInside rule es p
+pub inside_is_true : (rule : Rule) (es : List Edge) (p : Position) → IsTrue (is_inside rule es p) ↔ IsInside rule es p
 inside_is_true EvenOdd es p = (λ h. eqb-true (crossings es p % 2) 1 h, λ h. eq-eqb (crossings es p % 2) 1 h)
 inside_is_true NonZero es p = elim (eqb_tells (downs es p) (ups es p)) [
   | inl t ↦ let e = t.0 in let same = t.1 in (λ h. absurd (no (eqb (downs es p) (ups es p)) h e), λ n. absurd (n (omega (arith, ints))))
@@ -96,33 +95,26 @@ same_crossings (e ∷ es) (f ∷ fs) p h =
           omega arith
     ]
 
-downs-permuted : (es fs : List Edge) (p : Position) → IsPermutation es fs → downs fs p ≡ downs es p
-downs-permuted es fs p h = sum_by-IsPermutation (λ e. cond (is_crossed_down e p) 1 0) es fs h
-
-ups-permuted : (es fs : List Edge) (p : Position) → IsPermutation es fs → ups fs p ≡ ups es p
-ups-permuted es fs p h = sum_by-IsPermutation (λ e. cond (is_crossed_up e p) 1 0) es fs h
-
-pub parity_of_outline : (outline : List Edge) (cells : List (List Edge)) (p : Position) → IsOutline outline cells → HasParityOf outline cells p
+pub parity_of_outline : (outline : List Edge) (cells : List (List Edge)) (p : Position) → IsOutline outline cells p → HasParityOf outline cells p
 parity_of_outline outline cells p h =
+    let both = outline ++ (h.shared ++ h.again) in
     let c = cells_parity cells p in
-    let d = downs-permuted (outline ++ (h.shared ++ h.again)) (all_edges cells) p h.edges in
-    let u = ups-permuted (outline ++ (h.shared ++ h.again)) (all_edges cells) p h.edges in
+    let b = parity-same_winding both (all_edges cells) p (winding-same both (all_edges cells) p h.edges) in
     let d1 = downs-append outline (h.shared ++ h.again) p in
     let d2 = downs-append h.shared h.again p in
     let u1 = ups-append outline (h.shared ++ h.again) p in
     let u2 = ups-append h.shared h.again p in
     let s = same_crossings h.shared h.again p h.same in
-    c ∙ twice (crossings (all_edges cells) p) (crossings outline p) (crossings h.shared p) (omega arith)
+    c ∙ sym b ∙ twice (crossings both p) (crossings outline p) (crossings h.shared p) (omega arith)
   where
     twice : (a o s : ℕ) → a ≡ o + (s + s) → a % 2 ≡ o % 2
     twice a o s e = omega arith
 
 -- ---- cells that fit
-winding-fitted : (outline : List Edge) (cells : List (List Edge)) (p : Position) → IsFitted outline cells → winding (all_edges cells) p ≡ winding outline p
+winding-fitted : (outline : List Edge) (cells : List (List Edge)) (p : Position) → IsFitted outline cells p → winding (all_edges cells) p ≡ winding outline p
 winding-fitted outline cells p h =
     let both = h.shared ++ map reversed h.shared in
-    let d = downs-permuted (outline ++ both) (all_edges cells) p h.edges in
-    let u = ups-permuted (outline ++ both) (all_edges cells) p h.edges in
+    let w = winding-same (outline ++ both) (all_edges cells) p h.edges in
     let d1 = downs-append outline both p in
     let d2 = downs-append h.shared (map reversed h.shared) p in
     let u1 = ups-append outline both p in
@@ -203,7 +195,7 @@ covered_by_one rule (es ∷ cells) p h k =
           omega arith
     ]
 
-pub partition : (rule : Rule) (outline : List Edge) (cells : List (List Edge)) (p : Position) → IsFitted outline cells → WindForwards cells p → IsPartition rule outline cells p
+pub partition : (rule : Rule) (outline : List Edge) (cells : List (List Edge)) (p : Position) → IsFitted outline cells p → WindForwards cells p → IsPartition rule outline cells p
 partition rule outline cells p h k =
     let w = winding-fitted outline cells p h in
     record {

@@ -69,12 +69,22 @@
 --   translated_edge: An edge translated by a distance in each coordinate.
 --   MovesAlong: What is inside moves with the edges.
 --
+-- Junctions.antt
+--   parts_at: The two parts of an edge that is cut at q: from its first end to q, and from q to its second end.
+--   IsInSliver: The triangle between the edge and its two parts covers p, by the top-left rule.
+--   IsCrossedAsParts: At p the edge is crossed downwards as often as its two parts together, and upwards as often as they are.
+--   CountsAsParts: At p the edge counts as much as its two parts together: in the winding number, and in the parity of crossings.
+--   AreParts: The parts are the edges of the first list, each whole or cut, and cut edges may be cut again.
+--   HaveSameParts: Whole or cut, the edges of both lists are the same edges, in some order.
+--   edge_to_next: The edge of a ring from the last corner of a path to the corner after it.
+--   HasCornerMore: The rings `more` are the rings `rings`, but one has the further corner q, which cuts its edge e.
+--
 -- Partition.antt
 --   all_edges: The edges of all cells together.
 --   covering: How many of the cells p is inside of, by the rule.
 --   AreSameEdges: The lists have the same edges, each in either direction.
---   IsOutline: The cells have the edges of the outline once, and besides only edges that occur twice, in any directions.
---   IsFitted: The cells have the edges of the outline once, and besides only edges that occur twice, once in each direction.
+--   IsOutline: At p the cells have the edges of the outline once, and besides only edges that occur twice, in any directions.
+--   IsFitted: At p the cells have the edges of the outline once, and besides only edges that occur twice, once in each direction.
 --   HasParityOf: By the even-odd rule p is inside of an odd number of cells if and only if it is inside of their outline.
 --   WindForwards: No cell winds backwards around p, as none does whose rings run clockwise around its inside.
 --   IsPartition: If the outline winds around p once, p is inside of exactly one cell, and of none if the outline does not wind around p.
@@ -219,6 +229,7 @@ pub mod Rings
 pub mod Arrays
 pub mod PolygonRuns
 pub mod Laws
+pub mod Junctions
 pub mod Partition
 pub mod Columns
 pub mod Pixels

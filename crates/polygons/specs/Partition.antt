@@ -1,12 +1,12 @@
 -- Cells that share edges, and their outline.
 use Rattle.std.specs.Prelude.{◌≡◌, ◌⊎◌, ℕ, ◌%◌, ◌≤ℤ◌, pos, List, [], ◌∷◌, ◌++◌, map, flat_map, count_by}
 use Rattle.std.specs.List.{All}
-use Rattle.std.specs.List.Sorted.{IsPermutation}
 use Rattle.grid.specs.Position.{Position}
 use Rattle.polygons.specs.declared.edge.Edge.{Edge}
 use Rattle.polygons.specs.declared.rule.Rule.{Rule}
 use Rattle.polygons.specs.declared.rule.Rule.TheVariants.{EvenOdd}
 use Rattle.polygons.specs.Crossing.{crossings, winding, is_inside}
+use Rattle.polygons.specs.Junctions.{HaveSameParts}
 use Rattle.polygons.specs.Laws.{reversed}
 
 -- The edges of all cells together.
@@ -24,17 +24,19 @@ AreSameEdges (e ∷ es) (f ∷ fs) = ((f ≡ e) ⊎ (f ≡ reversed e)) × AreSa
 AreSameEdges [] (f ∷ fs) = ⊥
 AreSameEdges (e ∷ es) [] = ⊥
 
--- The cells have the edges of the outline once, and besides only edges that occur twice, in any directions.
-pub record IsOutline (outline : List Edge) (cells : List (List Edge)) : Type 0 where
+-- At p the cells have the edges of the outline once, and besides only edges that occur twice, in any directions. Edges may be cut at
+-- T-junctions.
+pub record IsOutline (outline : List Edge) (cells : List (List Edge)) (p : Position) : Type 0 where
   pub shared : List Edge
   pub again : List Edge
   pub same : AreSameEdges shared again
-  pub edges : IsPermutation (outline ++ (shared ++ again)) (all_edges cells)
+  pub edges : HaveSameParts (outline ++ (shared ++ again)) (all_edges cells) p
 
--- The cells have the edges of the outline once, and besides only edges that occur twice, once in each direction.
-pub record IsFitted (outline : List Edge) (cells : List (List Edge)) : Type 0 where
+-- At p the cells have the edges of the outline once, and besides only edges that occur twice, once in each direction. Edges may be cut at
+-- T-junctions.
+pub record IsFitted (outline : List Edge) (cells : List (List Edge)) (p : Position) : Type 0 where
   pub shared : List Edge
-  pub edges : IsPermutation (outline ++ (shared ++ map reversed shared)) (all_edges cells)
+  pub edges : HaveSameParts (outline ++ (shared ++ map reversed shared)) (all_edges cells) p
 
 -- By the even-odd rule p is inside of an odd number of cells if and only if it is inside of their outline.
 abbrev pub HasParityOf : List Edge → List (List Edge) → Position → Type 0

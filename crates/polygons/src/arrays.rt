@@ -282,7 +282,8 @@ impl<'a> Polygons<'a> {
 
     /// The box of a run of polygons, to which the one of this number belongs, and the number behind the run's last one.
     /// By either rule none of them has anything inside but in the box, if a caller's boxes are right. With those each
-    /// polygon is a run. No corner is looked at.
+    /// polygon is a run. A run may be shorter and its box greater than they could be, which costs time alone. No corner
+    /// is looked at.
     pub fn run_of(&self, number: usize) -> (Extent, usize)
         requires { number < length self.now.polygon_ends.now }
         ensures after { number < result.1 }

@@ -13,6 +13,8 @@ pub struct Edge {
 impl Edge {
     ghost use Rattle.polygons.specs.Crossing.{is_crossed_down, is_crossed_up, CrossesDown, CrossesUp, IsLineAtOrLeft};
     ghost use Rattle.polygons.specs.Laws.{reversed, AreOpposite};
+    ghost use Rattle.polygons.specs.Junctions.{IsCrossedAsParts, CountsAsParts, IsInSliver};
+    ghost use Rattle.grid.specs.Seam.{IsOnOpenEdge};
     ghost use Rattle.polygons.specs.Cells.{signed};
     ghost use Rattle.polygons.specs.Rows.{direction};
     ghost use Rattle.grid.specs.Position.{Position};
@@ -45,6 +47,17 @@ impl Edge {
             a: self.b,
             b: self.a,
         }
+    }
+
+    /// The two parts of the edge if it is cut at `q`. If `q` lies on the edge, between its ends, the edge is crossed
+    /// wherever one of its parts is, and nowhere else. Wherever `q` lies, the edge counts as much as its parts do at
+    /// each point that the triangle between the three does not cover.
+    pub fn cut_at(&self, q: Point) -> (Edge, Edge)
+        ensures value { result ≡ (record { a = self.now.a; b = q }, record { a = q; b = self.now.b }) }
+        ensures on_edge { IsOnOpenEdge self.now.a self.now.b q → (p : Position) → IsCrossedAsParts self.now q p }
+        ensures off_edge { (p : Position) → ¬ IsInSliver self.now q p → CountsAsParts self.now q p }
+    {
+        (Edge { a: self.a, b: q }, Edge { a: q, b: self.b })
     }
 
     /// The edge, turned downwards if it runs upwards, and whether it was left as it was.

@@ -5,6 +5,7 @@ ghost use Rattle.grid.specs.Quad.{QuadCovers};
 ghost use Rattle.grid.specs.Position.{Position};
 ghost use Rattle.polygons.specs.Crossing.{downs, ups, is_inside, IsInside};
 ghost use Rattle.polygons.specs.Laws.{CrossingsAdd, SharedEdgesCancel, MovesAlong};
+ghost use Rattle.polygons.specs.Junctions.{HaveSameParts};
 ghost use Rattle.polygons.specs.Polygon.{PolygonCovers};
 ghost use Rattle.polygons.specs.declared.edge.Edge.{Edge};
 
@@ -53,13 +54,16 @@ pub fn count_both(first: &[Edge], second: &[Edge], p: Point) -> Crossings
 
 /// Whether `p` is inside of what the edges bound, by the rule. Edges that one polygon has in one direction and its
 /// neighbour in the other cancel, by either rule: the two polygons together cover what they would cover without these
-/// edges. If all edges and `p` are translated alike, the answer is the same.
+/// edges. If all edges and `p` are translated alike, the answer is the same. So it is for edges that have the same
+/// parts at `p`, each whole or cut.
 pub fn edges_cover(edges: &[Edge], rule: Rule, p: Point) -> bool
     requires { length edges.now < 2 ^ 32 }
     ensures value { IsTrue result ↔ IsInside rule edges.now p }
     ensures truth { result ≡ is_inside rule edges.now p }
     ensures shared { (first shared second : List Edge) → SharedEdgesCancel rule first shared second p }
     ensures moved { (by : Position) → MovesAlong rule by edges.now p }
+    ensures parts { (others : List Edge) → HaveSameParts edges.now others p →
+        (IsInside rule edges.now p ↔ IsInside rule others p) }
 {
     count_edges(edges, p).is_inside(rule)
 }

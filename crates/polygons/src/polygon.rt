@@ -1,6 +1,9 @@
-ghost use Rattle.std.specs.Prelude.{◌≡◌, ◌↔◌, ◌+◌, ◌^◌, ◌<◌, map, length, IsTrue};
+ghost use Rattle.std.specs.Prelude.{◌≡◌, ◌↔◌, ◌+◌, ◌^◌, ◌<◌, map, length, List, IsTrue};
 ghost use Rattle.polygons.specs.Crossing.{downs, ups};
 ghost use Rattle.polygons.specs.Polygon.{ring_edges, corner_count, PolygonCovers};
+ghost use Rattle.polygons.specs.Junctions.{IsInSliver, HasCornerMore};
+ghost use Rattle.polygons.specs.declared.edge.Edge.{Edge};
+ghost use Rattle.grid.specs.Position.{Position};
 
 use crate::crossings::Crossings;
 use crate::edge::Edge;
@@ -8,10 +11,13 @@ use crate::rule::Rule;
 use grid::Point;
 
 /// Whether the polygon of these rings covers `p`: every edge is tested, from each corner to the next and from the last
-/// to the first.
+/// to the first. The polygon with a further corner on one of its edges, or beside one, covers `p` as well, unless the
+/// triangle between the edge and the corner covers it, which covers nothing if the corner is on the edge's line.
 pub fn polygon_covers(rings: &[&[Point]], rule: Rule, p: Point) -> bool
     requires { corner_count (map (λ r. r.now) rings.now) < 2 ^ 32 }
-    ensures { IsTrue result ↔ PolygonCovers rule (map (λ r. r.now) rings.now) p }
+    ensures value { IsTrue result ↔ PolygonCovers rule (map (λ r. r.now) rings.now) p }
+    ensures corner { (e : Edge) (q : Position) (more : List (List Position)) → HasCornerMore e q (map (λ r. r.now) rings.now) more → ¬ IsInSliver e q p
+        → (PolygonCovers rule (map (λ r. r.now) rings.now) p ↔ PolygonCovers rule more p) }
 {
     let mut counts = Crossings { downs: 0, ups: 0 };
     for ring in rings {

@@ -39,7 +39,8 @@ impl Runs {
         }
     }
 
-    /// Takes the boxes of a polygon's runs.
+    /// Takes the boxes of a polygon's runs. It may leave runs without boxes: then all of their edges are walked down, which
+    /// costs time alone.
     pub fn measure(&mut self, rings: &Rings<'_>)
         ensures { AreRunsOf self.new rings.now }
     {

@@ -6,8 +6,12 @@ mod beside;
 #[cfg(test)]
 mod dealing;
 #[cfg(test)]
+mod deques;
+#[cfg(test)]
 mod gates;
 #[cfg(test)]
 mod running;
+#[cfg(test)]
+mod threads;
 #[cfg(test)]
 mod waiting;

@@ -11,7 +11,7 @@ use std::thread;
 pub(crate) struct Waiting {
     begun: AtomicU64,
     opened: AtomicU64,
-    /// Whether the second work that begins opens, and so waits for none.
+    /// Whether the second work that begins waits for none, and opens when it ends.
     second_opens: bool,
     /// The number on which the work then fails.
     refused: Option<u32>,
@@ -28,7 +28,7 @@ impl Waiting {
         }
     }
 
-    /// Is opened by the second work that begins.
+    /// Is opened by the end of the second work that begins.
     pub(crate) fn for_second() -> Waiting {
         Waiting {
             second_opens: true,
@@ -63,8 +63,10 @@ impl Job for Waiting {
     }
 
     fn work(&self, _alloc: Global, k: u32, _scratch: &mut ()) -> Result<bool, OutOfMemory> {
-        if self.begun.fetch_add(1, Ordering::SeqCst) == 1 && self.second_opens {
+        if self.second_opens && self.begun.fetch_add(1, Ordering::SeqCst) == 1 {
+            // Nothing of this work is left to do.
             self.open();
+            return Ok(true);
         }
         for _ in 0..1_000_000 {
             if self.opened() > 0 {

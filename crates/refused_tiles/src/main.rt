@@ -1,7 +1,7 @@
 //! A store that is used again after an allocation has failed. The tiles of a draw list from standard input are drawn
 //! one after another in one store, and each is compared with the reference program's picture. If an allocation fails
 //! for a tile, the next one is drawn all the same. It prints how many tiles were right, wrong and refused.
-//! `tools/checks/allocation_failures.py` makes each allocation fail in turn.
+//! `tests/program/allocation_failures.py` makes each allocation fail in turn.
 #![tactic(auto)]
 
 ghost use Rattle.std.specs.Prelude.{◌≤◌, length};

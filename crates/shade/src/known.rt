@@ -1,4 +1,5 @@
-ghost use Rattle.shade.specs.Presets.{IsKnown};
+ghost use Rattle.std.specs.Prelude.{◌≡◌};
+ghost use Rattle.shade.specs.Presets.{AreAlike, IsKnown, replace, over};
 
 use crate::equation::Equation;
 
@@ -15,7 +16,8 @@ impl KnownEquation {
     /// The known equation that is this one.
     #[inline(always)]
     pub fn of(e: &Equation) -> KnownEquation
-        ensures { IsKnown result e.now }
+        ensures known { IsKnown result e.now }
+        ensures other { result ≡ KnownEquation.Other → (¬ AreAlike e.now replace) × (¬ AreAlike e.now over) }
     {
         if *e == Equation::REPLACE {
             KnownEquation::Replace

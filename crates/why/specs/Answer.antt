@@ -9,6 +9,8 @@ use Rattle.program_input.specs.declared.fault.Fault.TheVariants.{List as BadList
 use Rattle.program_input.specs.Input.{GivesAll, Gives, HasFault}
 use Rattle.why.specs.declared.arguments.Asked.{Asked}
 use Rattle.why.specs.declared.arguments.AskedTriangle.{AskedTriangle}
+use Rattle.clap.specs.Words.{Text}
+use Rattle.why.specs.Arguments.{Asks}
 use Rattle.why.specs.declared.arguments.Question.{Question}
 use Rattle.why.specs.declared.arguments.Question.TheVariants.{Pixel as OfPixel, Triangle as OfTriangle}
 use Rattle.why.specs.declared.program.Failure.{Failure}
@@ -79,9 +81,10 @@ failure_of_report report.NoSuchSample = NotThere
 failure_of_report report.NoSuchTriangle = NotThere
 failure_of_report report.OutOfMemory = Run OutOfMemory
 
--- The input gives a draw list, which lacks what a question asks for.
-pub record LacksAnswer (left left_after : Option (List ℕ)) : Type 0 where
+-- The input gives a draw list, which lacks what the arguments ask for.
+pub record LacksAnswer (arguments : List Text) (left left_after : Option (List ℕ)) : Type 0 where
   pub question : Question
+  pub asked : Asks arguments question
   pub given : GivesList (λ l. Lacks l question) left left_after
 
 -- The error is that of a writer which failed after a beginning of the text.
@@ -97,30 +100,32 @@ pub record WritesText {Done : Type 0} (text : List ℕ) (result : Result Done Fa
   pub kept : OnOk result (failed_after ≡ failed)
   pub cut : IfErr result (λ e. CutsText text e held held_after × (failed < failed_after))
 
--- The report of a question was written whole.
-pub record WritesReport (left left_after held held_after : Option (List ℕ)) : Type 0 where
+-- The report that the arguments ask for was written whole.
+pub record WritesReport (arguments : List Text) (left left_after held held_after : Option (List ℕ)) : Type 0 where
   pub question : Question
+  pub asked : Asks arguments question
   pub text : List ℕ
   pub given : GivesReport question text left left_after
   pub written : Appends held held_after text
 
--- The first `count` bytes of the report of a question were written.
-pub record WritesReportBeginning (count : ℕ) (left left_after held held_after : Option (List ℕ)) : Type 0 where
+-- The first `count` bytes of the report that the arguments ask for were written.
+pub record WritesReportBeginning (arguments : List Text) (count : ℕ) (left left_after held held_after : Option (List ℕ)) : Type 0 where
   pub question : Question
+  pub asked : Asks arguments question
   pub text : List ℕ
   pub given : GivesReport question text left left_after
   pub within : count ≤ length text
   pub written : Appends held held_after (take count text)
 
 -- What each error says of the input's and the output's bytes.
-abbrev pub ExplainsReportFault : Fault → Option (List ℕ) → Option (List ℕ) → Option (List ℕ) → Option (List ℕ) → Type 0
-ExplainsReportFault (WriteFailed count) left left_after held held_after = WritesReportBeginning count left left_after held held_after
-ExplainsReportFault fault left left_after held held_after = ExplainsUnread fault left left_after × Keeps held held_after
+abbrev pub ExplainsReportFault : List Text → Fault → Option (List ℕ) → Option (List ℕ) → Option (List ℕ) → Option (List ℕ) → Type 0
+ExplainsReportFault arguments (WriteFailed count) left left_after held held_after = WritesReportBeginning arguments count left left_after held held_after
+ExplainsReportFault arguments fault left left_after held held_after = ExplainsUnread fault left left_after × Keeps held held_after
 
 -- There is an error that explains what the input gave and what was written. It is a failed input if and only if a read failed, and a
 -- failed output if and only if a write did.
-pub record ReportEndsByFault (left left_after held held_after : Option (List ℕ)) (ReadHasFailed WriteHasFailed : Type 0) : Type 0 where
+pub record ReportEndsByFault (arguments : List Text) (left left_after held held_after : Option (List ℕ)) (ReadHasFailed WriteHasFailed : Type 0) : Type 0 where
   pub fault : Fault
-  pub explained : ExplainsReportFault fault left left_after held held_after
+  pub explained : ExplainsReportFault arguments fault left left_after held held_after
   pub input_failed : (fault ≡ InputFailed) ↔ ReadHasFailed
   pub write_failed : ((count : ℕ) × (fault ≡ WriteFailed count)) ↔ WriteHasFailed

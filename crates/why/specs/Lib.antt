@@ -20,6 +20,21 @@
 --   pixel_in: A report of a pixel in this form, with the histories of its samples.
 --   pixel_text: The text of a report of a pixel, with the histories of its samples.
 --
+-- Arguments.antt
+--   plain_rule: An argument without a name.
+--   named_rule: An option `--name`.
+--   why_app: The command `trirast_why [PIXEL] [--sample NUMBER] [--triangle PLACE] [--all] [--json]`.
+--   named: The value of an argument in the matches that clap gives for the arguments.
+--   flag_text: Whether a flag is set in these matches: its text is `true` or `false`.
+--   IsFlag: The flag is this one.
+--   IsForm: The reports are written in this form: as JSON with the flag, else as a table.
+--   AreTwoNumbers: The text is two numbers with a comma between them.
+--   IsSampleNamed: The sample is the one of this number, or none if none is named.
+--   AsksForPixel: The arguments ask for this pixel, and for no triangle.
+--   AsksForTriangle: The arguments ask for this triangle, and neither for a pixel or a sample nor for all triangles.
+--   Asks: The arguments are those of a command line that clap takes, and ask this question.
+--   AsksForUsage: The arguments ask for help: clap returns it for them.
+--
 -- Answer.antt
 --   why_usage_line: The line that the program writes if its arguments ask for help.
 --   ReportsPixel: The text reports this pixel, which the list has: with what the picture shows there, and some histories.
@@ -31,14 +46,15 @@
 --   ExplainsUnread: What each error says of the input before anything is written.
 --   ExplainsFailure: Why there is no text of a report: what is asked for is not there, or an error.
 --   failure_of_report: What an error of a report means for the program.
---   LacksAnswer: The input gives a draw list, which lacks what a question asks for.
+--   LacksAnswer: The input gives a draw list, which lacks what the arguments ask for.
 --   CutsText: The error is that of a writer which failed after a beginning of the text.
 --   WritesText: The text was written whole, or the error says how many bytes of it were.
---   WritesReport: The report of a question was written whole.
---   WritesReportBeginning: The first `count` bytes of the report of a question were written.
+--   WritesReport: The report that the arguments ask for was written whole.
+--   WritesReportBeginning: The first `count` bytes of the report that the arguments ask for were written.
 --   ExplainsReportFault: What each error says of the input's and the output's bytes.
 --   ReportEndsByFault: There is an error that explains what the input gave and what was written.
 
 pub mod Report
 pub mod Text
+pub mod Arguments
 pub mod Answer

@@ -1,4 +1,7 @@
 //! What the arguments ask for.
+ghost use Rattle.std.specs.Prelude.{◌≡◌, if◌then◌else◌, map, false, option_map, IfOk, IfSome};
+ghost use Rattle.clap.specs.Words.{rule_of};
+ghost use Rattle.why.specs.Arguments.{named_rule, AreTwoNumbers, IsSampleNamed, Asks, AsksForUsage};
 
 use clap::{Arg, ArgAction, Command};
 use model::TrianglePlace;
@@ -48,7 +51,9 @@ pub struct Asked {
 }
 
 /// The two numbers in a text such as `X,Y`, or none if it is no such text.
-fn two_numbers(text: &str) -> Option<(u32, u32)> {
+fn two_numbers(text: &str) -> Option<(u32, u32)>
+    ensures { IfSome result (λ numbers. AreTwoNumbers text.now numbers.0 numbers.1) }
+{
     let (x, y) = text.split_once(',')?;
     match (x.parse::<u32>(), y.parse::<u32>()) {
         (Ok(x), Ok(y)) => Some((x, y)),
@@ -56,57 +61,71 @@ fn two_numbers(text: &str) -> Option<(u32, u32)> {
     }
 }
 
-/// The number of a sample. A text that is no number is an error.
-fn sample_named(text: Option<&str>) -> Result<Option<u32>, LineFault> {
-    let Some(text) = text else {
-        return Ok(None);
-    };
-    match text.parse::<u32>() {
-        Ok(number) => Ok(Some(number)),
-        Err(_) => Err(LineFault::Refused),
+/// The number of the sample, if one is named, or none if the text is no number.
+fn sample_named(text: Option<&str>) -> Option<Option<u32>>
+    ensures { IfSome result (IsSampleNamed (option_map (λ t. t.now) text.entry)) }
+{
+    match text {
+        None => Some(None),
+        Some(text) => match text.parse::<u32>() {
+            Ok(number) => Some(Some(number)),
+            Err(_) => None,
+        },
     }
 }
 
-/// The history that is asked for, of the pixel in this text.
-fn pixel_asked(
-    pixel: &str,
-    sample: Option<&str>,
-    all: bool,
-    form: Form,
-) -> Result<Question, LineFault> {
-    let Some((x, y)) = two_numbers(pixel) else {
-        return Err(LineFault::Refused);
-    };
+/// The history that is asked for, of the pixel in this text, or none if a text is not what it should be.
+fn pixel_asked(pixel: &str, sample: Option<&str>, all: bool, form: Form) -> Option<Asked>
+    ensures place { IfSome result (λ asked. AreTwoNumbers pixel.now asked.x asked.y) }
+    ensures sample { IfSome result (λ asked. IsSampleNamed (option_map (λ t. t.now) sample.entry) asked.sample) }
+    ensures flags { IfSome result (λ asked. (asked.all ≡ all) × (asked.form ≡ form)) }
+{
+    let (x, y) = two_numbers(pixel)?;
     let sample = sample_named(sample)?;
-    Ok(Question::Pixel(Asked {
+    Some(Asked {
         x,
         y,
         sample,
         all,
         form,
-    }))
+    })
 }
 
-/// The triangle that is asked for, in a text `DRAW,NUMBER`.
-fn triangle_asked(triangle: &str, form: Form) -> Result<Question, LineFault> {
-    let Some((draw, number)) = two_numbers(triangle) else {
-        return Err(LineFault::Refused);
-    };
+/// The triangle that is asked for, in a text `DRAW,NUMBER`, or none if it is no such text.
+fn triangle_asked(triangle: &str, form: Form) -> Option<AskedTriangle>
+    ensures place { IfSome result (λ asked. AreTwoNumbers triangle.now asked.place.draw asked.place.triangle) }
+    ensures form { IfSome result (λ asked. asked.form ≡ form) }
+{
+    let (draw, number) = two_numbers(triangle)?;
     let place = TrianglePlace {
         draw: draw as usize,
         triangle: number as usize,
     };
-    Ok(Question::Triangle(AskedTriangle { place, form }))
+    Some(AskedTriangle { place, form })
+}
+
+/// How a report is written, with the flag `--json` or without it.
+fn form_of(json: bool) -> Form
+    ensures { result ≡ (if json then Form.Json else Form.Table) }
+{
+    if json { Form::Json } else { Form::Table }
 }
 
 /// The option `--NAME`.
-fn option(alloc: Global, name: &'static str, action: ArgAction) -> Arg<'static> {
+fn option(alloc: Global, name: &'static str, action: ArgAction) -> Arg<'static>
+    ensures rule { rule_of result ≡ named_rule name.now action }
+    ensures local { result.global ≡ false }
+{
     Arg::new(alloc, name).long(name).action(action)
 }
 
 /// What the arguments ask for. The first argument is the program's name. Either a pixel or a triangle is asked for, and
 /// of a triangle neither one sample nor all triangles.
-pub fn read_arguments<'a>(alloc: Global, arguments: &'a [&'a str]) -> Result<Question, LineFault> {
+pub fn read_arguments<'a>(alloc: Global, arguments: &'a [&'a str]) -> Result<Question, LineFault>
+    ensures question { IfOk result (Asks (map (λ word. word.now) arguments.entry.now)) }
+    // `Help` is returned only if clap asks for it.
+    ensures help { result ≡ Err LineFault.Help → AsksForUsage (map (λ word. word.now) arguments.entry.now) }
+{
     let pixel = Arg::new(alloc, "pixel").action(ArgAction::Set);
     let command = Command::new(alloc, "trirast_why")
         .arg(pixel)?
@@ -115,15 +134,22 @@ pub fn read_arguments<'a>(alloc: Global, arguments: &'a [&'a str]) -> Result<Que
         .arg(option(alloc, "all", ArgAction::SetTrue))?
         .arg(option(alloc, "json", ArgAction::SetTrue))?;
     let matches = command.try_get_matches_from(arguments)?;
-    let form = if matches.get_flag("json") {
-        Form::Json
-    } else {
-        Form::Table
-    };
-    let (sample, all) = (matches.get_str("sample"), matches.get_flag("all"));
-    match (matches.get_str("pixel"), matches.get_str("triangle")) {
-        (Some(pixel), None) => pixel_asked(pixel, sample, all, form),
-        (None, Some(triangle)) if sample.is_none() && !all => triangle_asked(triangle, form),
+    let sample = matches.get_str("sample");
+    let all = matches.get_flag("all");
+    let json = matches.get_flag("json");
+    let pixel = matches.get_str("pixel");
+    let triangle = matches.get_str("triangle");
+    match (pixel, triangle) {
+        (Some(pixel), None) => match pixel_asked(pixel, sample, all, form_of(json)) {
+            Some(asked) => Ok(Question::Pixel(asked)),
+            None => Err(LineFault::Refused),
+        },
+        (None, Some(triangle)) if sample.is_none() && !all => {
+            match triangle_asked(triangle, form_of(json)) {
+                Some(asked) => Ok(Question::Triangle(asked)),
+                None => Err(LineFault::Refused),
+            }
+        }
         _ => Err(LineFault::Refused),
     }
 }

@@ -1,7 +1,8 @@
 //! The command line program, over arguments and streams.
-ghost use Rattle.std.specs.Prelude.{◌≡◌, ◌↔◌, ◌<◌, ◌⊎◌, ℕ, string_bytes, IfOk, IfErr, IsErrOf};
+ghost use Rattle.std.specs.Prelude.{◌≡◌, ◌↔◌, ◌<◌, ◌⊎◌, ℕ, map, string_bytes, IfOk, IfErr, IsErrOf};
 ghost use Rattle.program_input.specs.Refusal.{WritesLine, WritesSomeLine, refusal_line};
 ghost use Rattle.why.specs.Answer.{IsAskedReport, Lacks, LacksAnswer, GivesReport, ExplainsFailure, WritesText, WritesReport, ReportEndsByFault, failure_of_report, why_usage_line};
+ghost use Rattle.why.specs.Arguments.{AsksForUsage};
 ghost use Rattle.why.specs.declared.program.Failure.TheVariants.{Run};
 
 use crate::arguments::{Question, read_arguments};
@@ -126,17 +127,18 @@ pub fn command<'a, R: Read, W: Write, E: Write>(
     requires output { output.old.failures < u64.MAX }
     requires errors { errors.old.failures < u64.MAX }
     ensures status { (result ≡ 0) ⊎ (result ≡ 1) ⊎ (result ≡ 2) }
-    ensures reported { result ≡ 0 → WritesLine why_usage_line (W.contents output.old.inner) (W.contents output.new.inner) output.old.failures output.new.failures
-        ⊎ WritesReport (R.remaining input.old.inner) (R.remaining input.new.inner) (W.contents output.old.inner) (W.contents output.new.inner) }
+    ensures reported { let texts = map (λ word. word.now) arguments.entry.now in result ≡ 0
+        → (AsksForUsage texts × WritesLine why_usage_line (W.contents output.old.inner) (W.contents output.new.inner) output.old.failures output.new.failures)
+        ⊎ WritesReport texts (R.remaining input.old.inner) (R.remaining input.new.inner) (W.contents output.old.inner) (W.contents output.new.inner) }
     ensures quiet { result ≡ 0 → errors.new ≡ errors.old }
     // What is on the output is what a fault of the run explains, and nothing behind it.
-    ensures failed { result ≡ 1 → ReportEndsByFault (R.remaining input.old.inner) (R.remaining input.new.inner) (W.contents output.old.inner) (W.contents output.new.inner)
+    ensures failed { result ≡ 1 → ReportEndsByFault (map (λ word. word.now) arguments.entry.now) (R.remaining input.old.inner) (R.remaining input.new.inner) (W.contents output.old.inner) (W.contents output.new.inner)
         (input.old.failures < input.new.failures) (output.old.failures < output.new.failures) }
     ensures failure { result ≡ 1 → WritesSomeLine (E.contents errors.old.inner) (E.contents errors.new.inner)
         errors.old.failures errors.new.failures }
     ensures refused { result ≡ 2 → output.new ≡ output.old }
     ensures lacking { result ≡ 2 → (input.new ≡ input.old) ⊎
-        LacksAnswer (R.remaining input.old.inner) (R.remaining input.new.inner) }
+        LacksAnswer (map (λ word. word.now) arguments.entry.now) (R.remaining input.old.inner) (R.remaining input.new.inner) }
     ensures refusal { result ≡ 2 → WritesLine refusal_line (E.contents errors.old.inner) (E.contents errors.new.inner)
         errors.old.failures errors.new.failures }
 {

@@ -35,6 +35,7 @@ fn given_of_values(name: &str, words: &mut Words<'_>) -> Option<Answer> {
         "weighted" => values::weighted_of(words),
         "channel" => values::channel_of(words),
         "row" => values::row_of(words),
+        "uniform_row" => values::uniform_row_of(words),
         "passes" => values::passes_of(words),
         "over" => values::over_of(words),
         "blended" => values::blended_of(words),

@@ -35,14 +35,16 @@ pub(crate) fn channel_of(words: &mut Words<'_>) -> Option<Answer> {
     Some(whole(u32::from(Weights::at(&t, p).channel(v))))
 }
 
-/// The value at the pixel that a number of steps to the right of a point reaches, or `None` if the triangle does not
-/// cover all pixels on the way.
-fn stepped(t: &Tri, at: Point, v: [u16; 3], steps: u32) -> Option<u16> {
+/// The value at the pixel that a number of steps to the right of a point reaches, and whether all pixels on the way have
+/// it too. Returns `None` if the triangle does not cover all of them.
+fn stepped(t: &Tri, at: Point, v: [u16; 3], steps: u32) -> Option<(u16, bool)> {
     let mut p = at;
     if !t.covers(p) {
         return None;
     }
     let mut row = Row::start(t, p, v);
+    let first = row.value();
+    let mut is_uniform = true;
     for _ in 0..steps {
         let Some(next) = Point::new(p.x() + 256, p.y()) else {
             return None;
@@ -51,15 +53,23 @@ fn stepped(t: &Tri, at: Point, v: [u16; 3], steps: u32) -> Option<u16> {
             return None;
         }
         row.step();
+        is_uniform &= row.value() == first;
         p = next;
     }
-    Some(row.value())
+    Some((row.value(), is_uniform))
 }
 
 pub(crate) fn row_of(words: &mut Words<'_>) -> Option<Answer> {
     let (t, p, v) = (words.triangle()?, words.point()?, words.values()?);
-    let value = stepped(&t, p, v, words.number()?)?;
+    let (value, _) = stepped(&t, p, v, words.number()?)?;
     Some(whole(u32::from(value)))
+}
+
+/// The value of a row of pixels, or `None` if they have several.
+pub(crate) fn uniform_row_of(words: &mut Words<'_>) -> Option<Answer> {
+    let (t, p, v) = (words.triangle()?, words.point()?, words.values()?);
+    let (value, is_uniform) = stepped(&t, p, v, words.number()?)?;
+    is_uniform.then_some(whole(u32::from(value)))
 }
 
 pub(crate) fn passes_of(words: &mut Words<'_>) -> Option<Answer> {

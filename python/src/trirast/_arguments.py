@@ -8,13 +8,28 @@ import math
 import operator
 import reprlib
 from numbers import Complex, Real
-from typing import Any, Callable, Collection, Sequence, SupportsIndex, Tuple
+from typing import Any, Callable, Collection, Mapping, SupportsIndex, Tuple, TypeVar
 
+Choice = TypeVar("Choice")
 NUMBERS = 1 << 32
 LONGEST = 60
 CHANNEL = " of 0 to 255"
-SHORT = reprlib.Repr()
-SHORT.maxother = SHORT.maxstring = LONGEST
+# Python makes no text of an integer of more bits than some 14,000.
+MOST_BITS = 4096
+
+
+class Short(reprlib.Repr):
+    """Values in a message."""
+
+    def __init__(self) -> None:
+        super().__init__()
+        self.maxother = self.maxstring = LONGEST
+
+    def repr_int(self, x: int, level: int) -> str:
+        return super().repr_int(x, level) if x.bit_length() <= MOST_BITS else f"an integer of {x.bit_length()} bits"
+
+
+SHORT = Short()
 
 
 def shown(value: Any) -> str:
@@ -44,7 +59,7 @@ def between(
     """An integer in a range. Raises ValueError at any other, or what is made of the message."""
     given = integer(name, value, unit)
     if not least <= given <= greatest:
-        raise refused(f"{name}: {least} to {greatest}{unit}, and not {given}")
+        raise refused(f"{name}: {least} to {greatest}{unit}, and not {shown(given)}")
     return given
 
 
@@ -73,25 +88,37 @@ def thread_count(threads: SupportsIndex, name: str = "threads") -> int:
     """The number of threads of a call. Raises ValueError if it is less than 1."""
     given = integer(name, threads)
     if given < 1:
-        raise ValueError(f"{name}: at least 1, and not {given}")
+        raise ValueError(f"{name}: at least 1, and not {shown(given)}")
     return given
 
 
-def of_length(name: str, values: Any, length: int) -> Sequence[Any]:
-    """A sequence of as many values. Raises ValueError at one of another length, and TypeError at what is none."""
+def has_length(values: Any, *lengths: int) -> bool:
+    """Whether values are a sequence of one of these lengths."""
+    try:
+        return len(values) in lengths
+    except TypeError:
+        return False
+
+
+def of_length(name: str, values: Any, length: int) -> Tuple[Any, ...]:
+    """The values of a sequence of as many. Raises ValueError at one of another length, and TypeError at what is
+    none."""
     try:
         count = len(values)
-    except TypeError:
+        # A class derived from a sequence may say another length than it has.
+        found = tuple(values) if count == length else ()
+    # Python does not look into a memoryview of several dimensions.
+    except (TypeError, NotImplementedError):
         raise TypeError(f"{name}: a sequence of {length} values, and not {shown(values)}") from None
-    if count != length:
-        raise ValueError(f"{name}: {length} values, and not {count}")
-    return tuple(values)
+    if count != length or len(found) != length:
+        raise ValueError(f"{name}: {length} values, and not {len(found) if found else count}")
+    return found
 
 
 def color_of(name: str, values: Any, *lengths: int) -> Tuple[int, ...]:
     """As many channels as one of the lengths, the first of which counts in a message: 0 to 255 each. Raises ValueError
     at any other."""
-    found = next((each for each in lengths if hasattr(values, "__len__") and len(values) == each), lengths[0])
+    found = next((each for each in lengths if has_length(values, each)), lengths[0])
     return tuple(between(name, integer(name, channel, CHANNEL), 0, 255) for channel in of_length(name, values, found))
 
 
@@ -106,6 +133,13 @@ def flag(name: str, value: Any) -> int:
 
 def named(name: str, names: Collection[str], value: Any) -> int:
     """The index of a name among those that there are."""
-    if not isinstance(value, str) or value not in names:
+    # Of a class derived from str the text itself, whatever it says of its hash.
+    given = str.__str__(value) if isinstance(value, str) else None
+    if given is None or given not in names:
         raise ValueError(f"{name}: one of {', '.join(names)}, and not {shown(value)}")
-    return list(names).index(value)
+    return list(names).index(given)
+
+
+def chosen(name: str, choices: Mapping[str, Choice], value: Any) -> Choice:
+    """What a name stands for."""
+    return list(choices.values())[named(name, choices, value)]

@@ -6,14 +6,15 @@ from typing import Any, List, Sequence
 from ._arguments import shown
 from ._draw import INDEX_BYTES, Draw
 from ._ffi import CBatch, CDraw
-from ._vertices import VERTEX_BYTES, Strided, count_of, packed
+from ._records import Copy
+from ._vertices import VERTEX_BYTES, count_of
 
 
 def draws_of(draws: Any) -> List[Draw]:
     """Draws as a list. Raises TypeError at what is none."""
     try:
         found = list(draws)
-    except TypeError:
+    except (TypeError, NotImplementedError):
         raise TypeError(f"draws: a sequence of trirast.Draw, and not {shown(draws)}") from None
     for number, each in enumerate(found):
         if not isinstance(each, Draw):
@@ -26,28 +27,22 @@ def batch_of(draws: List[Draw]) -> CBatch:
     has_indices = any(each._indices is not None for each in draws)
     parts = [each._indices_in(has_indices) for each in draws]
     in_c = (CDraw * len(draws))(*(each._in_c(part) for each, part in zip(draws, parts)))
-    of_draws, indices = [each._vertices for each in draws], joined(parts)
-    vertices = of_draws[0] if len(draws) == 1 else joined([packed(each) for each in of_draws])
-    where, stride = (
-        (vertices.address, vertices.stride) if isinstance(vertices, Strided) else (address_of(vertices), VERTEX_BYTES)
-    )
+    vertices, indices = joined([each._vertices for each in draws]), joined(parts)
     batch = CBatch(
-        0, stride, INDEX_BYTES, ctypes.addressof(in_c), len(draws), where, count_of(vertices),
+        0, VERTEX_BYTES, INDEX_BYTES, ctypes.addressof(in_c), len(draws), address_of(vertices), count_of(vertices),
         address_of(indices) if has_indices else None, len(indices) // INDEX_BYTES,
     )
     batch.kept = in_c, vertices, indices
     return batch
 
 
-def joined(parts: Sequence[Any]) -> Any:
+def joined(parts: Sequence[Copy]) -> Copy:
     """The parts one after another. A single one is not copied."""
     return parts[0] if len(parts) == 1 else b"".join(parts)
 
 
-def address_of(data: Any) -> Any:
-    """Where the bytes lie. They stay there, since nobody else has them, or as long as an array of numpy is there."""
-    if hasattr(data, "__array_interface__"):
-        return data.__array_interface__["data"][0]
+def address_of(data: Copy) -> Any:
+    """Where the bytes lie. They stay there, since nobody else has them."""
     if isinstance(data, bytes):
         return ctypes.cast(ctypes.c_char_p(data), ctypes.c_void_p).value
     return ctypes.addressof((ctypes.c_uint8 * len(data)).from_buffer(data))

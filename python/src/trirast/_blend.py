@@ -2,7 +2,7 @@
 
 from typing import Any, Dict, Literal, NamedTuple, Tuple, Union
 
-from ._arguments import color_of, named, shown
+from ._arguments import chosen, color_of, shown
 from ._ffi import CBlend
 
 Factor = Literal[
@@ -58,14 +58,12 @@ def blend_in_c(blend: Union[Preset, Blend]) -> CBlend:
         return numbered(blend)
     if not isinstance(blend, str):
         raise TypeError(f"blend: a name or a trirast.Blend, and not {shown(blend)}")
-    named("blend", BLENDS, blend)
-    return numbered(BLENDS[blend])
+    return numbered(chosen("blend", BLENDS, blend))
 
 
 def numbered(blend: Blend) -> CBlend:
     """The numbers of a blend."""
     numbers: Dict[str, Any] = {}
     for (name, value), known in zip(zip(Blend._fields, blend[:6]), 2 * KNOWN_NUMBERS):
-        named(f"blend: {name}", known, value)
-        numbers[name] = known[value]
+        numbers[name] = chosen(f"blend: {name}", known, value)
     return CBlend(**numbers, constant=color_of("blend: constant", blend.constant, 4))

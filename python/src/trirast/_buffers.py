@@ -61,6 +61,11 @@ def buffer_of(value: Any) -> Optional[memoryview]:
         return None
 
 
+def exact_bytes(value: Any) -> bytes:
+    """The bytes of a buffer, whatever a class derived from bytes says of them."""
+    return value if type(value) is bytes else bytes(memoryview(value))
+
+
 class Form(NamedTuple):
     """What a buffer may be: the type of its items, by the names of numpy, and its shape, which may be flat too."""
 

@@ -2,23 +2,24 @@
 
 import ctypes
 import struct
+import sys
 from array import array
-from threading import RLock
 from typing import Any, Callable, Dict, List, Literal, Optional, Sequence, SupportsFloat, SupportsIndex, Tuple, Union
 
-from ._arguments import between, color_of, flag, integer, named, number, of_length, signed, thread_count
+from ._arguments import between, chosen, color_of, flag, integer, named, number, of_length, shown, signed, thread_count
 from ._batch import batch_of, draws_of
 from ._blend import Blend, Preset
 from ._boxes import add_boxes
 from ._buffers import Buffer, Form, check_writable, raw, readable
+from ._calls import Calls
 from ._draw import EVERY_SAMPLE, Cull, DepthTest, Draw, state_in_c
 from ._errors import BatchError, CanvasError, PositionError, SampleError, TileError, adding
-from ._ffi import CCanvas, CClear, CCorners, CError, library
+from ._ffi import CBatch, CCanvas, CClear, CCorners, CError, library
 from ._fragments import Fragments, Rate, fragments_of
 from ._patterns import COUNTS, PATTERNS
 from ._picture import Path, Picture, save_png
 from ._png import png_chunks
-from ._polygons import RULES, Rule, polygons_of, scratch_of
+from ._polygons import RULES, UNIT, Rule, polygons_of, rows_crossed, scratch_of
 from ._records import HIGH, LOW, POSITION, table_of
 from ._threads import share
 from ._values import OF_DRAWS, BatchValues, PolygonValues, point_values
@@ -34,6 +35,9 @@ TILE_SIZE = 64
 CHANNELS = (3, 4)
 # An id is less.
 IDS = 1 << 24
+# A call is made tile row by tile row if edges of polygons cross more rows of samples, or triangles meet more samples:
+# some tenths of a second, and about a second.
+LONG, LONG_SAMPLES = 1 << 24, 1 << 31
 # The least and the greatest origin of a canvas of polygons.
 ORIGINS = (-32768, 28672)
 Format = Literal["rgb", "rgba", "bgra", "rgba_straight", "bgra_straight"]
@@ -51,8 +55,9 @@ class Canvas:
     multiplied by their alpha.
 
     Calls of several threads on one canvas wait for each other. `threads` is the number of threads among which a call
-    shares its tile rows. An interrupt, as by Ctrl-C, is raised when the call is done. A copy, by copy or pickle, has
-    memory of its own.
+    shares its tile rows. An interrupt, as by Ctrl-C, is raised when the call is done. If that takes long it is raised
+    after the tile rows that have begun, 64 rows of pixels each, and the others stay as they were. A copy, by copy or
+    pickle, has memory of its own.
 
     Each call raises TypeError or ValueError, which names the parameter, at what it does not take.
     """
@@ -83,7 +88,11 @@ class Canvas:
         self._bytes, self._first = size, ctypes.addressof(self._memory) + first
         self._whole = CCanvas(0, *kind, *origin)
         library().trirast_canvas_init(self._whole, self._first, size)
-        self._lock = RLock()
+        self._calls = Calls()
+
+    @property
+    def _lock(self) -> Any:
+        return self._calls.lock
 
     @property
     def width(self) -> int:
@@ -122,7 +131,9 @@ class Canvas:
         size: int = library().trirast_canvas_size(CCanvas(0, *numbers)) if numbers[2] else 0
         if not size:
             wanted = f"a canvas has 1 to 4096 pixels a side and {COUNTS} samples a pixel"
-            raise CanvasError.of_line(f"{wanted}, and not {width} by {height} and {samples}; larger: trirast.poster")
+            sides = " by ".join(shown(integer(name, side)) for name, side in (("width", width), ("height", height)))
+            found = f"{sides} and {shown(integer('samples', samples))}"
+            raise CanvasError.of_line(f"{wanted}, and not {found}; larger: trirast.poster")
         return size
 
     def clear(
@@ -139,8 +150,9 @@ class Canvas:
         """Makes an image the colour of all samples of its pixels; depths stay. The image is a buffer of bytes of the
         shape (height, width, 3) or (height, width, 4), or of as many bytes without a shape. `format` is "rgb", "rgba"
         or "bgra"; without it the image is "rgb" or "rgba" by its length. "rgba_straight" and "bgra_straight" are images
-        as files have them, whose colours are multiplied by their alpha; the others are stored as they are. The alpha of
-        "rgb" is 255. An image that cannot be written or is not contiguous is copied."""
+        as files have them, whose colours are multiplied by their alpha and rounded: red 200 with alpha 10 is stored as
+        8, and `rgba(straight=True)` returns 204. The others are stored as they are. The alpha of "rgb" is 255. An image
+        that cannot be written or is not contiguous is copied."""
         self._stored(library().trirast_canvas_load, image, format, threads)
 
     def store(
@@ -151,13 +163,11 @@ class Canvas:
         self._stored(of_sample(library().trirast_canvas_store, self._sample(sample)), image, format, threads)
 
     def _stored(self, call: Any, image: Any, format: Optional[Format], threads: SupportsIndex) -> None:
-        if format is not None:
-            named("format", FORMATS, format)
-        kinds = ("rgb", "rgba") if format is None else (format,)
-        forms = [self._form(("uint8",), FORMATS[kind][1]) for kind in kinds]
+        kinds = [FORMATS["rgb"], FORMATS["rgba"]] if format is None else [chosen("format", FORMATS, format)]
+        forms = [self._form(("uint8",), channels) for _code, channels in kinds]
         found, pixels = readable("image", image, *forms)
         with pixels:
-            self._rows("image", pixels, call, FORMATS[kinds[forms.index(found)]][0], 1, threads)
+            self._rows("image", pixels, call, kinds[forms.index(found)][0], 1, threads)
 
     def draw(
         self,
@@ -188,9 +198,9 @@ class Canvas:
 
         One of `triangles`, `strip` and `quads` has rows of 3, 1 and 4 indices of vertices; without any, each three
         vertices are a triangle. Rows are sequences, or buffers of integers of any type and layout, as arrays of numpy.
-        They are copied, and nothing of them is rounded or wrapped. An array of VERTEX, or of records of 20 to 2048
-        bytes that have its members in their order among others, is not copied: nobody may change it meanwhile. bytes
-        and a bytearray have records of 16 bytes, and indices of 32 bits. Without rows nothing is drawn.
+        They are copied, and nothing of them is rounded or wrapped. An array of VERTEX, or of records that have its
+        members in their order among others, is copied as it is. bytes and a bytearray have records of 16 bytes, and
+        indices of 32 bits. Without rows nothing is drawn.
 
         `blend` is one of BLENDS, by its name, or a Blend. `cull` drops front-facing triangles, which run clockwise on
         the screen, or back-facing ones. A sample is drawn if its new depth passes `depth_test` against the stored one;
@@ -204,6 +214,7 @@ class Canvas:
         outside of -8388608 to 8388607 on the screen or as seen from the canvas, or a quad is not strictly convex;
         TypeError or ValueError, which name the parameter, row and column, at what is no such value.
         """
+        self._check_vertices_apart(vertices)
         draw = Draw(
             vertices, triangles, strip=strip, quads=quads, colors=colors, depth=depth, blend=blend, cull=cull,
             depth_test=depth_test, depth_write=depth_write, keep=keep, sample_mask=sample_mask, scissor=scissor,
@@ -214,11 +225,23 @@ class Canvas:
         self, draws: Sequence[Draw], *, first_id: Optional[SupportsIndex] = None, threads: SupportsIndex = 1
     ) -> None:
         """Draws several draws, in their colours, or by ids that are counted from `first_id` over all of them."""
-        batch = batch_of(draws_of(draws))
+        given = draws_of(draws)
+        batch = batch_of(given)
         ids = () if first_id is None else (between("first_id", first_id, 0, IDS),)
         call = library().trirast_canvas_draw_ids if ids else library().trirast_canvas_draw
         with adding(BatchError, BatchValues(batch, self.origin, *(ids or (None,))).of):
-            self._each(threads, lambda piece, _top: call(piece, batch, *ids, CError()))
+            self._each(
+                threads, lambda piece, _top: call(piece, batch, *ids, CError()), is_long=self._are_long(given, batch)
+            )
+
+    def _are_long(self, draws: Sequence[Draw], batch: CBatch) -> bool:
+        """Whether draws meet so many samples that an interrupt must not wait for all of them."""
+        of_canvas = self.width * self.height * self.samples
+        if (batch.index_count or batch.vertex_count) * of_canvas <= LONG_SAMPLES:
+            return False
+        left, top = (UNIT * each for each in self.origin)
+        box = left, top, left + UNIT * self.width, top + UNIT * self.height
+        return self.samples * sum(each._pixels_met(*box) for each in draws) > LONG_SAMPLES
 
     def draw_polygons(
         self,
@@ -276,10 +299,15 @@ class Canvas:
         size = library().trirast_polygons_scratch(self._whole, polygons.fill_rule)
         for each in self.origin:
             between("origin", each, *ORIGINS, PositionError.of_line, " pixels")
-        if self._piece_count(threads) > 1:
+        top = UNIT * self.origin[1]
+        is_long = self.samples * rows_crossed(polygons, top, top + UNIT * self.height) > LONG
+        if is_long or self._piece_count(threads) > 1:
             add_boxes(polygons)
         with adding(BatchError, PolygonValues(polygons, *(ids or (None,))).of, without=OF_DRAWS):
-            self._each(threads, lambda piece, _top: call(piece, polygons, *ids, scratch_of(size), size, CError()))
+            self._each(
+                threads, lambda piece, _top: call(piece, polygons, *ids, scratch_of(size), size, CError()),
+                is_long=is_long,
+            )
 
     def rgb(self, out: Optional[Any] = None, *, threads: SupportsIndex = 1) -> Any:
         """The colours, of the shape (height, width, 3): a numpy array, or without numpy a memoryview;
@@ -333,8 +361,7 @@ class Canvas:
     ) -> Any:
         """The colour of one sample of each pixel, which is not resolved: bytes of the shape (height, width,
         3), or 4 with alpha."""
-        named("format", FORMATS, format)
-        code, channels = FORMATS[format]
+        code, channels = chosen("format", FORMATS, format)
         call = of_sample(library().trirast_canvas_colors, self._sample(sample))
         return self._written(call, code, self._form(("uint8",), channels), out, threads)
 
@@ -373,6 +400,8 @@ class Canvas:
         """Puts the colours of fragments in place of the ids, a row of 0 to 255 for each, and elsewhere the background:
         in the tile of the fragments, or in the whole canvas. Depths stay, and so does alpha: 255 where ids were drawn,
         and elsewhere the one that `clear` stored."""
+        if not isinstance(fragments, Fragments):
+            raise TypeError(f"fragments: a trirast.Fragments, and not {shown(fragments)}")
         wanted = (self.samples, *self._sides(fragments.tile))
         if fragments.index.shape != wanted:
             what = "samples, height and width"
@@ -455,11 +484,14 @@ class Canvas:
         count: int = min(thread_count(threads), self._whole.end)
         return count
 
-    def _each(self, threads: SupportsIndex, call: Callable[[CCanvas, int], Any], *used: Buffer) -> None:
-        """Makes the call on pieces of the canvas. ctypes lets Python's lock go meanwhile."""
+    def _each(
+        self, threads: SupportsIndex, call: Callable[[CCanvas, int], Any], *used: Buffer, is_long: bool = False
+    ) -> None:
+        """Makes the call on pieces of the canvas: one for each thread, or if it is long for each tile row, so that an
+        interrupt comes soon. ctypes lets Python's lock go meanwhile."""
         count = self._piece_count(threads)
         with self._lock:
-            share(call, self._pieces, count, used)
+            share(call, lambda pieces: self._pieces(self._whole.end if is_long else pieces), count, used)
 
     def _sample(self, sample: SupportsIndex) -> int:
         """The index of a sample of a pixel. Raises SampleError at any other."""
@@ -475,6 +507,13 @@ class Canvas:
         end = self._first + self._bytes
         if buffer.address < end and self._first < buffer.address + buffer.size:
             raise ValueError(f"{name}: memory apart from that of the canvas")
+
+    def _check_vertices_apart(self, vertices: Any) -> None:
+        """Raises ValueError at an array of numpy in the memory of the samples."""
+        numpy = sys.modules.get("numpy")
+        if numpy is not None and isinstance(vertices, numpy.ndarray):
+            if numpy.may_share_memory(vertices, numpy.frombuffer(self._memory, numpy.uint8, self._bytes)):
+                raise ValueError("vertices: memory apart from that of the canvas")
 
     def _rows(self, name: str, buffer: Buffer, call: Any, chosen: int, unit: int, threads: SupportsIndex) -> None:
         """Makes a call on the rows of pixels of a buffer: `chosen` is their format, or a sample, and `unit` the bytes
@@ -504,7 +543,7 @@ def of_sample(call: Any, sample: int) -> Any:
 
 
 # What `_set` makes, which a copy makes anew.
-OWN = frozenset(("_memory", "_bytes", "_first", "_whole", "_lock"))
+OWN = frozenset(("_memory", "_bytes", "_first", "_whole", "_calls"))
 
 
 def edges_at(

@@ -100,10 +100,10 @@ class View:
 
 
 def guard(half: float, middle: float) -> float:
-    """The largest power of two of half viewports from the middle that fit the positions of a canvas, with
-    a pixel to spare."""
+    """The largest power of two of half viewports from the middle that fit the positions of a canvas, with a pixel to
+    spare: on the screen, and as seen from an origin anywhere in the viewport."""
     found = 1.0
-    while 2 * found * half + abs(middle) <= HIGH - 256:
+    while 2 * found * half + max(abs(middle), half) <= HIGH - 256:
         found *= 2
     return found
 

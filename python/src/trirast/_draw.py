@@ -21,6 +21,10 @@ EVERY_SAMPLE = 0xFFFF
 # Of each topology, in the order of trirast_topology, its name and the indices of a primitive.
 TOPOLOGIES = (("triangles", 3), ("strip", 1), ("quads", 4))
 INDEX_BYTES = 4
+# In 1/256 pixel.
+UNIT = 256
+# Of so many triangles, spread over all of a draw, it is looked how many pixels they meet.
+MOST_LOOKED_AT = 256
 
 
 class State(TypedDict, total=False):
@@ -38,8 +42,7 @@ class State(TypedDict, total=False):
 class Draw:
     """A draw of a batch, for `Canvas.draw_batch`. Its parameters are those of `Canvas.draw`.
 
-    The draw has copies of what it is made of, so what becomes of arrays later is not drawn; but an array of VERTEX is
-    not copied, nor one of records that have its members among others.
+    The draw has copies of what it is made of, so what becomes of arrays later is not drawn.
     """
 
     def __init__(
@@ -86,6 +89,21 @@ class Draw:
     def _count(self) -> int:
         """How many vertices it has."""
         return count_of(self._vertices)
+
+    def _pixels_met(self, left: int, top: int, right: int, bottom: int) -> int:
+        """How many pixels of a box, in 1/256 pixel, the bounds of its triangles have: about, from some of them."""
+        numbers = memoryview(self._vertices).cast("i")
+        xs, ys, count = numbers[0::4], numbers[1::4], self._count
+        indices: Any = range(count) if self._indices is None else memoryview(self._indices).cast("I")
+        step = 3 * max(1, len(indices) // (3 * MOST_LOOKED_AT))
+        met = 0
+        for first in range(0, len(indices) - 2, step):
+            corners = [index for index in indices[first : first + 3] if index < count]
+            if corners:
+                x, y = [xs[index] for index in corners], [ys[index] for index in corners]
+                across, down = min(max(x), right) - max(min(x), left), min(max(y), bottom) - max(min(y), top)
+                met += max(across, 0) * max(down, 0)
+        return met * step // (3 * UNIT * UNIT)
 
 
 def state_in_c(

@@ -3,8 +3,8 @@
 import json
 from typing import Any, Dict, List, Optional, SupportsIndex, Tuple, Union
 
-from ._arguments import integer, thread_count
-from ._buffers import Buffer
+from ._arguments import integer, shown, thread_count
+from ._buffers import Buffer, exact_bytes
 from ._errors import LimitError, TileSizeError
 from ._ffi import CError, CImageInfo, library, memory_of
 from ._picture import ImageInfo, Picture, memory_for
@@ -62,7 +62,7 @@ def tile_size_of(given: SupportsIndex) -> int:
     """A tile size. Raises TileSizeError at any other."""
     size = integer("tile_size", given)
     if size not in TILE_SIZES:
-        raise TileSizeError.of_line(f"tile_size: 8, 16, 32 or 64 pixels, and not {size}")
+        raise TileSizeError.of_line(f"tile_size: 8, 16, 32 or 64 pixels, and not {shown(size)}")
     return size
 
 
@@ -76,9 +76,10 @@ def as_bytes(draw_list: DrawList) -> bytes:
 
 def text_of(draw_list: DrawList) -> bytes:
     if isinstance(draw_list, str):
-        return draw_list.encode()
+        # Half a pair of UTF-16 is no text: the library refuses its bytes.
+        return str.encode(draw_list, errors="surrogatepass")
     if isinstance(draw_list, (bytes, bytearray, memoryview)):
-        return bytes(draw_list)
+        return exact_bytes(draw_list)
     return json.dumps(draw_list, separators=(",", ":")).encode()
 
 

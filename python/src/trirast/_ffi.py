@@ -84,7 +84,7 @@ class CCanvas(ctypes.Structure):
     kept: Tuple[Any, ...]
     _fields_ = [
         *fields(WORD, "struct_size width height samples channels"), *fields(SIGNED, "origin_x origin_y"),
-        *fields(WORD, "first end"), ("memory", POINTER), ("plane_count", COUNT),
+        *fields(WORD, "first end initialized"), ("memory", POINTER), ("plane_count", COUNT),
     ]
 
 

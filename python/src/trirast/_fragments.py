@@ -3,9 +3,10 @@ C++, and docs/shading.md pictures and bounds."""
 
 from typing import Any, Literal, NamedTuple, Optional, Sequence, Tuple
 
-from ._arguments import named
+from ._arguments import named, shown
 from ._clip import check_indices
 from ._patterns import SAMPLES
+from ._records import index_columns, indices_of
 
 # One of numpy, which the package does without until a call needs it.
 Array = Any
@@ -58,7 +59,7 @@ class Fragments(NamedTuple):
         0. Where there is no fragment the background stands, one colour or one for each pixel."""
         import numpy as np
 
-        given = np.asarray(colors, float)
+        given = floats("colors", colors)
         if given.shape != (len(self.id), 3):
             raise ValueError(
                 f"colors: {len(self.id)} rows of red, green and blue, one for each fragment, "
@@ -66,15 +67,29 @@ class Fragments(NamedTuple):
             )
         table = packed(given)
         found = table[self.index] if len(table) else np.zeros(self.index.shape, np.uint32)
-        np.copyto(found, packed(background), where=self.index < 0)
+        np.copyto(found, packed(floats("background", background)), where=self.index < 0)
         return found.view(np.uint8).reshape(*self.index.shape, 4)
 
 
-def packed(colors: Any) -> Array:
+def floats(name: str, values: Any) -> Array:
+    """Numbers as doubles. Raises TypeError at what is no number, and ValueError at one that no double holds."""
+    import numpy as np
+
+    try:
+        given = np.asarray(values)
+        if given.dtype.kind not in "fiubO":
+            raise TypeError("texts, which float would read, times, or complex numbers")
+        return given.astype(float)
+    except OverflowError:
+        raise ValueError(f"{name}: numbers that a float holds, and not {shown(values)}") from None
+    except (TypeError, ValueError):
+        raise TypeError(f"{name}: numbers, and not {shown(values)}") from None
+
+
+def packed(given: Array) -> Array:
     """Colours as bytes, four in 32 bits."""
     import numpy as np
 
-    given = np.asarray(colors, float)
     found = np.full((*given.shape[:-1], 4), 255, np.uint8)
     with np.errstate(invalid="ignore"):
         found[..., :3] = np.where(given == given, np.clip(given, 0, 255) + 0.5, 0)
@@ -157,7 +172,9 @@ def fragments_of(
     named("rate", RATES, rate)
     if not {"x", "y"} <= set(getattr(getattr(vertices, "dtype", None), "names", None) or ()):
         raise TypeError("vertices: an array with the fields x and y, as those of trirast.clip")
-    rows, distances = np.asarray(triangles).astype(np.int64).reshape(-1, 3), np.asarray(w, float)
+    indices = np.frombuffer(indices_of("triangles", triangles, index_columns(3)), np.uint32)
+    rows = indices.reshape(-1, 3).astype(np.int64)
+    distances = floats("w", w)
     if distances.shape != vertices.shape:
         raise ValueError(f"w: {len(vertices)} numbers, one for each vertex, and not the shape {distances.shape}")
     check_indices(rows, len(vertices), "vertices")

@@ -2,7 +2,7 @@
 
 from typing import Any, List, NamedTuple, Optional, SupportsIndex, Tuple
 
-from ._arguments import flag, number
+from ._arguments import flag, number, shown
 from ._draw_list import DrawList, as_bytes, read_image_info
 from ._errors import PixelError, SampleError, TriangleError, adding
 from ._ffi import CError, CEvent, CFragment, CHistoryRequest, CSampleCounts, CSampleInfo, CStored, library
@@ -161,7 +161,7 @@ def triangle_samples(draw_list: DrawList, draw: SupportsIndex, triangle: Support
     """
     data, counts = as_bytes(draw_list), CSampleCounts()
     place = number("draw", draw), number("triangle", triangle)
-    with adding(TriangleError, lambda _error: f"triangle {triangle} of draw {draw}"):
+    with adding(TriangleError, lambda _error: f"triangle {shown(triangle)} of draw {shown(draw)}"):
         library().trirast_list_triangle_samples(data, len(data), *place, counts, CError())
     return TriangleSamples(*place, counts.covered, counts.changed, counts.shown)
 
@@ -169,13 +169,13 @@ def triangle_samples(draw_list: DrawList, draw: SupportsIndex, triangle: Support
 def pixel_values(data: bytes, x: SupportsIndex, y: SupportsIndex) -> str:
     """The pixels that there are, and the one that was asked for."""
     info = read_image_info(data)
-    return f"x 0 to {info.width - 1} and y 0 to {info.height - 1}, and not {x} and {y}"
+    return f"x 0 to {info.width - 1} and y 0 to {info.height - 1}, and not {shown(x)} and {shown(y)}"
 
 
 def sample_values(data: bytes, sample: Optional[SupportsIndex]) -> str:
     """The same of samples, of which each pixel has as many as the first."""
     info = read_events(data, 0, 0, 0, False, 0)[1]
-    return f"0 to {info.samples - 1}, and not {sample}"
+    return f"0 to {info.samples - 1}, and not {shown(sample)}"
 
 
 def resolved(colors: List[Color]) -> Color:

@@ -92,7 +92,7 @@ class Picture:
     def _at(self, column: int, row: int) -> bytes:
         i, j = integer("column", column), integer("row", row)
         if not (0 <= i < self.width and 0 <= j < self.height):
-            raise IndexError(f"a picture of {self.width} by {self.height} pixels has no pixel {i}, {j}")
+            raise IndexError(f"a picture of {self.width} by {self.height} pixels has no pixel {shown(i)}, {shown(j)}")
         length = self._shape[2]
         first = length * (j * self.width + i)
         return bytes(self._pixels.cast("B")[first : first + length])

@@ -13,6 +13,10 @@ from ._vertices import PLACE, put_colors
 Rule = Literal["even-odd", "nonzero"]
 # In the order of their numbers in C.
 RULES = ("even-odd", "nonzero")
+# In 1/256 pixel.
+UNIT = 256
+# Of so many edges, spread over all of them, it is looked how many rows they cross.
+MOST_LOOKED_AT = 4096
 CORNER_BYTES, END_BYTES, COLOR_BYTES, DEPTH_BYTES, BOX_BYTES = 8, 4, 4, 2, 16
 COLOR = tuple(Column(name, "B", k) for k, name in enumerate(("red", "green", "blue", "alpha")))
 DEPTH = Column("depth", "H", 0)
@@ -67,6 +71,14 @@ def boxes_of(boxes: Any) -> Copy:
     """Rows of left, top, right and bottom."""
     table = table_of("boxes", boxes, BOX)
     return table.fill(bytearray(BOX_BYTES * table.count), BOX_BYTES)
+
+
+def rows_crossed(polygons: CPolygons, top: int, bottom: int) -> int:
+    """How many rows of pixels between two heights, in 1/256 pixel, the edges cross: about, from some of the edges."""
+    heights = memoryview(polygons.kept[0]).cast("i")[1::2]
+    step = max(1, len(heights) // MOST_LOOKED_AT)
+    some = zip(heights[::step], heights[1::step])
+    return step * sum(abs(min(max(a, top), bottom) - min(max(b, top), bottom)) for a, b in some) // UNIT
 
 
 def leading_zero(ring_ends: Any, polygon_ends: Any) -> str:

@@ -10,7 +10,7 @@ from array import array
 from typing import Any, Iterable, List, NamedTuple, Optional, Sequence, Tuple, Union
 
 from ._arguments import CHANNEL, of_length, shown
-from ._buffers import OTHER_ORDER, buffer_of, family_of, kind_of, refuse_masked
+from ._buffers import OTHER_ORDER, buffer_of, exact_bytes, family_of, kind_of, refuse_masked
 
 LOW, HIGH = -8388608, 8388607
 POSITION = " in 1/256 pixel"
@@ -218,8 +218,9 @@ def indices_of(name: str, values: Any, columns: Columns) -> Copy:
     """Rows of indices, 32 bits each."""
     size = 4 * len(columns)
     if isinstance(values, (bytes, bytearray)):
-        if len(values) % size:
-            raise ValueError(f"{name}: {rows_of([columns])} of 4 bytes, and not {len(values)} bytes")
-        return bytes(values)
+        found = exact_bytes(values)
+        if len(found) % size:
+            raise ValueError(f"{name}: {rows_of([columns])} of 4 bytes, and not {len(found)} bytes")
+        return found
     table = table_of(name, values, columns)
     return table.fill(bytearray(size * table.count), size)

@@ -5,6 +5,7 @@ threading.stack_size or by `ulimit -s`, and to run out of stack ends the process
 """
 
 import ctypes
+import os
 import resource
 import threading
 from _thread import get_ident, stack_size
@@ -84,3 +85,7 @@ def enough() -> Iterator[None]:
         finally:
             if (given or of_system()) < STACK:
                 put_back(given, STACK)
+
+
+# A forked child has none of the other threads: one that is starting threads would leave the lock to nobody.
+os.register_at_fork(before=STARTING.acquire, after_in_parent=STARTING.release, after_in_child=STARTING.release)

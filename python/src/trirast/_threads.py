@@ -3,7 +3,8 @@ the caller meanwhile.
 
 A thread that comes back to Python while the interpreter ends may crash the process, and one may begin long after others
 have done its part. So the interpreter ends when all threads have left Python: the last that each does is to add itself
-to those that are gone, and no bytecode of Python runs after that.
+to those that are gone, and no bytecode of Python runs after that. A thread that is started later never runs. So from
+then on the calling thread does all: in `__del__`, callbacks of `gc` and what was registered with `atexit` before.
 """
 
 import atexit
@@ -13,6 +14,7 @@ from collections import deque
 from functools import wraps
 from itertools import repeat
 from queue import SimpleQueue
+from sys import is_finalizing
 from time import sleep
 from typing import Any, Callable, Deque, Dict, List, Optional, Sequence, Tuple, TypeVar, cast
 from weakref import WeakSet
@@ -44,15 +46,16 @@ def with_stack(call: Function) -> Function:
 
 
 def share(call: Call, split: Callable[[int], Sequence[Part]], threads: int, used: Sequence[Buffer] = ()) -> None:
-    """Makes a call on each of the parts into which `split` cuts the work for this number of threads: at most as many.
+    """Makes a call on each of the parts into which `split` cuts the work for this number of threads.
 
-    All parts are done or, if the call is interrupted before they begin, none. An interrupt is raised after they have
-    ended, and so is the error of the first part that has one. If no thread can be started, the calling thread does the
-    whole, or raises RuntimeError if it has too little stack.
+    An interrupt is raised after all parts have ended, or have not begun. So are errors: that of the first part that has
+    one. Where there are more parts than threads, an interrupt leaves out those that have not begun. If no thread can be
+    started, as when the interpreter ends, the calling thread does the whole, or raises RuntimeError if it has too
+    little stack.
     """
     parts = split(threads)
-    if len(parts) > 1 or not _stack.is_enough():
-        work = Work(call, parts, used)
+    if min(threads, len(parts)) > 1 or not _stack.is_enough():
+        work = Work(call, parts, threads, used)
         if work.is_done_by_threads():
             work.raise_error()
             return
@@ -69,20 +72,23 @@ def share(call: Call, split: Callable[[int], Sequence[Part]], threads: int, used
 class Work:
     """The parts of a call, which threads take one after another."""
 
-    def __init__(self, call: Call, parts: Sequence[Part], used: Sequence[Buffer]) -> None:
+    def __init__(self, call: Call, parts: Sequence[Part], threads: int, used: Sequence[Buffer]) -> None:
         self._call: Optional[Call] = call
         self._used = [buffer.memory for buffer in used]
-        self._count = len(parts)
+        self._threads = min(threads, len(parts))
+        self._may_stop = len(parts) > threads
         self._left: Deque[Tuple[int, Part]] = deque(enumerate(parts))
         self._started: List[int] = []
-        self._ended: List[int] = []
+        # Each thread adds to these before it takes a part, and when it has done it or there was none.
+        self._begun: List[None] = []
+        self._ended: List[None] = []
         self._gone: Deque[None] = deque()
         self._errors: Dict[int, BaseException] = {}
         self._signals: "SimpleQueue[None]" = SimpleQueue()
         WORKS.add(self)
 
     def is_done_by_threads(self) -> bool:
-        """Has threads do all parts, and returns whether there was a thread. An interrupt is raised after all parts."""
+        """Has threads do the parts, and returns whether there was a thread. An interrupt is raised after that."""
         self._outlast(LEVELS)
         return bool(self._started)
 
@@ -103,8 +109,10 @@ class Work:
         interrupt: Optional[BaseException] = None
         while True:
             try:
+                if interrupt is not None and self._may_stop:
+                    self._left.clear()
                 self._start()
-                while self._started and len(self._ended) < self._count:
+                while self._started and not self._is_done():
                     self._signals.get()
                 break
             except BaseException as error:  # KeyboardInterrupt, or what a program's own handler of a signal raises
@@ -117,34 +125,46 @@ class Work:
             del interrupt
 
     def _start(self) -> None:
-        """Starts a thread for each part, as far as there are threads. One is enough for all parts."""
-        if self._started:
+        """Starts the threads, as far as there are any. One is enough for all parts."""
+        if self._started or is_finalizing():
             return
         # A thread takes the next of such an iterator: what `_run` returns, which is None, goes to those that are gone.
-        ends = [(map(self._gone.append, iter(self._run, self)),) for _ in range(self._count)]
+        ends = [(map(self._gone.append, iter(self._run, self)),) for _ in range(self._threads)]
         try:
             with _stack.enough():
-                # Nothing of Python runs within this line, so no interrupt comes between the start of a thread and
-                # its entry in the list.
-                self._started.extend(map(start_new_thread, repeat(next), ends))
+                if not ENDING:
+                    # Nothing of Python runs within this line, so no interrupt comes between the start of a thread and
+                    # its entry in the list.
+                    self._started.extend(map(start_new_thread, repeat(next), ends))
         except RuntimeError:
             pass  # There are no more threads.
 
+    def _is_done(self) -> bool:
+        """Whether no part is left, and each that a thread took has ended."""
+        return not self._left and len(self._ended) >= len(self._begun)
+
     def _run(self) -> None:
-        while True:
-            try:
-                number, part = self._left.popleft()
-            except IndexError:
-                return
-            try:
-                assert self._call is not None
-                self._call(*part)
-            except BaseException as error:  # of any class: the calling thread raises it again
-                self._errors[number] = error
-            self._ended.append(number)
-            if len(self._ended) == self._count:
+        is_left = True
+        while is_left:
+            self._begun.append(None)
+            is_left = self._take()
+            self._ended.append(None)
+            if self._is_done():
                 self._call, self._used = None, []
             self._signals.put(None)
+
+    def _take(self) -> bool:
+        """Does the next part. Returns whether there was one."""
+        try:
+            number, part = self._left.popleft()
+        except IndexError:
+            return False
+        try:
+            assert self._call is not None
+            self._call(*part)
+        except BaseException as error:  # of any class: the calling thread raises it again
+            self._errors[number] = error
+        return True
 
     def raise_error(self) -> None:
         """Raises the error of the first part that has one."""
@@ -164,14 +184,19 @@ class Work:
 
 # What threads still have, and what nobody has let go yet.
 WORKS: "WeakSet[Work]" = WeakSet()
+# Not empty once the interpreter has begun to end.
+ENDING: List[None] = []
 
 
-def wait_for_threads() -> None:
-    """Waits until each thread has left Python."""
+def end() -> None:
+    """Waits until each thread has left Python. No more are started."""
+    # A thread that is starting others has the lock, and ends before.
+    with _stack.STARTING:
+        ENDING.append(None)
     for work in list(WORKS):
         work.wait_for_threads()
 
 
-atexit.register(wait_for_threads)
+atexit.register(end)
 # A copy of the process has none of the threads.
 os.register_at_fork(after_in_child=WORKS.clear)

@@ -1,12 +1,11 @@
 """Vertices as C has them: records of 16 bytes."""
 
-import sys
 from array import array
-from typing import Any, NamedTuple, Optional
+from typing import Any, Optional
 
-from ._arguments import between, color_of
-from ._buffers import refuse_masked
-from ._records import Column, Columns, table_of
+from ._arguments import between, color_of, has_length
+from ._buffers import exact_bytes, refuse_masked
+from ._records import Column, Columns, Copy, table_of
 
 # The fields of a vertex, as numpy takes them: numpy.zeros(3, trirast.VERTEX) are three. x and y are in 1/256 pixel.
 # The last is not read.
@@ -22,88 +21,63 @@ WHOLE = (*PLACE, DEPTH, *COLOR)
 # What a vertex without a depth and a colour has: 0, and opaque white.
 BLANK = bytes(10) + b"\xff" * 4 + bytes(2)
 OPAQUE = 255
-
-MAX_STRIDE = 2048
-
-# Records that nobody else has, as bytes or a bytearray; or the caller's own, as an array of bytes of numpy, or Strided.
-Vertices = Any
+# Two numbers of 64 bits, which numpy moves at once.
+RECORD = "c16"
 
 
-class Strided(NamedTuple):
-    """The caller's own vertices where they lie in an array of numpy, with other bytes behind each."""
-
-    array: Any
-    address: int
-    stride: int
-
-
-def vertices_of(vertices: Any, colors: Optional[Any] = None, depth: Optional[Any] = None) -> Vertices:
-    """Vertices, with these colours and depths in place of their own. They are copied, unless they are an array of numpy
-    that has the members of VERTEX in their order, and whose colours and depths stay."""
+def vertices_of(vertices: Any, colors: Optional[Any] = None, depth: Optional[Any] = None) -> Copy:
+    """Copies vertices, with these colours and depths in place of their own. So what becomes of an array of numpy later,
+    or in another thread, is not drawn: neither its numbers nor its size."""
+    records = records_of(vertices)
     if colors is None and depth is None:
-        strided = strided_of(vertices)
-        return records_of(vertices) if strided is None else strided
-    made = records_of(vertices)
-    records = made if isinstance(made, bytearray) else bytearray(made)
-    count = len(records) // VERTEX_BYTES
+        return records
+    made = records if isinstance(records, bytearray) else bytearray(records)
+    count = count_of(made)
     if colors is not None:
-        put_colors(records, count, colors)
+        put_colors(made, count, colors)
     if depth is not None:
-        put_depths(records, count, depth)
-    return records
+        put_depths(made, count, depth)
+    return made
 
 
-def strided_of(vertices: Any) -> Optional[Strided]:
-    """Vertices that the library can read where they lie, with a stride of their own. `None` if there are none such."""
-    numpy = sys.modules.get("numpy")
-    is_array = (
-        numpy is not None and isinstance(vertices, numpy.ndarray) and not isinstance(vertices, numpy.ma.MaskedArray)
-    )
-    if not is_array or not vertices.dtype.names or vertices.ndim != 1 or not has_members(numpy, vertices):
-        return None
-    stride, address = vertices.strides[0], vertices.ctypes.data + vertices.dtype.fields["x"][1]
-    is_read = VERTEX_BYTES < stride <= MAX_STRIDE and stride % 4 == 0 and address % 4 == 0
-    return Strided(vertices, address, stride) if is_read and len(vertices) > 1 else None
-
-
-def count_of(vertices: Vertices) -> int:
+def count_of(vertices: Copy) -> int:
     """How many vertices there are."""
-    return len(vertices.array) if isinstance(vertices, Strided) else len(vertices) // VERTEX_BYTES
+    return len(vertices) // VERTEX_BYTES
 
 
-def packed(vertices: Vertices) -> Vertices:
-    """The same vertices one at the end of another."""
-    return records_of(vertices.array) if isinstance(vertices, Strided) else vertices
-
-
-def records_of(vertices: Any) -> Vertices:
-    names = getattr(getattr(vertices, "dtype", None), "names", None)
-    if names:
-        return of_fields(vertices, names)
+def records_of(vertices: Any) -> Copy:
+    """Vertices as records one after another."""
+    if getattr(getattr(vertices, "dtype", None), "names", None):
+        return of_fields(vertices)
     if isinstance(vertices, (bytes, bytearray)):
-        if len(vertices) % VERTEX_BYTES:
-            raise ValueError(f"vertices: records of {VERTEX_BYTES} bytes, and not {len(vertices)} bytes")
-        return bytes(vertices)
+        found = exact_bytes(vertices)
+        if len(found) % VERTEX_BYTES:
+            raise ValueError(f"vertices: records of {VERTEX_BYTES} bytes, and not {len(found)} bytes")
+        return found
     table = table_of("vertices", vertices, PLACE, WHOLE)
     return table.fill(bytearray(BLANK * table.count), VERTEX_BYTES)
 
 
-def of_fields(vertices: Any, names: Any) -> Vertices:
+def of_fields(vertices: Any) -> Copy:
     """Vertices of an array of numpy with fields."""
     import numpy as np
 
     refuse_masked("vertices", vertices)
-    if not {"x", "y"} <= set(names) or vertices.ndim != 1:
+    # A view of our own: its size stays if someone gives the array another type or shape in place.
+    given: Any = np.asarray(vertices).view()
+    names = given.dtype.names or ()
+    if not {"x", "y"} <= set(names) or given.ndim != 1:
         raise ValueError(
-            f"vertices: one dimension, with the fields x and y, and not {', '.join(names)} of "
-            f"the shape {vertices.shape}"
+            f"vertices: one dimension, with the fields x and y, and not {', '.join(names)} of the shape {given.shape}"
         )
-    if is_own_layout(np, vertices):
-        return np.asarray(vertices).view(np.uint8)
-    made = bytearray(BLANK * len(vertices))
+    if has_members(np, given) and not given.dtype.hasobject and len(given):
+        made = bytearray(VERTEX_BYTES * len(given))
+        np.frombuffer(made, RECORD)[:] = given.getfield(RECORD, given.dtype.fields["x"][1])
+        return made
+    made = bytearray(BLANK * len(given))
     for column in WHOLE:
         if column.name in names:
-            table_of("vertices", vertices[column.name], (column,)).fill(made, VERTEX_BYTES)
+            table_of("vertices", given[column.name], (column,)).fill(made, VERTEX_BYTES)
     return made
 
 
@@ -125,12 +99,18 @@ def has_members(np: Any, vertices: Any) -> bool:
     return is_inside and all(fields[name][1] - first == whole[name][1] for name in names)
 
 
+def is_one_color(colors: Any) -> bool:
+    """Whether these are channels, and not rows of them."""
+    try:
+        is_row = getattr(colors, "ndim", 1) == 1 and has_length(colors, 3, 4)
+        return is_row and not hasattr(next(iter(colors), ()), "__len__")
+    except (TypeError, NotImplementedError):
+        return False  # Python does not read each format of a memoryview.
+
+
 def put_colors(records: bytearray, count: int, colors: Any, columns: Columns = COLOR, size: int = VERTEX_BYTES) -> None:
     """Writes a colour to all records of this size, or one to each. One of three channels is opaque."""
-    first = (
-        colors[0] if getattr(colors, "ndim", 1) == 1 and hasattr(colors, "__len__") and len(colors) in (3, 4) else ()
-    )
-    if hasattr(first, "__len__"):
+    if not is_one_color(colors):
         records[columns[3].begin :: size] = bytes([OPAQUE]) * count
         table_of("colors", colors, columns[:3], columns).fill(records, size)
         return

@@ -319,6 +319,7 @@ pub struct trirast_canvas {
     pub origin_y: i32,
     pub first: u32,
     pub end: u32,
+    pub initialized: u32,
     pub memory: *mut c_void,
     pub plane_count: usize,
 }

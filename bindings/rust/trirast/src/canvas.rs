@@ -357,8 +357,8 @@ impl TileRows<'_> {
     }
 
     /// Draws over what is stored, with the id of each triangle in place of a colour: `first_id` and its index, counted
-    /// over all draws. Channels that are kept and blending are not used. A sample that no triangle passed has the
-    /// number of the colour to which it was cleared: white is 16,777,215.
+    /// over all draws. Channels that are kept and blending are not used, but alpha becomes 255 unless it is kept. A
+    /// sample that no triangle passed has the number of the colour to which it was cleared: white is 16,777,215.
     ///
     /// # Errors
     ///

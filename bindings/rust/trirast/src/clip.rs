@@ -25,7 +25,8 @@ pub enum NearPlane {
 #[non_exhaustive]
 pub enum Sides {
     /// Those of the guard band, far outside of the viewport, so that few triangles are cut. What lies outside of the
-    /// viewport may be drawn or not; a scissor leaves it out.
+    /// viewport may be drawn or not; a scissor leaves it out. A canvas takes the vertices if its origin is 0 or in the
+    /// viewport, corners included.
     #[default]
     GuardBand,
     /// Those of the viewport, but for the rounding to 1/256 pixel.
@@ -400,10 +401,12 @@ impl View {
 }
 
 /// The largest power of two of half viewports from the middle that fit the positions of a canvas, with
-/// a pixel to spare.
+/// a pixel to spare: on the screen, and relative to an origin in the viewport, which is at most half a
+/// viewport from the middle.
 fn guard(half: f64, centre: f64) -> f64 {
+    let reach = centre.abs().max(half);
     let mut found = 1.0;
-    while 2.0 * found * half + centre.abs() <= 8_388_607.0 - 256.0 {
+    while 2.0 * found * half + reach <= 8_388_607.0 - 256.0 {
         found *= 2.0;
     }
     found

@@ -240,7 +240,7 @@ impl TileRows<'_> {
     }
 
     /// Draws polygons over what is stored, with the id of each in place of a colour: `first_id` and its index. Channels
-    /// that are kept and blending are not used.
+    /// that are kept and blending are not used, but alpha becomes 255 unless it is kept.
     ///
     /// # Errors
     ///

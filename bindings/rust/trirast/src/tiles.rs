@@ -28,15 +28,17 @@ impl TileRows<'_> {
     /// by 8 pixels, row by row; in a block sample index by sample index; and of each the pixels, row by row. Returns
     /// `None` if a tile has no such pixel, or the pixel no such sample.
     pub fn tile_entry(&self, column: u32, row: u32, sample: u32) -> Option<usize> {
-        let is_inside = column < ROW_PIXELS && row < ROW_PIXELS && sample < self.samples();
+        if column >= ROW_PIXELS || row >= ROW_PIXELS || sample >= self.samples() {
+            return None;
+        }
         let block = row / BLOCK_SIDE * BLOCK_SIDE + column / BLOCK_SIDE;
         let pixel = row % BLOCK_SIDE * BLOCK_SIDE + column % BLOCK_SIDE;
-        is_inside.then(|| ((block * self.samples() + sample) * BLOCK_SIDE * BLOCK_SIDE + pixel) as usize)
+        Some(((block * self.samples() + sample) * BLOCK_SIDE * BLOCK_SIDE + pixel) as usize)
     }
 
     /// Reads the ids of all samples of one tile, red + 256 * green + 65536 * blue each, those of pixels beside the
-    /// picture too. `entries` has [`tile_entries`](TileRows::tile_entries). Returns those that were written: all, or of
-    /// a tile that is unchanged since it was cleared one, which is the id of all of its samples. `column` counts tiles,
+    /// picture too. `entries` has [`tile_entries`](TileRows::tile_entries). Returns those that were written: all, or
+    /// one if all blocks of the tile are stored as cleared and have one id, as after `clear`. `column` counts tiles,
     /// and `row` is one of these tile rows.
     ///
     /// A renderer draws ids, and puts colours of its own in their place, tile by tile:

@@ -171,6 +171,8 @@ fn refuses_tiles_that_there_are_not() {
     for colors in [&entries[..0], &entries[..2], &entries[..]] {
         assert_eq!(part.tile_store(0, 1, colors).unwrap_err().kind(), ErrorKind::BufferTooSmall);
     }
-    assert_eq!([(64, 0, 0), (0, 64, 0), (0, 0, 4)].map(|(x, y, sample)| part.tile_entry(x, y, sample)), [None; 3]);
+    const FAR: u32 = u32::MAX;
+    let beside = [(64, 0, 0), (0, 64, 0), (0, 0, 4), (FAR, FAR, 0), (0, 0, FAR), (FAR, 0, FAR)];
+    assert_eq!(beside.map(|(x, y, sample)| part.tile_entry(x, y, sample)), [None; 6]);
     assert!(canvas.ids(0).unwrap().iter().all(|&id| id == WHITE) && entries.iter().all(|&entry| entry == 5));
 }

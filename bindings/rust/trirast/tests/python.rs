@@ -1,5 +1,5 @@
 //! Scenes with what the Python package draws of them, and triangles in clip space with what the header in C makes of
-//! them: tools/checks/library/from_rust.py writes both. Without them there is nothing to compare with.
+//! them: tests/library/from_rust.py writes both. Without them there is nothing to compare with.
 
 use std::{env, fs};
 

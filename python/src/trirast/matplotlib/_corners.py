@@ -26,7 +26,7 @@ def triangles_of(polygons: Polygons) -> Optional[Any]:
     diagonal cancels.
     """
     count = len(polygons.polygon_ends)
-    length = int(polygons.ring_ends[0]) if count and len(polygons.ring_ends) == count else 0
+    length = int(polygons.ring_ends[0]) if polygons.are_rings else 0
     if (
         length not in (3, 4) or polygons.ring_ends[-1] != length * count
         or (np.diff(polygons.ring_ends) != length).any()

@@ -42,10 +42,18 @@ class Polygons(NamedTuple):
         )
 
     @property
+    def are_rings(self) -> bool:
+        """Whether each polygon is one ring. There may be as many rings as polygons though one has two, and another
+        none."""
+        if len(self.ring_ends) != len(self.polygon_ends) or not len(self.ring_ends):
+            return False
+        return bool((self.polygon_ends[1:] > self.polygon_ends[:-1]).all()) and int(self.polygon_ends[0]) == 1
+
+    @property
     def are_simple(self) -> bool:
         """Whether each polygon is one ring that is known to wind around no point twice, so that the even-odd rule is
         the nonzero rule."""
-        if len(self.ring_ends) != len(self.polygon_ends) or not len(self.ring_ends):
+        if not self.are_rings:
             return False
         few = np.diff(self.ring_ends, prepend=0) <= MOST_SIMPLE
         return bool(few.all() or (few | turn_once(self.corners, self.ring_ends)).all())

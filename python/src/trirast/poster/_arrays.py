@@ -11,35 +11,41 @@ the process.
 
 from __future__ import annotations
 
+import errno
+import io
 import json
+import math
 import os
 import re
 import secrets
 import struct
 import tempfile
 import zipfile
-from typing import Any, IO, Mapping, Optional
+from contextlib import contextmanager, suppress
+from typing import Any, Callable, IO, Iterator, Literal, Mapping, Optional
 
 import numpy as np
 from numpy.lib import format as numpy_format
 from numpy.typing import NDArray
 
 from .._errors import DrawListError, LimitError
-from .._vertices import VERTEX
 from ._draw_list import MAX_LIST, check_states, scene_of_list, sheet_of
 from ._errors import ArraysError, MapError
-from ._geojson import GEOJSON, JSON, scene_of_geojson
+from ._files import naming
+from ._geojson import GEOJSON, JSON, interruptible, scene_of_geojson
 from ._places import Path, check_file
-from ._polygons import NONE, Polygons, own_polygons
-from ._scene import NO_TRIANGLES, PosterDraw, Scene, own_vertices, owned
+from ._polygons import NONE, Polygons, own_corners, own_polygons
+from ._scene import CHUNK, NO_TRIANGLES, PosterDraw, Scene, own_triangles, own_vertices, owned
 
 # Members begin at multiples of this in files that `save_arrays` writes, so that others can map them as integers.
 ALIGNMENT = 64
 LOCAL_HEADER = 30
 # Where temporary files may be large: where others go may be memory.
 LARGE = "/var/tmp"
-# Bytes that are copied together.
-BLOCK = 1 << 20
+# Bytes that are copied together, and that numpy reads of a header.
+BLOCK, MAX_HEADER = 1 << 20, 10_000 + 12
+# The member that has the list, and its bytes at most: as many characters of 4 bytes as a draw list has bytes.
+DRAWS, MAX_DRAWS = "draws", 4 * MAX_LIST
 # How a name ends that is of arrays, in small or capital letters.
 NPZ = ".npz"
 # What a text of GeoJSON has, and no draw list.
@@ -99,11 +105,14 @@ def draw_of(draw: Mapping[str, Any]) -> PosterDraw:
 
 def scene_of_file(path: str) -> Scene:
     """The scene of a .npz file. Raises ArraysError if it is none."""
-    with open(path, "rb") as file:
+    with naming(path), open(path, "rb") as file:
         found, value = read_file(path, file)
     vertices, triangles = (found.get(name, empty) for name, empty in zip(OF_TRIANGLES, NO_TRIANGLES))
     corners, ring_ends, polygon_ends, colors = (found.get(name, empty) for name, empty in zip(OF_POLYGONS, NONE.arrays))
+    corners = in_parts(corners, own_corners)
     polygons = own_polygons(Polygons(corners, ring_ends, polygon_ends, colors), copy=False)
+    vertices = in_parts(vertices, lambda part: own_vertices(part, copy=False))
+    triangles = in_parts(triangles, lambda part: own_triangles(part, copy=False))
     return owned(of_members(vertices, triangles, polygons, value, path, copy=False))
 
 
@@ -114,50 +123,76 @@ def read_file(path: str, file: IO[bytes]) -> tuple[dict[str, NDArray[Any]], Any]
         with zipfile.ZipFile(file) as archive:
             names = archive.namelist()
             kinds = [kind for kind in (OF_TRIANGLES, OF_POLYGONS) if f"{kind[0]}.npy" in names] or [OF_TRIANGLES]
-            found = {name: member(file, archive, name) for kind in kinds for name in kind}
-            draws = member(file, archive, "draws")
-        return found, json.loads(draws.item() if draws.ndim == 0 else draws.tobytes())
-    except (OSError, MemoryError):
-        raise
+            found = {name: member(archive, name) for kind in kinds for name in kind}
+            draws = member(archive, DRAWS)
+        text = draws.item() if draws.ndim == 0 else draws.tobytes()
+        return found, json.loads(text, object_hook=interruptible)
     except Exception as error:
+        # To look before a file's beginning is an error of the system.
+        if isinstance(error, MemoryError) or isinstance(error, OSError) and error.errno != errno.EINVAL:
+            raise
         # A file may have any bytes. These modules raise errors of ten classes for them, of which they document few.
         raise ArraysError(f"{path}: no arrays of a poster: {type(error).__name__}: {error}") from error
 
 
-def member(file: IO[bytes], archive: zipfile.ZipFile, name: str) -> NDArray[Any]:
-    """An array of a .npz file: a mapped copy if it is stored and has integers, else read."""
+def member(archive: zipfile.ZipFile, name: str) -> NDArray[Any]:
+    """An array of a .npz file: a mapped copy, or if it is that of draws, read. zipfile compares its checksum, the
+    CRC-32, where it is read to its end. No more of it is inflated than its header says."""
     info = archive.getinfo(name + ".npy")
+    if info.compress_type not in (zipfile.ZIP_STORED, zipfile.ZIP_DEFLATED):
+        raise ValueError(f"{name}: stored or deflated, and not packed by the method {info.compress_type}")
     with archive.open(info) as opened:
-        shape, fortran, dtype = header_of(opened)
-        header = opened.tell()
-        if info.compress_type != zipfile.ZIP_STORED or fortran or not shape or not all(shape) or not is_mapped(dtype):
-            opened.seek(0)
-            return np.asarray(npy.read_array(opened, allow_pickle=False))
-    size = int(np.prod(shape, dtype=object)) * dtype.itemsize
-    if header + size > info.file_size:
-        raise ValueError(f"{name} has {info.file_size - header} bytes, and not {size}")
-    # A mapping stays when its file is closed.
-    with tempfile.TemporaryFile(dir=os.environ.get("TMPDIR") or (LARGE if os.path.isdir(LARGE) else None)) as copy:
-        copy_part(file, name, data_offset(file, info) + header, size, copy)
-        return np.memmap(copy, dtype, "c", 0, shape)
+        head = io.BytesIO(opened.read(MAX_HEADER))
+        shape, fortran, dtype = header_of(head)
+        size = math.prod(shape) * dtype.itemsize
+        order: Literal["C", "F"] = "F" if fortran else "C"
+        if min(shape, default=0) < 0 or head.tell() + size != info.file_size:
+            raise ValueError(f"{name} has {info.file_size - head.tell()} bytes, and not {size}")
+        if name == DRAWS and size > MAX_DRAWS:
+            raise ValueError(f"{name}: at most {MAX_DRAWS} bytes, and not {size}")
+        if name == DRAWS:
+            return np.ndarray(shape, dtype, head.read() + opened.read(), order=order)
+        if not is_mapped(dtype) or not size:
+            # A scene has none of this kind: the error says so by the shape and the type alone.
+            return np.broadcast_to(np.zeros((), dtype), shape)
+        with unnamed_file() as copy:
+            copy_part(head, opened, copy)
+            found: NDArray[Any] = np.memmap(copy, dtype, "c", 0, shape, order)
+            return found
 
 
 def is_mapped(dtype: np.dtype[Any]) -> bool:
     """Whether an array of this type is mapped: of integers, or of records."""
-    return dtype.kind in "iu" or dtype == np.dtype(VERTEX)
+    return dtype.kind in "iub" or dtype.names is not None and not dtype.hasobject
 
 
-def copy_part(file: IO[bytes], name: str, start: int, size: int, copy: IO[bytes]) -> None:
-    """Copies a part of a file to a file without a name, which nobody else can change. Raises ValueError if the
-    file ends before."""
-    file.seek(start)
-    while size:
-        block = file.read(min(size, BLOCK))
-        if not block:
-            raise ValueError(f"{name} ends too soon, by {size} bytes")
-        copy.write(block)
-        size -= len(block)
+def copy_part(head: IO[bytes], rest: IO[bytes], copy: IO[bytes]) -> None:
+    """Copies what is left of a member's beginning, and its rest."""
+    for part in (head, rest):
+        while block := part.read(BLOCK):
+            copy.write(block)
     copy.flush()
+
+
+@contextmanager
+def unnamed_file() -> Iterator[IO[bytes]]:
+    """A file without a name, which nobody else can change. A mapping stays when it is closed."""
+    folder = os.environ.get("TMPDIR") or (LARGE if os.path.isdir(LARGE) else tempfile.gettempdir())
+    with naming(folder), tempfile.TemporaryFile(dir=folder) as file:
+        yield file
+
+
+def in_parts(array: NDArray[Any], own: Callable[[NDArray[Any]], NDArray[Any]]) -> NDArray[Any]:
+    """An array as a scene has it. If it has many rows, and others than a scene, its parts are put into a file that is
+    mapped, so that it is not whole in memory."""
+    if len(array.shape) == 0 or len(array) <= CHUNK or np.may_share_memory(array, own(array[:1])):
+        return own(array)
+    with unnamed_file() as file:
+        for first in range(0, len(array), CHUNK):
+            part = own(array[first : first + CHUNK])
+            file.write(part.view(np.uint8).data)
+        file.flush()
+        return np.memmap(file, part.dtype, "c", 0, (len(array), *part.shape[1:]))
 
 
 def header_of(file: IO[bytes]) -> tuple[tuple[int, ...], bool, np.dtype[Any]]:
@@ -166,14 +201,6 @@ def header_of(file: IO[bytes]) -> tuple[tuple[int, ...], bool, np.dtype[Any]]:
     read = npy.read_array_header_1_0 if version == (1, 0) else npy.read_array_header_2_0
     shape, fortran, dtype = read(file)
     return shape, fortran, dtype
-
-
-def data_offset(file: IO[bytes], info: zipfile.ZipInfo) -> int:
-    """Where the bytes of a stored member begin in the file (APPNOTE.TXT of PKWARE, 4.3.7: lengths of name
-    and extra field)."""
-    file.seek(info.header_offset)
-    name, extra = struct.unpack("<HH", file.read(LOCAL_HEADER)[26:30])
-    return int(info.header_offset + LOCAL_HEADER + name + extra)
 
 
 def save_arrays(
@@ -200,11 +227,12 @@ def save_members(path: Path, arrays: Mapping[str, NDArray[Any]]) -> None:
     check_file(name)
     new = f"{name}.{secrets.token_hex(8)}"
     try:
-        with open(new, "xb") as file:
+        with naming(name), open(new, "xb") as file:
             write_members(file, arrays)
         os.replace(new, name)
     except BaseException:
-        os.remove(new)
+        with suppress(FileNotFoundError):
+            os.remove(new)
         raise
 
 

@@ -8,6 +8,7 @@ from __future__ import annotations
 
 import contextlib
 import gc
+import importlib
 import logging
 import sys
 import threading
@@ -17,12 +18,15 @@ from collections import deque
 from concurrent.futures import CancelledError
 from typing import Any, Callable, Deque, Iterable, Iterator, NamedTuple, Optional
 
+import numpy as np
+
 from .._errors import OutOfMemoryError
+from .._version import VERSION
 from ._errors import EngineMissingError, PosterError, SchedulerLostError, WorkerLostError
-from ._local_workers import LocalWorkers
+from ._local_workers import LocalWorkers, local_workers
 from ._part import Part, compact
 from ._scene import Pixels
-from ._window_pixels import window_pixels
+from ._window_pixels import sent_pixels
 from ._windows import Span, Window
 
 LOCAL = "local"
@@ -54,28 +58,24 @@ def draw_by_dask(
     """Draws windows by Dask, and gives them back in their order.
 
     `scheduler` is an address, as tcp://host:8786, or "local": then `workers` processes are started, and others in
-    place of those that end. Raises EngineMissingError without Dask; SchedulerLostError if the scheduler is not
-    reached, does not answer or goes away; WorkerLostError if a window is lost with its worker again and again, or if
-    workers are not there for long.
+    place of those that end. Raises EngineMissingError without Dask, or if a worker has another release;
+    SchedulerLostError if the scheduler is not reached, does not answer or goes away; WorkerLostError if a window is
+    lost with its worker again and again, or if workers are not there for long.
     """
     distributed = dask()
-    local = LocalWorkers(workers) if scheduler == LOCAL else None
     with contextlib.ExitStack() as stack:
-        if local is not None:
-            # These end last: a scheduler that ends has its workers end.
-            stack.callback(local.close)
+        # These end last: a scheduler that ends has its workers end.
+        local = stack.enter_context(local_workers(workers)) if scheduler == LOCAL else None
         client = stack.enter_context(connected(distributed, scheduler))
         yield from Sending(distributed, client, part, local).drawn(windows)
 
 
 def dask() -> Any:
-    """The module distributed, with timeouts that end a run whose scheduler is gone."""
+    """The module distributed."""
     try:
-        import dask
         import distributed
     except ImportError as error:
         raise EngineMissingError(f"--scheduler needs Dask, python3-distributed in Debian: {error}") from error
-    dask.config.set({"distributed.comm.timeouts.connect": CONNECT})
     return distributed
 
 
@@ -84,6 +84,8 @@ def connected(distributed: Any, scheduler: str) -> Iterator[Any]:
     """A client of a scheduler, which is started and ended here if it is local. It has no workers then."""
     with contextlib.ExitStack() as stack:
         stack.enter_context(quiet_loggers())
+        # So that a run ends whose scheduler is gone.
+        stack.enter_context(importlib.import_module("dask").config.set({"distributed.comm.timeouts.connect": CONNECT}))
         try:
             if scheduler == LOCAL:
                 # Any free port: without a number Dask asks for 8787, and warns if another run has it.
@@ -93,7 +95,8 @@ def connected(distributed: Any, scheduler: str) -> Iterator[Any]:
                 client = stack.enter_context(distributed.Client(stack.enter_context(cluster)))
             else:
                 client = stack.enter_context(distributed.Client(scheduler))
-        except (OSError, ValueError, TimeoutError) as error:
+        except Exception as error:
+            # For an address that is none, or of a kind that needs more, Dask raises errors of many classes.
             raise SchedulerLostError(f"the scheduler {scheduler} cannot be reached: {error}") from error
         if has_dashboard() and client.dashboard_link:
             print(f"dashboard: {client.dashboard_link}", file=sys.stderr)
@@ -146,6 +149,19 @@ class Sent(NamedTuple):
     window: Window
     future: Any
     times: int
+    # No pixels, of the kind that it has.
+    blank: Pixels
+
+
+def checked(window: Window, pixels: Any, blank: Pixels) -> Pixels:
+    """The pixels of a window as they came back. Raises WorkerLostError if they are none: a worker may be anyone's."""
+    shape = (window.height, window.width, *blank.shape[2:])
+    if not isinstance(pixels, np.ndarray) or pixels.dtype != blank.dtype or pixels.shape != shape:
+        raise WorkerLostError(
+            f"a worker sent no pixels of window {window.column}, {window.row}: {blank.dtype} of the shape {shape}, and "
+            f"not {type(pixels).__name__} {getattr(pixels, 'dtype', '')} {getattr(pixels, 'shape', '')}".rstrip()
+        )
+    return pixels
 
 
 class Sending:
@@ -182,16 +198,17 @@ class Sending:
             # Dask proposes to scatter large arguments. Scattered data dies with the worker that holds it.
             warnings.filterwarnings("ignore", "Large object", UserWarning)
             try:
-                return Sent(window, self._client.submit(window_pixels, part, pure=False), times)
+                future = self._client.submit(sent_pixels, part, VERSION, pure=False)
+                return Sent(window, future, times, part.sheet.blank(0, 0))
             except Exception as error:
                 raise self._lost(error) from error
 
     def _first(self) -> Drawn:
         """The first window that is under way, once it is drawn. It is sent again if it was lost with its worker."""
         while True:
-            window, future, times = self._under_way.popleft()
+            window, future, times, blank = self._under_way.popleft()
             try:
-                return Drawn(window, self._wait(future))
+                return Drawn(window, checked(window, self._wait(future), blank))
             except (self._distributed.scheduler.KilledWorker, MemoryError, OutOfMemoryError) as error:
                 if times == SENT:
                     raise WorkerLostError(
@@ -211,12 +228,16 @@ class Sending:
         while True:
             if is_done.wait(LOOK):
                 # What is done is drawn again if its worker dies before it has come back.
-                with contextlib.suppress(self._distributed.TimeoutError):
+                try:
                     result = future.result(timeout=COME_BACK)
                     self._without_window = self._without_workers = 0.0
                     if self._local is not None:
                         self._local.come_back()
                     return result
+                except self._distributed.TimeoutError:
+                    if future.status == "error":
+                        # The worker's own.
+                        raise
             self._look_after_workers()
 
     def _look_after_workers(self) -> None:

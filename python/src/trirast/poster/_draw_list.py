@@ -11,7 +11,7 @@ import numpy as np
 from numpy.typing import NDArray
 
 from .._draw import EVERY_SAMPLE
-from .._draw_list import image_info
+from .._draw_list import DrawList, as_bytes, image_info
 from .._errors import DrawListError, adding
 from .._vertices import VERTEX, records_of
 from ._list_keys import fault_of
@@ -34,12 +34,13 @@ SCISSOR = re.compile(rb'("scissor"[ \t\r\n]*:[ \t\r\n]*\[)([-+0-9.eE, \t\r\n]*)'
 NUMBER = re.compile(rb"(?<![-+0-9.eE])[1-9][0-9]*(?![0-9.eE])")
 
 
-def scene_of_list(data: bytes, source: Optional[str] = None) -> Scene:
-    """The scene of a draw list, which is a JSON text, read from the file `source`.
+def scene_of_list(data: DrawList, source: Optional[str] = None) -> Scene:
+    """The scene of a draw list, in any form that `trirast.draw` takes, as its JSON text. `source` is the file that it
+    was read from.
 
     Raises trirast.Error as the library does for the same list with sides of at most 4096.
     """
-    value = checked(data)
+    value = checked(as_bytes(data))
     draws, vertices, triangles = [], [np.zeros(0, VERTEX)], [np.zeros((0, 3), np.int32)]
     base = 0
     for draw in value["draws"]:

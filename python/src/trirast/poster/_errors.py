@@ -41,7 +41,7 @@ class SchedulerLostError(PosterError):
 
 
 class EngineMissingError(PosterError, ImportError):
-    """Dask is asked for and is not installed."""
+    """Dask or tifffile is asked for and is not installed, or a worker has another release of this package."""
 
 
 class ResumeError(PosterError, ValueError):

@@ -9,6 +9,7 @@ from __future__ import annotations
 
 import json
 from contextlib import contextmanager
+from itertools import chain
 from typing import Any, Iterator, Mapping, NamedTuple, Optional, Sequence
 
 import numpy as np
@@ -39,6 +40,8 @@ LEVELS = {
     "Polygon": "a Polygon has rings of positions", "MultiPolygon": "a MultiPolygon has polygons of rings of positions"
 }
 OF_RING = 2
+# The types of JSON's numbers.
+NUMBERS = {int, float}
 
 
 class Feature(NamedTuple):
@@ -102,13 +105,18 @@ def of_file(style: Optional[str]) -> Iterator[None]:
 def read_json(path: str) -> Any:
     with open(path, "rb") as file:
         try:
-            return json.load(file)
+            return json.load(file, object_hook=interruptible)
         except (ValueError, RecursionError) as error:
             several = (
                 "; of several texts, as one feature a line, make one FeatureCollection"
                 * str(error).startswith("Extra data")
             )
             raise MapError(f"{path}: no JSON text: {error}{several}") from error
+
+
+def interruptible(found: Any) -> Any:
+    """An object of JSON as it is. While Python calls this, it notices an interrupt."""
+    return found
 
 
 # ---- GeoJSON
@@ -175,12 +183,8 @@ def array_of(value: Any, where: str) -> Sequence[Any]:
 def ring_of(ring: Any, where: str, levels: str) -> Places:
     """The positions of a ring, without their heights, which some may have and others not. The last one may be the first
     one again. `levels` says what the geometry has, for who has lost a bracket."""
-    try:
-        found = np.array([place[:2] for place in ring])
-    except (TypeError, ValueError):
-        found = np.zeros(0)
-    count = len(ring) if isinstance(ring, list) else 0
-    if ring != [] and (found.shape != (count, 2) or found.dtype.kind not in "iuf"):
+    found = numbers_of(ring)
+    if found is None:
         depth = depth_of(ring)
         level = "one level of brackets is missing" if depth < OF_RING else "there is one level of brackets too many"
         odd = odd_in(ring) if depth == OF_RING else ring
@@ -190,17 +194,26 @@ def ring_of(ring: Any, where: str, levels: str) -> Places:
         )
     if not has_different(ring, FEWEST):
         raise MapError(f"{where}: {FEWEST} different positions or more, and not {shown(ring)}")
-    return found.astype(np.float64)
+    return found.reshape(-1, 2)
+
+
+def numbers_of(ring: Any) -> Optional[Places]:
+    """The first two numbers of each position of a ring, or `None` if it has something else."""
+    if type(ring) is not list or not set(map(type, ring)) <= {list}:
+        return None
+    places = [place[:2] for place in ring]
+    # true and false are numbers to Python, and numpy would take a text for one.
+    if not set(map(len, places)) <= {2} or not set(map(type, chain.from_iterable(places))) <= NUMBERS:
+        return None
+    try:
+        return np.fromiter(chain.from_iterable(places), np.float64, 2 * len(places))
+    except OverflowError:
+        return None
 
 
 def odd_in(ring: Sequence[Any]) -> Any:
     """The first of a ring that is no position, or the ring if all are."""
-    return next((place for place in ring if not is_position(place)), ring)
-
-
-def is_position(place: Any) -> bool:
-    numbers = place[:2] if isinstance(place, list) else ()
-    return len(numbers) == 2 and all(isinstance(number, (int, float)) for number in numbers)
+    return next((place for place in ring if numbers_of([place]) is None), ring)
 
 
 def depth_of(value: Any) -> int:

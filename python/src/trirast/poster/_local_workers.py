@@ -9,10 +9,13 @@ waits for a worker: the scheduler says which are there.
 from __future__ import annotations
 
 import os
+import shutil
 import subprocess
 import sys
+import tempfile
 import time
-from typing import List
+from contextlib import contextmanager
+from typing import Iterator, List
 
 # Seconds for which a worker looks for its scheduler, and seconds that workers have to end by themselves.
 LOOKS, ENDS = 60, 5
@@ -28,15 +31,16 @@ PLACE = ("--host", "127.0.0.1", "--death-timeout", str(LOOKS))
 class LocalWorkers:
     """Some processes. `renew` starts them, and starts one in place of each that has ended."""
 
-    def __init__(self, count: int) -> None:
-        self._count = count
+    def __init__(self, count: int, folder: str) -> None:
+        """They put what they need into a folder."""
+        self._count, self._folder = count, folder
         self._running: List[subprocess.Popen[bytes]] = []
         # How many ended since the last window came back, and why the last one did, or could not be started.
         self._ended, self._why = 0, ""
 
     def renew(self, scheduler: str) -> None:
-        """Has as many processes as are wanted, for the scheduler at this address. One that cannot be started is left
-        for the next time."""
+        """Has as many processes as are wanted, for the scheduler at this address. One that cannot be started counts as
+        one that ended, and is left for the next time."""
         ended = [each.returncode for each in self._running if each.poll() is not None]
         self._running = [each for each in self._running if each.returncode is None]
         if ended:
@@ -44,8 +48,10 @@ class LocalWorkers:
             self._why = f"status {ended[-1]}"
         try:
             while len(self._running) < self._count:
-                self._running.append(started([sys.executable, *WORDS, *PLACE, scheduler]))
+                folder = ["--local-directory", self._folder]
+                self._running.append(started([sys.executable, *WORDS, *PLACE, *folder, scheduler]))
         except OSError as error:
+            self._ended += 1
             self._why = str(error)
 
     def come_back(self) -> None:
@@ -72,6 +78,19 @@ class LocalWorkers:
             for each in self._running:
                 each.kill()
                 each.wait()
+
+
+@contextmanager
+def local_workers(count: int) -> Iterator[LocalWorkers]:
+    """Processes that end with what is within, and a folder of theirs alone: Dask's own are where others may put
+    something."""
+    folder = tempfile.mkdtemp(prefix="trirast-")
+    workers = LocalWorkers(count, folder)
+    try:
+        yield workers
+    finally:
+        workers.close()
+        shutil.rmtree(folder, ignore_errors=True)
 
 
 def started(command: List[str]) -> subprocess.Popen[bytes]:

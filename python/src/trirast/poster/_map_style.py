@@ -4,6 +4,7 @@ from __future__ import annotations
 
 import json
 import math
+import re
 from typing import Any, Iterator, Mapping, NamedTuple, Optional, Sequence
 
 import numpy as np
@@ -28,6 +29,7 @@ KEYS = ("projection", "window", "width", "samples", "background", "color", "prop
 TYPES = {
     str: "string", int: "number", float: "number", bool: "boolean", type(None): "null", list: "array", dict: "object"
 }
+HEX_COLOR = re.compile("#[0-9A-Fa-f]{6}(?:[0-9A-Fa-f]{2})?")
 # How many of a property's values an error lists.
 FEW = 4
 
@@ -100,7 +102,7 @@ def style_of(value: Any) -> Style:
         if key not in KEYS:
             raise MapError(f"style: some of the keys {', '.join(KEYS)}, and not {shown(key)}")
     projection = value.get("projection", "plate carree")
-    if projection not in WORLD:
+    if not isinstance(projection, str) or projection not in WORLD:
         raise MapError(
             f"style: projection: {', '.join(WORLD)}, and not {shown(projection)}; a file that is projected "
             f"already, as in metres, is a {PLANE}"
@@ -181,11 +183,8 @@ def sheet_of(value: Mapping[str, Any], projection: str, window: tuple[float, flo
 
 def color_of(name: str, given: Any) -> Color:
     """A colour of 3 or 4 numbers, or a text as #rrggbb or #rrggbbaa."""
-    if isinstance(given, str) and given[:1] == "#" and len(given) in (7, 9):
-        try:
-            return list(bytes.fromhex(given[1:]))
-        except ValueError:
-            pass
+    if isinstance(given, str) and HEX_COLOR.fullmatch(given):
+        return list(bytes.fromhex(given[1:]))
     is_list = isinstance(given, list) and len(given) in (3, 4)
     if is_list and all(type(each) is int and 0 <= each <= 255 for each in given):
         return tuple(given)
@@ -207,7 +206,11 @@ def mercator(latitude: Any) -> Any:
 
 
 def is_number(value: Any) -> bool:
-    return isinstance(value, (int, float)) and not isinstance(value, bool) and math.isfinite(value)
+    """Whether a value is a number that a float can have."""
+    try:
+        return isinstance(value, (int, float)) and not isinstance(value, bool) and math.isfinite(value)
+    except OverflowError:
+        return False
 
 
 def name_of(value: Any) -> str:

@@ -6,11 +6,12 @@ Each begins with a mark, by which a later run knows it for one of a poster, and 
 from __future__ import annotations
 
 import fcntl
+import io
 import os
-import stat
-from typing import IO, Sequence
+from typing import IO, Sequence, cast
 
 from ._errors import BusyError, OutputError
+from ._files import NamedFile, open_regular
 
 
 class OwnFile:
@@ -20,7 +21,8 @@ class OwnFile:
     def __init__(self, path: str, marks: Sequence[bytes]) -> None:
         """A file that is not empty has to begin with one of the marks."""
         self.path = path
-        self.file: IO[bytes] = os.fdopen(open_alone(path, os.O_RDWR | os.O_CREAT), "r+b")
+        raw = NamedFile(path, lambda path, _: open_alone(path, os.O_RDWR | os.O_CREAT))
+        self.file = cast(IO[bytes], io.BufferedRandom(raw))
         self._is_kept = False
         self.head = self.file.read(max(map(len, marks)))
         if not (self.head == b"" or any(self.head.startswith(mark) for mark in marks)):
@@ -32,6 +34,11 @@ class OwnFile:
         """Says that something is written to it, so that `close` leaves it."""
         self._is_kept = True
 
+    def rename(self, path: str) -> None:
+        """Gives it another name. Raises OutputError if something else was put under its own."""
+        self._check_place()
+        os.replace(self.path, path)
+
     def close(self) -> None:
         """Closes it. A file that was made and not written to is removed."""
         try:
@@ -41,22 +48,24 @@ class OwnFile:
             self.file.close()
 
     def remove(self) -> None:
-        """Removes it, and then closes it."""
+        """Removes it, and then closes it. Raises OutputError if something else was put under its name, which stays."""
         self._is_kept = True
         try:
+            self._check_place()
             os.remove(self.path)
         finally:
             self.file.close()
 
+    def _check_place(self) -> None:
+        check_place(self.file.fileno(), self.path)
+
 
 def open_alone(path: str, flags: int) -> int:
-    """Opens a regular file or a folder, and locks it. Raises BusyError if another run has locked it."""
+    """Opens a regular file, or with O_DIRECTORY a folder, and locks it. Raises BusyError if another run has
+    locked it."""
     while True:
-        opened = os.open(path, flags | os.O_NOFOLLOW | os.O_NONBLOCK | os.O_CLOEXEC, 0o666)
+        opened = open_regular(path, flags)
         try:
-            mode = os.fstat(opened).st_mode
-            if not (stat.S_ISREG(mode) or stat.S_ISDIR(mode)):
-                raise OutputError(f"{path}: is there and is no regular file")
             lock(opened, path)
             # The run that had it may have ended since, and have removed or renamed it.
             if is_at(opened, path):
@@ -80,3 +89,9 @@ def is_at(opened: int, path: str) -> bool:
         return os.path.samestat(os.fstat(opened), os.lstat(path))
     except FileNotFoundError:
         return False
+
+
+def check_place(opened: int, path: str) -> None:
+    """Raises OutputError unless an open file of a run is still the one under its name."""
+    if not is_at(opened, path):
+        raise OutputError(f"{path}: was replaced or removed while the poster was drawn")

@@ -94,9 +94,9 @@ def members_of(scene: Scene, chosen: Indices) -> Members:
     """The triangles and the polygons among what is chosen."""
     if not scene.polygons.count:
         return Members(chosen, chosen[:0], np.zeros(len(chosen) + 1, np.int64))
-    run = np.array([each.end for each in scene.runs]).searchsorted(chosen, "right")
-    numbers = chosen + np.array([each.number - each.first for each in scene.runs])[run]
-    is_polygon = np.array([each.is_polygons for each in scene.runs])[run]
+    ends, shifts, are_polygons = scene.run_table
+    run = ends.searchsorted(chosen, "right")
+    numbers, is_polygon = chosen + shifts[run], are_polygons[run]
     before = np.concatenate((np.zeros(1, np.int64), np.cumsum(is_polygon)))
     return Members(numbers[~is_polygon], numbers[is_polygon], before)
 
@@ -151,13 +151,12 @@ def draws_of(
     """The draws that have what is chosen from `begin` to before `end`, which is ascending from `first` to `last`."""
     draws: list[PartDraw] = []
     while True:
-        number = bisect_right(scene.ends, first)
-        behind, draw = scene.ends[number], scene.draws[number]
+        behind, state, is_polygons = scene.stretches[bisect_right(scene.ends, first)]
         is_last = last < behind
         middle = end if is_last else begin + int(chosen[begin:end].searchsorted(np.int32(behind)))
         before = int(polygons_before[begin])
-        of_kind = before if draw.polygons else begin - before
-        draws.append(PartDraw(of_kind, of_kind + middle - begin, draw.state, draw.polygons > 0))
+        of_kind = before if is_polygons else begin - before
+        draws.append(PartDraw(of_kind, of_kind + middle - begin, state, is_polygons))
         if is_last:
             return draws
         begin, first = middle, int(chosen[middle])

@@ -2,7 +2,6 @@
 
 from __future__ import annotations
 
-import os
 from typing import Optional
 
 from .._png import SIGNATURE
@@ -42,7 +41,7 @@ class PartFile:
         self.file.truncate(size)
         self._write_start(self._header if header is None else header)
         check_file(self._path)
-        os.replace(self._path + PART, self._path)
+        self._own.rename(self._path)
         self.file.close()
 
     def close(self) -> None:

@@ -20,6 +20,8 @@ from ._scene import Pixels, Sheet
 ZLIB_HEADER = b"\x78\x9c"
 SUB = 1
 LEVEL = 6
+# What a flush ends in (RFC 1951, 3.2.4): the length of a stored block of no bytes.
+FLUSHED = b"\0\0\xff\xff"
 # The greatest prime below 65,536, of which Adler-32 takes its sums.
 ADLER_BASE = 65521
 
@@ -42,7 +44,9 @@ def filtered(pixels: Pixels) -> NDArray[np.uint8]:
 
 
 def unfiltered(rows: NDArray[np.uint8], sheet: Sheet) -> Pixels:
-    """Pixels from rows as they are deflated."""
+    """Pixels from rows as they are deflated. Raises ValueError if one has another filter."""
+    if (rows[:, 0] != SUB).any():
+        raise ValueError("another filter")
     step = sheet.pixel_bytes
     pixels = sheet.blank(len(rows), (rows.shape[1] - 1) // step)
     sums = rows[:, 1:].reshape(len(rows), -1, step).cumsum(1, dtype=np.uint8)
@@ -60,13 +64,14 @@ def png_of(pixels: Pixels, sheet: Sheet) -> bytes:
     return head_of(pixels.shape[1], pixels.shape[0], sheet.pixel_bytes) + chunk(b"IDAT", data) + chunk(b"IEND", b"")
 
 
-def pixels_of(file: bytes, sheet: Sheet) -> Pixels:
-    """The pixels of a file that `png_of` made. Raises ValueError or an error of zlib or struct at any other."""
-    width, height = struct.unpack(">II", file[16:24])
-    (length,) = struct.unpack(">I", file[33:37])
-    if head_of(width, height, sheet.pixel_bytes) != file[:33] or file[37:41] != b"IDAT":
+def pixels_of(file: bytes, sheet: Sheet, height: int, width: int) -> Pixels:
+    """The pixels of a file of this size that `png_of` made. Raises ValueError or an error of zlib or struct at any
+    other, also one with these pixels that is damaged elsewhere."""
+    head, end = head_of(width, height, sheet.pixel_bytes), chunk(b"IEND", b"")
+    data = file[len(head) + 8 : -len(end) - 4]
+    if file != head + chunk(b"IDAT", data) + end:
         raise ValueError("no PNG file of a tile")
-    rows = np.frombuffer(zlib.decompress(file[41 : 41 + length]), np.uint8)
+    rows = inflated(data, height * (1 + sheet.pixel_bytes * width), zlib.MAX_WBITS)
     return unfiltered(rows.reshape(height, -1), sheet)
 
 
@@ -91,12 +96,20 @@ def deflated(pixels: Pixels) -> tuple[bytes, int, int]:
     return data, zlib.adler32(rows.data), rows.nbytes
 
 
-def inflated(data: bytes, size: int) -> NDArray[np.uint8]:
-    """The rows of a piece. Raises zlib.error or ValueError if it is none of this size."""
-    rows = zlib.decompressobj(-zlib.MAX_WBITS).decompress(data)
-    if len(rows) != size:
+def inflated(data: bytes, size: int, window: int = -zlib.MAX_WBITS) -> NDArray[np.uint8]:
+    """The rows of a piece, or by the window of zlib those of a whole stream. Raises zlib.error or ValueError if it is
+    none of this size, of which it inflates no more."""
+    packing = zlib.decompressobj(window)
+    rows = packing.decompress(data, size + 1)
+    is_ended = packing.eof if window > 0 else data.endswith(FLUSHED) and not packing.eof
+    if len(rows) != size or not is_ended:
         raise ValueError("another number of bytes")
     return np.frombuffer(rows, np.uint8)
+
+
+def most_deflated(size: int) -> int:
+    """More bytes than deflate makes of as many."""
+    return size + (size >> 3) + 64
 
 
 def stream_end(adler: int) -> bytes:

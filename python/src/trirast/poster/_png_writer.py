@@ -10,7 +10,7 @@ import numpy as np
 
 from .._png import chunk, head_of
 from ._part_file import PartFile
-from ._png import ZLIB_HEADER, adler_of_both, deflated, inflated, stream_end, unfiltered
+from ._png import ZLIB_HEADER, adler_of_both, deflated, inflated, most_deflated, stream_end, unfiltered
 from ._pool import Pool
 from ._scene import Pixels, Sheet
 
@@ -18,7 +18,6 @@ from ._scene import Pixels, Sheet
 PIECE = 64
 # Length, type and CRC of a chunk.
 AROUND = 12
-LONGEST = 1 << 31
 
 
 class PngWriter:
@@ -55,16 +54,17 @@ class PngWriter:
         if len(head) < 8 or head[4:] != b"IDAT":
             return None
         length = struct.unpack(">I", head[:4])[0]
-        data = self._file.read(min(length, LONGEST))
+        data = self._file.read(min(length, most_deflated(size)))
         if chunk(b"IDAT", data) != head + data + self._file.read(4):
             return None
         try:
             rows = inflated(data, size)
+            pixels = unfiltered(rows.reshape(height, -1), self._sheet)
         except (zlib.error, ValueError):
             return None
         self._read_adler = adler_of_both(self._read_adler, zlib.adler32(rows.data), size)
         self._read_end += AROUND + length
-        return unfiltered(rows.reshape(height, -1), self._sheet)
+        return pixels
 
     def keep(self, rows: Pixels) -> None:
         self._adler, self._end = self._read_adler, self._read_end

@@ -171,7 +171,7 @@ def own_polygons(given: Any, copy: bool = True) -> Polygons:
     )
     colors = color_rows(array_of("colors", given.colors, NONE.colors), len(polygon_ends))
     found = Polygons(
-        own_numbers("corners", corners, (LOW, HIGH), NONE.corners, copy),
+        own_corners(corners, copy),
         own_numbers("ring_ends", ring_ends, (0, MOST), NONE.ring_ends, copy),
         own_numbers("polygon_ends", polygon_ends, (0, MOST), NONE.polygon_ends, copy),
         own_numbers("colors", colors, (0, 255), NONE.colors, copy),
@@ -182,6 +182,11 @@ def own_polygons(given: Any, copy: bool = True) -> Polygons:
     if len(found.colors) != found.count:
         raise ArraysError(f"colors: {found.count} rows, one for each polygon, and not {len(found.colors)}{zero}")
     return checked(found)
+
+
+def own_corners(array: Any, copy: bool = False) -> Numbers:
+    """Corners in the same way, by themselves."""
+    return own_numbers("corners", array, (LOW, HIGH), NONE.corners, copy)
 
 
 def checked(polygons: Polygons) -> Polygons:
@@ -221,6 +226,8 @@ def own_numbers(name: str, array: Any, limits: tuple[int, int], like: Numbers, c
         kind = f"{type(array).__name__} {getattr(array, 'dtype', '')}".strip()
         how = f"; {SNAP}" * (like is NONE.corners and kind.startswith("ndarray float"))
         raise ArraysError(f"{name}: an array or a list of integers{wide}, without a mask, and not {kind}{how}")
+    # Another class may say what it likes of its size.
+    array = np.asarray(array)
     if array.shape[1:] != like.shape[1:] or array.ndim != like.ndim:
         raise ArraysError(f"{name}: integers{wide}, and not the shape {array.shape}")
     least, most = limits

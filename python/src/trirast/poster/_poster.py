@@ -5,6 +5,7 @@ from __future__ import annotations
 import contextlib
 import operator
 import os
+import threading
 import zlib
 from concurrent.futures import Future
 from functools import partial
@@ -19,11 +20,11 @@ from ._index import Index
 from ._journal import Journal
 from ._part import part_of
 from ._places import Path, Places, places_of
-from ._png_writer import PngWriter
+from ._png_writer import PIECE, PngWriter
 from ._pool import Pool
 from ._ppm_writer import PpmWriter
 from ._progress import Step, progress
-from ._scene import Pixels, Scene, Sheet, with_samples
+from ._scene import Pixels, Scene, Sheet, digest_of, with_samples
 from ._strips import cut_to_windows
 from ._threads import rows_by_threads
 from ._tiff_writer import TIFF, TiffWriter
@@ -32,6 +33,8 @@ from ._windows import Windows
 from ._writers import Writer
 
 SIDE = 512
+# Rows of pixels that are written together: a multiple of a piece of a PNG file.
+TOGETHER = 16 * PIECE
 
 
 def draw_poster(
@@ -70,10 +73,10 @@ def draw_poster(
         raise ValueError(f"workers: at least 1, and not {count}")
     windows = Windows(scene.sheet, operator.index(window))
     with contextlib.ExitStack() as stack, thread_errors():
-        summing = stack.enter_context(Pool(1)).submit(scene.checksum, count)
-        scene = cut_to_windows(scene, windows, count)
+        digests = stack.enter_context(Pool(count)).map(digest_of, scene.parts())
+        given, scene = scene, cut_to_windows(scene, windows, count)
         index = Index.of(scene, windows, count)
-        checksum = summing.result()
+        checksum = given.checksum_of(digests)
         journal = Journal(places.journal)
         stack.callback(journal.close)
         writers = list(writers_of(scene.sheet, checksum, places, dots, journal.is_whole, resume, count, stack))
@@ -92,8 +95,10 @@ def draw_poster(
         if scheduler is None:
             rows = rows_by_threads(scene, index, windows, first, count, step)
         else:
+            # No more processes than windows.
+            most = min(count, (windows.rows - first) * windows.columns)
             rows = rows_of(
-                draw_by_dask(windows.from_row(first), partial(part_of, scene, index), count, scheduler), windows,
+                draw_by_dask(windows.from_row(first), partial(part_of, scene, index), most, scheduler), windows,
                 scene.sheet, step,
             )
         stack.callback(rows.close)  # type: ignore[attr-defined]
@@ -175,17 +180,26 @@ def rows_of(drawn: Iterable[Drawn], windows: Windows, sheet: Sheet, step: Step) 
 
 
 def write_rows(rows: Iterable[Pixels], journal: Journal, writers: List[Writer]) -> None:
-    """Writes rows by a thread of its own, while the next row is drawn."""
+    """Writes rows by a thread of its own, while the next row is drawn. After an error or an interrupt the rest of a row
+    is left out."""
+    is_stopped = threading.Event()
+
     def write(row: Pixels) -> None:
-        for writer in writers:
-            writer.write(row)
+        for first in range(0, len(row), TOGETHER):
+            for writer in writers:
+                if is_stopped.is_set():
+                    return
+                writer.write(row[first : first + TOGETHER])
         journal.kept(checksum_of(row))
 
     with Pool(1) as pool:
         last: Optional[Future[None]] = None
-        for row in rows:
+        try:
+            for row in rows:
+                if last:
+                    last.result()
+                last = pool.submit(write, row)
             if last:
                 last.result()
-            last = pool.submit(write, row)
-        if last:
-            last.result()
+        finally:
+            is_stopped.set()

@@ -7,12 +7,13 @@ import json
 import operator
 from dataclasses import InitVar, dataclass, field, replace
 from functools import cached_property
-from itertools import accumulate
-from typing import TYPE_CHECKING, Any, Mapping, NamedTuple, Optional, Sequence
+from itertools import accumulate, groupby
+from typing import TYPE_CHECKING, Any, Iterable, Mapping, NamedTuple, Optional, Sequence
 
 import numpy as np
 from numpy.typing import NDArray
 
+from .._arguments import integer as exact
 from .._patterns import COUNTS
 from .._patterns import SAMPLES as SAMPLES
 from .._polygons import RULES
@@ -41,6 +42,8 @@ CONTENTS = ("vertices", "triangles", "strip", "quads")
 # How many rows of an array are looked at together, so that a mapped array is never whole in memory.
 CHUNK = 1 << 20
 
+# What is written of a state: the same text for equal ones.
+text_of = json.JSONEncoder(sort_keys=True).encode
 # Arrays of no vertices and no triangles.
 NO_TRIANGLES = np.zeros(0, VERTEX), np.zeros((0, 3), np.int32)
 
@@ -136,7 +139,7 @@ class PosterDraw:
             )
         try:
             # A copy of its own, which nobody else changes.
-            object.__setattr__(self, "state", json.loads(json.dumps(dict(self.state))))
+            object.__setattr__(self, "state", json.loads(text_of(dict(self.state))))
         except (TypeError, ValueError, RecursionError) as error:
             raise ArraysError(f"state: values of a draw list, and not {self.state!r}: {error}") from error
 
@@ -184,34 +187,70 @@ class Scene:
         check_states(self.draws)
 
     @cached_property
+    def stretches(self) -> list[Stretch]:
+        """What is drawn one after another in one state, by one draw or by several."""
+        found: list[Stretch] = []
+        states: dict[str, Mapping[str, Any]] = {}
+        for draw, end in zip(self.draws, accumulate(draw.count for draw in self.draws)):
+            if not draw.count:
+                continue
+            state, is_polygons = states.setdefault(text_of(draw.state), draw.state), draw.polygons > 0
+            if found and found[-1].state is state and found[-1].is_polygons == is_polygons:
+                found.pop()
+            found.append(Stretch(end, state, is_polygons))
+        return found
+
+    @cached_property
     def ends(self) -> list[int]:
-        """Of each draw the index at which what it draws ends, triangles and polygons counted together."""
-        return list(accumulate(draw.count for draw in self.draws))
+        """Of each stretch the index at which it ends, triangles and polygons counted together."""
+        return [stretch.end for stretch in self.stretches]
 
     @cached_property
     def runs(self) -> list[Run]:
-        """Triangles or polygons that are drawn one after another, by draws or by several."""
+        """Triangles or polygons that are drawn one after another, in one state or in several."""
         found: list[Run] = []
-        counts = {False: 0, True: 0}
-        for draw, end in zip(self.draws, self.ends):
-            is_polygons = draw.polygons > 0
-            if draw.count and found and found[-1].is_polygons == is_polygons:
-                found[-1] = found[-1]._replace(end=end)
-            elif draw.count:
-                found.append(Run(end - draw.count, end, counts[is_polygons], is_polygons))
-            counts[is_polygons] += draw.count
+        counts, first = {False: 0, True: 0}, 0
+        for is_polygons, stretches in groupby(self.stretches, lambda stretch: stretch.is_polygons):
+            *_, (end, _, _) = stretches
+            found.append(Run(first, end, counts[is_polygons], is_polygons))
+            counts[is_polygons] += end - first
+            first = end
         return found
+
+    @cached_property
+    def run_table(self) -> tuple[NDArray[np.int64], NDArray[np.int64], NDArray[np.bool_]]:
+        """Of each run where it ends, what is added to an index in it for that of a triangle or a polygon, and which it
+        has."""
+        ends = np.array([run.end for run in self.runs], np.int64)
+        shifts = np.array([run.number - run.first for run in self.runs], np.int64)
+        return ends, shifts, np.array([run.is_polygons for run in self.runs], np.bool_)
 
     def checksum(self, threads: int = 1) -> str:
         """A checksum (BLAKE2b) of all that is drawn: of the state and the checksums of parts of the arrays."""
+        with Pool(threads) as pool:
+            return self.checksum_of(pool.map(digest_of, self.parts()))
+
+    def parts(self) -> list[NDArray[Any]]:
+        """The parts of the arrays of which there are checksums."""
+        arrays = self.vertices, self.triangles, *self.polygons.arrays
+        return [array[first : first + CHUNK] for array in arrays for first in range(0, len(array), CHUNK)]
+
+    def checksum_of(self, digests: Iterable[bytes]) -> str:
+        """The checksum, of those of the parts."""
         head = [self.sheet.__dict__, [[draw.triangles, draw.polygons, dict(draw.state)] for draw in self.draws]]
         found = hashlib.blake2b(json.dumps(head, sort_keys=True, default=list).encode(), digest_size=16)
-        arrays = self.vertices, self.triangles, *self.polygons.arrays
-        parts = [array[first : first + CHUNK] for array in arrays for first in range(0, len(array), CHUNK)]
-        with Pool(threads) as pool:
-            for each in pool.map(digest_of, parts):
-                found.update(each)
+        for each in digests:
+            found.update(each)
         return found.hexdigest()
+
+
+class Stretch(NamedTuple):
+    """Triangles or polygons that end before the index `end`, and are drawn in one state. Equal states are one
+    object."""
+
+    end: int
+    state: Mapping[str, Any]
+    is_polygons: bool
 
 
 class Run(NamedTuple):
@@ -231,7 +270,8 @@ def owned(scene: Scene) -> Scene:
 
 def with_samples(scene: Scene, samples: int) -> Scene:
     """A scene with another number of samples a pixel. A draw whose sample mask has every sample still has every one,
-    and another mask stays as it is. Raises ValueError if no pixel has as many samples."""
+    and another mask stays as it is. Raises ValueError if no pixel has as many samples, and TypeError at no integer."""
+    samples = exact("samples", samples)
     if samples not in SAMPLES:
         raise ValueError(f"samples: {COUNTS}, and not {samples}")
     if samples == scene.sheet.samples:
@@ -257,9 +297,9 @@ def digest_of(array: NDArray[Any]) -> bytes:
 def own_vertices(array: Any, copy: bool) -> Vertices:
     """Records one after another, which cannot be written to. They are the array itself only if it has such records and
     `copy` is false. Raises ArraysError if it has neither records nor rows of seven integers that fit."""
-    check_array("vertices", array)
+    array = exact_array("vertices", array)
     if array.dtype.names and is_own_layout(np, array):
-        found: Vertices = np.array(array, order="C") if copy else array.view()
+        found: Vertices = (np.array(array, order="C") if copy else array).view(VERTEX)
     elif array.ndim == 2 and array.shape[1] != len(VERTEX) - 1:
         raise ArraysError(f"vertices: rows of 7 integers, and not {array.dtype} of the shape {array.shape}")
     else:
@@ -274,7 +314,7 @@ def own_vertices(array: Any, copy: bool) -> Vertices:
 def own_triangles(array: Any, copy: bool) -> Triangles:
     """Rows of the machine's 32-bit integers, in the same way. Raises ArraysError if it has no such integers in rows of
     three."""
-    check_array("triangles", array)
+    array = exact_array("triangles", array)
     if array.ndim != 2 or array.shape[1] != 3 or array.dtype.kind not in "iu":
         raise ArraysError(f"triangles: rows of 3 integers, and not {array.dtype} of the shape {array.shape}")
     if array.dtype == np.int32 and array.dtype.isnative:
@@ -310,14 +350,16 @@ def check_states(draws: Sequence[PosterDraw]) -> None:
     # The format of lists stands on scenes.
     from ._draw_list import check_states as check_list
 
-    states = {json.dumps(draw.state, sort_keys=True): draw.state for draw in draws}
+    states = {text_of(draw.state): draw.state for draw in draws}
     check_list({"width": 1, "height": 1, "draws": list(states.values())})
 
 
-def check_array(name: str, array: Any) -> None:
-    """Raises ArraysError if something is no array."""
+def exact_array(name: str, array: Any) -> NDArray[Any]:
+    """An array of numpy's own class, since another class may say what it likes of its size. Raises ArraysError if it is
+    none."""
     if not isinstance(array, np.ndarray) or isinstance(array, np.ma.MaskedArray):
         raise ArraysError(f"{name}: an array of numpy, without a mask, and not {type(array).__name__}")
+    return np.asarray(array)
 
 
 def check_range(name: str, numbers: NDArray[Any], least: int, most: int) -> None:
@@ -340,6 +382,6 @@ def three(name: str, values: Any) -> tuple[Any, Any, Any]:
     """Three values. Raises ArraysError if there are not three."""
     try:
         first, second, third = values
-    except (TypeError, ValueError):
+    except (TypeError, ValueError, NotImplementedError):
         raise ArraysError(f"{name}: three integers, and not {values!r}") from None
     return first, second, third

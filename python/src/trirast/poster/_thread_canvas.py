@@ -8,17 +8,21 @@ Python's lock is held.
 from __future__ import annotations
 
 import ctypes
+import json
 import threading
+from functools import lru_cache
 from typing import Any, Dict, Mapping, Tuple
 
 import numpy as np
+from numpy.typing import NDArray
 
 from .._canvas import FORMATS, aligned
 from .._draw import INDEX_BYTES, Draw
 from .._ffi import CBatch, CCanvas, CClear, CDraw, CError, CPolygons, library
 from .._polygons import RULES, scratch_of
-from ._polygons import Polygons
-from ._scene import Pixels, Sheet, Triangles, Vertices
+from ._errors import ArraysError
+from ._polygons import NONE, Polygons
+from ._scene import NO_TRIANGLES, Pixels, Sheet, Triangles, Vertices, text_of
 from ._windows import Area
 
 OWN = threading.local()
@@ -28,6 +32,9 @@ QUICK = ctypes.PyDLL
 FEW_BYTES, FEW = 2 * 4096 * 4 * 5, 16
 # How many states of draws a canvas keeps.
 STATES = 1024
+# Keys of a state that each draw may have otherwise: the scissor, and of polygons the rule.
+SCISSOR = "scissor"
+OWN_KEYS = (SCISSOR, "rule")
 TRIANGLE_BYTES = 3 * INDEX_BYTES
 FORMAT, PIXEL_BYTES = FORMATS["rgb"]
 
@@ -36,9 +43,21 @@ class Arrays:
     """The addresses of arrays, which live as long as this does: contiguous and aligned, as the library reads them."""
 
     def __init__(self, vertices: Vertices, triangles: Triangles) -> None:
-        self._kept = [np.require(array, None, ("C", "A")) for array in (vertices, triangles)]
+        self._kept = [as_read(array, like) for array, like in zip((vertices, triangles), NO_TRIANGLES)]
         self.vertices, self.indices = (array.ctypes.data for array in self._kept)
-        self.vertex_count = len(vertices)
+        self.vertex_count, self.triangle_count = map(len, self._kept)
+
+
+def as_read(array: NDArray[Any], like: NDArray[Any]) -> NDArray[Any]:
+    """An array as the library reads it: contiguous, aligned, and a view of its own, whose shape nobody else changes.
+    Raises ArraysError if somebody has given it another type or shape than this one's, in place."""
+    found = np.require(np.ndarray.view(array, np.ndarray), None, ("C", "A"))
+    if found.dtype != like.dtype or found.ndim != like.ndim or found.shape[1:] != like.shape[1:]:
+        raise ArraysError(
+            f"an array of a scene: {like.dtype} in rows of the shape {like.shape[1:]}, and not {found.dtype} "
+            f"of the shape {found.shape}"
+        )
+    return found
 
 
 class Target:
@@ -105,8 +124,10 @@ class ThreadCanvas:
         calls.trirast_canvas_clear(self._canvas, self._clear)
 
     def draw(self, first: int, triangles: int, state: Mapping[str, Any]) -> None:
-        """Draws as many triangles from the triangle `first` of the arrays on. Raises BatchError, and then nothing was
-        drawn."""
+        """Draws as many triangles from the triangle `first` of the arrays on. Raises BatchError, and ArraysError if
+        there are not as many; then nothing was drawn."""
+        if not 0 <= first <= first + triangles <= self._arrays.triangle_count:
+            raise ArraysError(f"a draw: {self._arrays.triangle_count} triangles, and not {first} and {triangles} more")
         _, draw, address = self._states.get(id(state)) or self._keep(state)
         batch, arrays = self._batch, self._arrays
         draw.vertex_count, draw.index_count = arrays.vertex_count, 3 * triangles
@@ -119,7 +140,7 @@ class ThreadCanvas:
         nothing was drawn."""
         _, draw, _ = self._states.get(id(state)) or self._keep(state)
         rule = RULES.index(state.get("rule", RULES[0]))
-        arrays = [np.ascontiguousarray(array) for array in polygons.arrays]
+        arrays = [as_read(array, like) for array, like in zip(polygons.arrays, NONE.arrays)]
         corners, rings, ends, colors = [(array.ctypes.data, len(array)) for array in arrays]
         in_c, canvas, (x, y) = CPolygons(0, rule, *corners, *rings, *ends, *colors, state=draw), self._canvas, shift
         in_c.state.scissor_left, in_c.state.scissor_right = draw.scissor_left - x, draw.scissor_right - x
@@ -136,9 +157,7 @@ class ThreadCanvas:
         has its identity."""
         if len(self._states) == STATES:
             self._states.clear()
-        keywords = {key: value for key, value in state.items() if key not in ("write", "rule")}
-        keep = "".join(letter for letter, is_written in zip("rgb", state.get("write", ())) if not is_written)
-        draw = Draw(b"", b"", keep=keep, **keywords)._in_c(b"")
+        draw = draw_of(state)
         self._states[id(state)] = kept = state, draw, ctypes.addressof(draw)
         return kept
 
@@ -157,6 +176,24 @@ class ThreadCanvas:
             colors = np.empty((height, width, 3), np.uint8)
             calls.trirast_canvas_resolve(canvas, FORMAT, colors.ctypes.data, colors.size, colors.strides[0])
             target.put(area, colors)
+
+
+def draw_of(state: Mapping[str, Any]) -> CDraw:
+    """A draw in a state as the library takes it. Many draws have a scissor of their own, and else few states."""
+    of_all = {key: value for key, value in state.items() if key not in OWN_KEYS}
+    draw = CDraw.from_buffer_copy(draw_of_text(text_of(of_all)))
+    if SCISSOR in state:
+        draw.scissor_enable = 1
+        draw.scissor_left, draw.scissor_top, draw.scissor_right, draw.scissor_bottom = state[SCISSOR]
+    return draw
+
+
+@lru_cache(STATES)
+def draw_of_text(text: str) -> CDraw:
+    """A draw in a state that is written as JSON and has no scissor."""
+    state = json.loads(text)
+    keep = "".join(letter for letter, is_written in zip("rgb", state.pop("write", ())) if not is_written)
+    return Draw(b"", b"", keep=keep, **state)._in_c(b"")
 
 
 def own_canvas() -> ThreadCanvas:

@@ -7,6 +7,7 @@ seldom waits for the lock.
 
 from __future__ import annotations
 
+import threading
 from bisect import bisect_right
 from collections import deque
 from concurrent.futures import FIRST_EXCEPTION, Future, wait
@@ -43,16 +44,24 @@ def rows_by_threads(
         if first < windows.rows else []
     )
     under_way: Deque[Tuple[Pixels, List[Future[None]]]] = deque()
+    is_stopped = threading.Event()
+
+    def draw_span(span: Span, row: Pixels) -> None:
+        """Draws some windows into the pixels of their row."""
+        put_pixels(part_of(scene, index, span), row[:, span.area.left : span.area.right], is_stopped.is_set)
+        step(span)
+
     try:
         for row in range(first, windows.rows):
             pixels = memory[row % len(memory)][: windows.row_height(row)]
             spans = spans_of(index, windows, row, workers)
-            under_way.append((pixels, [pool.submit(draw_span, scene, index, span, pixels, step) for span in spans]))
+            under_way.append((pixels, [pool.submit(draw_span, span, pixels) for span in spans]))
             if len(under_way) == AHEAD:
                 yield whole(*under_way.popleft())
         while under_way:
             yield whole(*under_way.popleft())
     finally:
+        is_stopped.set()
         pool.shutdown(cancel_futures=True)
 
 
@@ -70,12 +79,6 @@ def spans_of(index: Index, windows: Windows, row: int, workers: int) -> Iterator
         end = max(first + 1, bisect_right(before, before[first] + most) - 1)
         yield windows.span(row, first, end)
         first = end
-
-
-def draw_span(scene: Scene, index: Index, span: Span, row: Pixels, step: Step) -> None:
-    """Draws some windows into the pixels of their row."""
-    put_pixels(part_of(scene, index, span), row[:, span.area.left : span.area.right])
-    step(span)
 
 
 def whole(pixels: Pixels, drawn: List[Future[None]]) -> Pixels:

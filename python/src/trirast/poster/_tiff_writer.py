@@ -3,7 +3,8 @@
 from __future__ import annotations
 
 from concurrent.futures import Future
-from queue import SimpleQueue
+from contextlib import suppress
+from queue import Empty, Full, Queue
 from typing import IO, Any, Iterator, Optional
 
 import numpy as np
@@ -18,6 +19,8 @@ TIFF = (".tif", ".tiff")
 SIDE = 256
 # Bytes of the header, which stand in the file when it is whole.
 HEADER = 16
+# Seconds between two looks whether the thread that writes has ended.
+LOOK = 0.1
 
 
 class Beginning:
@@ -49,8 +52,8 @@ class TiffWriter:
         self._module, self._sheet, self._dpi, self._threads = tifffile, sheet, dpi, threads
         self._part = PartFile(path, b"", is_whole)
         self._file = Beginning(self._part.file, path)
-        # The rows of a run, and `None` behind the last ones or where the run is stopped.
-        self._rows: SimpleQueue[Optional[Pixels]] = SimpleQueue()
+        # The next rows of a run, and `None` behind the last ones or where the run is stopped.
+        self._rows: Queue[Optional[Pixels]] = Queue(1)
         self._pool = Pool(1)
         self._writing: Optional[Future[None]] = None
 
@@ -66,19 +69,28 @@ class TiffWriter:
         raise AssertionError("no rows are read, so none are kept")
 
     def write(self, rows: Pixels) -> None:
+        self._put(rows.copy())
+
+    def _put(self, rows: Optional[Pixels]) -> None:
+        """Gives the writing thread the next rows, once it has taken the ones before. Raises its error if it has
+        ended."""
         assert self._writing is not None
-        if self._writing.done():
-            self._writing.result()
-        self._rows.put(rows.copy())
+        while True:
+            if self._writing.done():
+                self._writing.result()
+            with suppress(Full):
+                return self._rows.put(rows, timeout=LOOK)
 
     def finish(self) -> None:
         assert self._writing is not None
-        self._rows.put(None)
+        self._put(None)
         self._writing.result()
         self._file.seek(0, 2)
         self._part.finish(self._file.tell(), bytes(self._file.header))
 
     def close(self) -> None:
+        with suppress(Empty):
+            self._rows.get_nowait()
         self._rows.put(None)
         self._pool.shutdown()
         self._part.close()

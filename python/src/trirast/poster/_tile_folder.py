@@ -4,20 +4,23 @@ from __future__ import annotations
 
 import os
 import re
-import shutil
 import stat
+from contextlib import contextmanager, suppress
 from typing import Iterator, Optional
 
 from ._errors import OutputError
-from ._own_file import open_alone
+from ._files import naming, not_regular, open_regular, read_regular, write_new
+from ._own_file import check_place, open_alone
 from ._places import PART
 
 PAGE = "index.html"
-# The page until it is whole.
-NEW_PAGE = ".index.html"
 # Each page of tiles begins with this line. The rest of it has the checksum of the list.
 MARK = b'<!doctype html><!-- trirast.poster '
 TILE_NAME = re.compile(r"\d+/\d+/\d+\.png")
+# What a file is called in the folder itself until it is whole.
+NEW = re.compile(r"\.(?:index\.html|\d+-\d+-\d+\.png)")
+# More bytes than a page has.
+MAX_PAGE = 1 << 16
 
 
 class TileFolder:
@@ -30,10 +33,11 @@ class TileFolder:
         self._path, self._part = path, path + PART
         self._is_kept = self._make()
         self._opened = open_alone(self._part, os.O_RDONLY | os.O_DIRECTORY)
-        other = other_file(self._part)
-        if other is not None:
+        try:
+            self._check_files()
+        except BaseException:
             os.close(self._opened)
-            raise OutputError(f"{os.path.join(self._part, other)}: is there, and no poster left it")
+            raise
 
     def _make(self) -> bool:
         """Makes the folder. Returns whether it was there."""
@@ -45,22 +49,57 @@ class TileFolder:
             return True
         return False
 
+    def _check_files(self) -> None:
+        """Raises OutputError at what no run made there: tiles are a run's if the page beside them is."""
+        is_own = page_in(".", self._opened).startswith(MARK)
+        for name, mode in files_of(self._opened):
+            path = os.path.join(self._part, name)
+            if not (NEW.fullmatch(name) or is_own and (name == PAGE or TILE_NAME.fullmatch(name))):
+                raise OutputError(f"{path}: is there, and no poster left it")
+            if not stat.S_ISREG(mode):
+                raise not_regular(path)
+
     def begin(self, page: bytes, resume: bool) -> None:
         """Gives it its page. Tiles of another list, or of a run that is not resumed, are removed."""
         self._is_kept = True
-        if not resume or page_in(self._part) != page:
-            remove_tiles(self._part)
-            with open(os.path.join(self._part, NEW_PAGE), "wb") as file:
-                file.write(page)
-            os.replace(os.path.join(self._part, NEW_PAGE), os.path.join(self._part, PAGE))
+        is_other = not resume or page_in(".", self._opened) != page
+        with naming(self._part, always=True):
+            remove_files(self._opened, is_other)
+        if is_other:
+            self.write(PAGE, page)
 
-    def file(self, name: str) -> str:
-        """Where a tile lies."""
-        return os.path.join(self._part, name)
+    def read(self, name: str, most: int) -> bytes:
+        """The first bytes of a file, at most as many. Raises OSError if it is not there."""
+        with self._folder_of(name) as folder:
+            return read_regular(os.path.basename(name), most, folder)
+
+    def write(self, name: str, data: bytes) -> None:
+        """Writes a file under a new name, and gives it its own. What had that name is not written to."""
+        new = f".{name.replace('/', '-')}"
+        with naming(os.path.join(self._part, name), always=True):
+            write_new(new, data, self._opened)
+            with self._folder_of(name, make=True) as folder:
+                os.replace(new, os.path.basename(name), src_dir_fd=self._opened, dst_dir_fd=folder)
+
+    @contextmanager
+    def _folder_of(self, name: str, make: bool = False) -> Iterator[int]:
+        """The open folder of a file, which is reached through no link."""
+        opened = os.dup(self._opened)
+        try:
+            for part in name.split("/")[:-1]:
+                if make:
+                    with suppress(FileExistsError):
+                        os.mkdir(part, dir_fd=opened)
+                above, opened = opened, open_regular(part, os.O_RDONLY | os.O_DIRECTORY, opened)
+                os.close(above)
+            yield opened
+        finally:
+            os.close(opened)
 
     def finish(self) -> None:
         """Gives it its name."""
         check_new(self._path)
+        check_place(self._opened, self._part)
         os.rename(self._part, self._path)
 
     def close(self) -> None:
@@ -76,35 +115,32 @@ def check_new(path: str) -> None:
         raise OutputError(f"{path}: is there, and tiles go to a new folder")
 
 
-def page_in(folder: str) -> bytes:
+def page_in(path: str, folder: Optional[int] = None) -> bytes:
     """The page of a folder of tiles. Returns no bytes if it has none."""
     try:
-        with open(os.path.join(folder, PAGE), "rb") as file:
-            return file.read(1 << 16)
+        return read_regular(os.path.join(path, PAGE), MAX_PAGE, folder)
     except OSError:
         return b""
 
 
-def other_file(folder: str) -> Optional[str]:
-    """The name of a file in a folder that no run made there, or `None`. Tiles are a run's if the page
-    beside them is."""
-    names = {PAGE, NEW_PAGE} if page_in(folder).startswith(MARK) else {NEW_PAGE}
-    for name in files_of(folder):
-        if name not in names and not (PAGE in names and TILE_NAME.fullmatch(name)):
-            return name
-    return None
+def remove_files(folder: int, are_all: bool) -> None:
+    """Removes what is not whole of an open folder of tiles, or all files. The page, which is their mark, is the last
+    to go."""
+    for place, folders, names, opened in os.fwalk(".", topdown=False, dir_fd=folder, follow_symlinks=False):
+        for name in names:
+            if NEW.fullmatch(name) or are_all and (place, name) != (".", PAGE):
+                os.remove(name, dir_fd=opened)
+        for name in folders if are_all else ():
+            os.rmdir(name, dir_fd=opened)
+    if are_all:
+        with suppress(FileNotFoundError):
+            os.remove(PAGE, dir_fd=folder)
 
 
-def remove_tiles(folder: str) -> None:
-    """Removes all files of a folder of tiles. The page, which is their mark, is the last to go."""
-    for entry in sorted(os.listdir(folder), key=lambda name: name == PAGE):
-        path = os.path.join(folder, entry)
-        shutil.rmtree(path) if entry not in (PAGE, NEW_PAGE) else os.remove(path)
-
-
-def files_of(folder: str) -> Iterator[str]:
-    """The files below a folder, by their names from there."""
-    for place, folders, names in os.walk(folder):
-        links = [name for name in folders if os.path.islink(os.path.join(place, name))]
-        for name in (*names, *links):
-            yield os.path.relpath(os.path.join(place, name), folder)
+def files_of(folder: int) -> Iterator[tuple[str, int]]:
+    """The files below an open folder, by their names from there, and their modes."""
+    for place, folders, names, opened in os.fwalk(".", dir_fd=folder, follow_symlinks=False):
+        for name in (*names, *folders):
+            mode = os.stat(name, dir_fd=opened, follow_symlinks=False).st_mode
+            if not stat.S_ISDIR(mode):
+                yield os.path.normpath(os.path.join(place, name)), mode

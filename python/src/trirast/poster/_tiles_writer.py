@@ -8,7 +8,6 @@ the one that is missing.
 from __future__ import annotations
 
 import os
-import struct
 import zlib
 from typing import List, Optional
 
@@ -20,6 +19,8 @@ from ._scene import Pixels, Sheet
 from ._tile_folder import PAGE, TileFolder, page_in
 
 TILE = 256
+# More bytes than the file of a tile has.
+MOST = 1 << 20
 
 
 def halved(pixels: Pixels) -> Pixels:
@@ -43,6 +44,11 @@ def levels_of(sheet: Sheet) -> int:
     while TILE << level < max(sheet.width, sheet.height):
         level += 1
     return level
+
+
+def tile_name(level: int, column: int, row: int) -> str:
+    """The name of a tile in its folder."""
+    return f"{level}/{column}/{row}.png"
 
 
 def are_whole(path: str, sheet: Sheet, checksum: str) -> bool:
@@ -89,7 +95,7 @@ class Level:
 
     def _put(self, rows: Pixels) -> None:
         columns = range(-(-rows.shape[1] // TILE))
-        names = [os.path.join(str(self._number), str(column), f"{self._tile_rows}.png") for column in columns]
+        names = [tile_name(self._number, column, self._tile_rows) for column in columns]
         self._writer.put(names, [rows[:, column * TILE : (column + 1) * TILE] for column in columns])
         self._tile_rows += 1
         if self._coarser:
@@ -117,24 +123,26 @@ class TilesWriter:
 
     def read(self, height: int) -> Optional[Pixels]:
         while sum(map(len, self._read_rows)) < height:
-            tiles = [self._read(os.path.join(str(self._finest), str(column), f"{self._read_tile_rows}.png"))
-                     for column in range(-(-self._sheet.width // TILE))]
-            there = [tile for tile in tiles if tile is not None]
-            heights = {tile.shape[0] for tile in there}
-            if len(there) < len(tiles) or len(heights) > 1 or sum(tile.shape[1] for tile in there) != self._sheet.width:
-                return None
-            self._read_rows.append(np.concatenate(there, 1))
+            top = self._read_tile_rows * TILE
+            rows = self._sheet.blank(min(TILE, self._sheet.height - top), self._sheet.width)
+            for column in range(-(-self._sheet.width // TILE)):
+                part = rows[:, column * TILE : (column + 1) * TILE]
+                there = self._read(tile_name(self._finest, column, self._read_tile_rows), part.shape[:2])
+                if there is None:
+                    return None
+                part[:] = there
+            self._read_rows.append(rows)
             self._read_tile_rows += 1
         together = np.concatenate(self._read_rows)
         self._read_rows = [together[height:]]
         return np.asarray(together[:height])
 
-    def _read(self, name: str) -> Optional[Pixels]:
-        """The pixels of a tile, or `None` if it is not there or damaged."""
+    def _read(self, name: str, size: tuple[int, ...]) -> Optional[Pixels]:
+        """The pixels of a tile of this height and width, or `None` if it is not there or damaged."""
+        height, width = size
         try:
-            with open(self._folder.file(name), "rb") as file:
-                return pixels_of(file.read(), self._sheet)
-        except (OSError, ValueError, zlib.error, struct.error):
+            return pixels_of(self._folder.read(name, MOST), self._sheet, height, width)
+        except (OSError, ValueError, zlib.error):
             return None
 
     def keep(self, rows: Pixels) -> None:
@@ -145,18 +153,15 @@ class TilesWriter:
 
     def put(self, names: List[str], tiles: List[Pixels]) -> None:
         """Writes some tiles by several threads. One that a stopped run left with the same pixels is kept."""
-        for name in names:
-            os.makedirs(os.path.dirname(self._folder.file(name)), exist_ok=True)
         for _ in self._pool.map(self._put_tile, names, tiles):
             pass
 
     def _put_tile(self, name: str, pixels: Pixels) -> None:
         if self._is_resumed:
-            there = self._read(name)
+            there = self._read(name, pixels.shape[:2])
             if there is not None and np.array_equal(there, pixels):
                 return
-        with open(self._folder.file(name), "wb") as file:
-            file.write(png_of(pixels, self._sheet))
+        self._folder.write(name, png_of(pixels, self._sheet))
 
     def finish(self) -> None:
         self._level.finish()

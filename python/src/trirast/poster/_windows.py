@@ -43,6 +43,12 @@ class Area(NamedTuple):
         """How many pixels it has."""
         return self.width * self.height
 
+    def is_within(self, other: Area) -> bool:
+        """Whether it has pixels, all of which another one has."""
+        return (
+            other.left <= self.left < self.right <= other.right and other.top <= self.top < self.bottom <= other.bottom
+        )
+
 
 class Window(NamedTuple):
     """A window's column and row among windows, and its upper left pixel and size in pixels."""

@@ -3,7 +3,7 @@ use Rattle.shade.specs.declared.sample.CanvasSample.{CanvasSample}
 use Rattle.canvas.specs.declared.format.Format.{Format}
 use Rattle.canvas.specs.declared.format.Format.TheVariants.{Rgb8, Rgba8, Bgra8, Rgba8Straight, Bgra8Straight}
 use Rattle.canvas.specs.Layout.{columns_of, stored}
-use Rattle.canvas.specs.Pixels.{IsAsStored, pixel_bytes, pixel_of, entry_of}
+use Rattle.canvas.specs.Pixels.{IsAsStored, HasAlpha, pixel_bytes, pixel_of, entry_of}
 use Rattle.canvas.specs.Colours.{IsSampleColour}
 use Rattle.canvas.specs.Loaded.{coloured}
 use Rattle.canvas.proofs.TilePlanes.{cases_eq}
@@ -39,9 +39,25 @@ same_bytes : (format : Format) → IsAsStored format → (too : Bool) (bytes bac
 same_bytes format plain too bytes back old new is h k small =
     h k (within format k small) ∙ ap (λ (x : CanvasSample). slice_index (pixel_of format x.r x.g x.b (x.alpha)) k) is ∙ own_bytes format plain too bytes old k small
 
-pub returns : goal.returns
-returns c canvas first end s stride format bytes before after too old new plain few set are i j k h small =
+pub returns-clause-colours : goal.returns-clause-colours
+returns-clause-colours c canvas first end s stride format bytes before after too old new plain few set are i j k h small =
     let column = h.column in
     let wide : i / 64 < columns_of canvas = omega (arith, column) in
     same_bytes format plain too (λ n. slice_index bytes (entry_of first (pixel_bytes format) stride i j + n)) (λ n. slice_index after (entry_of first (pixel_bytes format) stride i j + n)) (stored canvas first old i j s) (stored canvas first new i j s)
     (set.changed i j s (record { column = wide; from = h.from; below = h.below; is_sample = few }) (h, refl)) (are.pixels i j h) k small
+
+-- the alpha of a sample that has the colour of bytes
+own_alpha : (format : Format) → IsAsStored format → HasAlpha format → (too : Bool) (bytes back : ℕ → ℕ) (old new : CanvasSample) → new ≡ coloured format too bytes old → IsSampleColour format new back
+    → back 3 ≡ (if too then bytes 3 else 255)
+own_alpha Rgb8 plain never too bytes back old new is h = absurd never
+own_alpha Rgba8 plain some too bytes back old new is h = h 3 (omega arith) ∙ ap (λ (x : CanvasSample). x.alpha) is
+own_alpha Bgra8 plain some too bytes back old new is h = h 3 (omega arith) ∙ ap (λ (x : CanvasSample). x.alpha) is
+own_alpha Rgba8Straight never some too bytes back old new is h = absurd never
+own_alpha Bgra8Straight never some too bytes back old new is h = absurd never
+
+pub returns-clause-alpha : goal.returns-clause-alpha
+returns-clause-alpha c canvas first end s stride format bytes before after too old new plain some few set are i j h =
+    let column = h.column in
+    let wide : i / 64 < columns_of canvas = omega (arith, column) in
+    own_alpha format plain some too (λ n. slice_index bytes (entry_of first (pixel_bytes format) stride i j + n)) (λ n. slice_index after (entry_of first (pixel_bytes format) stride i j + n)) (stored canvas first old i j s) (stored canvas first new i j s)
+    (set.changed i j s (record { column = wide; from = h.from; below = h.below; is_sample = few }) (h, refl)) (are.pixels i j h)

@@ -1,16 +1,17 @@
 use Rattle.std.proofs.Common.{rules, inl, inr, refl, subst, ℕ, Option, length, FitsSigned, w32}
 use Rattle.std.proofs.lemmas.Int.{to_z-of_z}
 use Rattle.std.proofs.lemmas.Result.{err_from_is_err_and}
-use Rattle.model.specs.Checking.{Checks, done, check, Pass}
+use Rattle.model.specs.Checking.{Checks, done, check, Pass, FirstIs}
 use Rattle.model.proofs.Checking.{pass_both, fails_before, fails_later, only_allocation}
 use Rattle.canvas.specs.Drawing.{HaveEnds}
+use Rattle.batch.specs.Causes.{left_over}
 use Rattle.batch.specs.Ids.{drawn_as}
 use Rattle.batch.specs.Seen.{triangles_seen}
 use Rattle.batch.proofs.Faults.{none_allocate}
 use Rattle.c_abi.specs.declared.status.Status.{Status}
 use Rattle.c_abi.specs.declared.status.Status.TheVariants.{BadBatch, BadIndexSize, BadStride, BadStructSize}
 use Rattle.c_abi.specs.Sizes.{IsOwnSize}
-use Rattle.canvas_c.specs.Arrays.{HasIndexSize, HasVertexStride, indices_of, vertices_of}
+use Rattle.canvas_c.specs.Arrays.{HasAllVertices, HasIndexSize, HasVertexStride, indices_of, vertices_of}
 use Rattle.canvas_c.specs.Pieces.{has_alpha, piece_checks}
 use Rattle.canvas_c.specs.Batches.{arrays_checks}
 use Rattle.canvas_c.specs.declared.arrays.Batch.{Batch}
@@ -70,6 +71,19 @@ returns-then-not-has_index_size-clause-judged c =
       fault = ((λ h. cc), (λ h. cc));
     })
 
+pub returns-then-not-has_all-clause-judged : goal.returns-then-not-has_all-clause-judged
+returns-then-not-has_all-clause-judged c =
+    let head = c.args.head.now in
+    let batch = c.args.batch.now in
+    let size : IsOwnSize batch.struct_size 64 = search rules in
+    let stride : HasVertexStride batch = search rules in
+    let index_size : HasIndexSize batch = c.has_index_size.ensures.0 (search rules) in
+    let lacks : ¬ HasAllVertices batch = search rules in
+    rw (c.of_batch.ensures, c.fault_of.ensures, c.left_over.ensures) (record {
+      first = fails_later (piece_checks head (length c.args.planes.now)) (later_checks head c.args.ids batch) BadBatch c.in_ok-rows.ensures.judged.0 (inr (size, inr (stride, inr (index_size, inl ((λ pass. lacks pass.0), refl)))));
+      fault = (inr refl, (left_over, inl (lacks, refl), refl));
+    })
+
 pub returns-in-Ok-clause-judged : goal.returns-in-Ok-clause-judged
 returns-in-Ok-clause-judged c =
     let head = c.args.head.now in
@@ -79,7 +93,8 @@ returns-in-Ok-clause-judged c =
     let size : IsOwnSize batch.struct_size 64 = search rules in
     let stride : HasVertexStride batch = search rules in
     let index_size : HasIndexSize batch = c.has_index_size.ensures.0 (search rules) in
-    let passed : Pass (arrays_checks head c.args.ids batch) = rw (to_z-of_z w32 head.origin_x x, to_z-of_z w32 head.origin_y y, c.given_indices-indices.ensures, c.in-Some.ensures.value) at c.in-Ok.ensures.judged.0 in
+    let all : HasAllVertices batch = search rules in
+    let passed : Pass (arrays_checks head c.args.ids batch) = (all, rw (to_z-of_z w32 head.origin_x x, to_z-of_z w32 head.origin_y y, c.given_indices-indices.ensures, c.in-Some.ensures.value) at c.in-Ok.ensures.judged.0) in
     (pass_both (piece_checks head (length c.args.planes.now)) (later_checks head c.args.ids batch) c.in_ok-rows.ensures.judged.0 (size, (stride, (index_size, (passed, record {})))), record {})
 
 pub returns-in-Ok-clause-drawn : goal.returns-in-Ok-clause-drawn
@@ -102,6 +117,7 @@ returns-in-Err-clause-judged c =
     let size : IsOwnSize batch.struct_size 64 = search rules in
     let stride : HasVertexStride batch = search rules in
     let index_size : HasIndexSize batch = c.has_index_size.ensures.0 (search rules) in
-    let first = at_origin head.origin_x _ head.origin_y _ (to_z-of_z w32 head.origin_x x) (to_z-of_z w32 head.origin_y y) c.args.ids batch.draws.now (vertices_of batch) (indices_of batch) c.in-Err.fault (rw (c.given_indices-indices.ensures, c.in-Some.ensures.value) at c.in-Err.ensures.judged) in
+    let all : HasAllVertices batch = search rules in
+    let first : FirstIs (arrays_checks head c.args.ids batch) c.in-Err.fault = inr (all, at_origin head.origin_x _ head.origin_y _ (to_z-of_z w32 head.origin_x x) (to_z-of_z w32 head.origin_y y) c.args.ids batch.draws.now (vertices_of batch) (indices_of batch) c.in-Err.fault (rw (c.given_indices-indices.ensures, c.in-Some.ensures.value) at c.in-Err.ensures.judged)) in
     let refused : Pass (arrays_checks head c.args.ids batch) → ⊥ = λ pass. only_allocation (λ fault. ⊥) (arrays_checks head c.args.ids batch) c.in-Err.fault (none_allocate head.origin_x head.origin_y c.args.ids batch.draws.now (vertices_of batch) (indices_of batch)) first pass in
-    rw (c.of_batch.ensures, c.fault_of.ensures) (record { first = fails_later (piece_checks head (length c.args.planes.now)) (later_checks head c.args.ids batch) BadBatch c.in_ok-rows.ensures.judged.0 (inr (size, inr (stride, inr (index_size, inl (refused, refl))))); fault = (inr refl, (c.in-Err.fault, first, refl)) })
+    rw (c.of_batch-in-Err.ensures, c.fault_of-in-Err.ensures) (record { first = fails_later (piece_checks head (length c.args.planes.now)) (later_checks head c.args.ids batch) BadBatch c.in_ok-rows.ensures.judged.0 (inr (size, inr (stride, inr (index_size, inl (refused, refl))))); fault = (inr refl, (c.in-Err.fault, first, refl)) })

@@ -8,3 +8,6 @@ returns-clause-cleared c = done_if _ c.clear_into.result c.status_of.result c.st
 
 pub returns-clause-status : goal.returns-clause-status
 returns-clause-status c = status_is (piece_checks c.args.canvas.now.head (length c.args.canvas.now.planes.now)) c.clear_into.result c.status_of.result c.clear_into.ensures.judged c.status_of.ensures.ended
+
+pub returns-clause-uniform : goal.returns-clause-uniform
+returns-clause-uniform c = done_if _ c.clear_into.result c.status_of.result c.status_of.ensures.done c.clear_into.ensures.uniform

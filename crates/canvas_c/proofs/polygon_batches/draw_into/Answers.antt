@@ -1,4 +1,5 @@
-use Rattle.std.proofs.Common.{◌≡◌, ◌⊎◌, ◌↔◌, ◌∙◌, inl, inr, refl, sym, ap, subst, rules, arith, ℕ, ◌*◌, ◌≤◌, Option, length, FitsSigned, w32, IsTrue}
+use Rattle.std.proofs.Common.{◌≡◌, ◌⊎◌, ◌↔◌, ◌∙◌, inl, inr, refl, sym, ap, subst, rules, arith, ℕ, ◌*◌, ◌≤◌, Option, List, ◌++◌, take, drop, length, slice_index, FitsSigned, w32, IsTrue}
+use Rattle.std.proofs.Math.Seq.{take-append_seam}
 use Rattle.std.proofs.lemmas.Int.{to_z-of_z}
 use Rattle.std.proofs.lemmas.List.{length-take}
 use Rattle.std.proofs.lemmas.Result.{err_from_is_err_and}
@@ -7,6 +8,7 @@ use Rattle.model.proofs.Checking.{pass_both, fails_before, fails_later}
 use Rattle.polygons.specs.declared.rule.Rule.{Rule}
 use Rattle.polygons.specs.declared.rule.Rule.TheVariants.{EvenOdd, NonZero}
 use Rattle.polygons.specs.Cells.{flags_by}
+use Rattle.polygons.specs.ManyRows.{row_of}
 use Rattle.canvas.specs.declared.canvas.Canvas.{Canvas}
 use Rattle.grid.specs.Samples.{parts_of, pattern_of}
 use Rattle.painting.specs.Batches.{AreFit}
@@ -176,3 +178,18 @@ returns-clause-drawn c =
           let drawn = rw (c.rule_of-rule.ensures, c.state.ensures, c.has_alpha.ensures) at listed in
           subst (ArePainted (shapes_listed (has_alpha head) c.args.ids a) (origin_of head) rows.canvas rows.first rows.end c.args.planes.now) (search rules) drawn;
     }
+
+pub returns-clause-zeros : goal.returns-clause-zeros
+returns-clause-zeros c column i =
+    let head = c.args.head.now in
+    let a = c.args.arrays.now in
+    let are = c.in_ok-rows.ensures.judged.1 in
+    let flagged : c.flag_columns-flagged.result ≡ flag_columns_listed head a = same_flags c.in_ok-rows.rows.canvas head a _ are.width are.count c.rule_of-rule.ensures c.flag_columns-flagged.ensures.value in
+    let enough : (c.flag_columns-flagged.result ≤ length c.args.flags.now) × ((a.fill_rule ≡ 0) ⊎ (c.counter_columns-counted.result ≤ length c.args.counters.now)) = c.has_scratch.ensures.0 (search rules) in
+    let taken = length-take c.flag_columns-flagged.result c.args.flags.now in
+    let some = enough.0 in
+    let long : length c.draw_polygons.new.flags ≡ c.flag_columns-flagged.result = omega (arith, c.draw_polygons.auto.flags, c.clear.ensures.len, taken, some) in
+    let rest = drop c.flag_columns-flagged.result c.args.flags.now in
+    let seam : take (flag_columns_listed head a) (c.draw_polygons.new.flags ++ rest) ≡ c.draw_polygons.new.flags =
+    ap (λ n. take n (c.draw_polygons.new.flags ++ rest)) (sym (long ∙ flagged)) ∙ take-append_seam c.draw_polygons.new.flags rest in
+    subst (λ (flags : List (List ℕ)). slice_index (row_of flags column) i ≡ 0) (sym seam) (c.draw_polygons.ensures.flags column i)

@@ -9,3 +9,6 @@ returns-clause-drawn c = done_if _ c.draw_into.result c.report.result c.report.e
 pub returns-clause-report : goal.returns-clause-report
 returns-clause-report c =
     report_is (polygons_checks c.args.canvas.now.head (length c.args.canvas.now.planes.now) (Some c.args.first_id) c.args.polygons.now (length c.args.flags.now) (length c.args.counters.now)) (IsFirstOfPolygons (Some c.args.first_id) c.args.polygons.now) c.draw_into.result c.report.result _ c.draw_into.ensures.judged c.report.ensures.reported
+
+pub returns-clause-zeros : goal.returns-clause-zeros
+returns-clause-zeros c = done_if _ c.draw_into.result c.report.result c.report.ensures.done c.draw_into.ensures.zeros

@@ -2,6 +2,8 @@ use Rattle.std.proofs.Common.{ap, arith, map, drop, ◌+◌, List}
 use Rattle.grid.specs.Position.{Position}
 use Rattle.polygons.specs.Crossing.{downs, ups}
 use Rattle.polygons.specs.Polygon.{polygon_edges, corner_count}
+use Rattle.polygons.proofs.Corners.{winding-corner}
+use Rattle.polygons.proofs.Cuts.{inside_alike}
 use Rattle.polygons.proofs.Counts.{rings_from, downs-ring, ups-ring, corners-ring, downs-ring-le, ups-ring-le}
 use Rattle.polygons.proofs.polygon.polygon_covers.Goals as goal
 
@@ -21,3 +23,8 @@ loop-ring-preserved c =
     let dl = downs-ring-le ring p in
     let ul = ups-ring-le ring p in
     (omega arith, omega arith, omega arith, omega arith)
+
+pub returns-clause-corner : goal.returns-clause-corner
+returns-clause-corner c e q more h off =
+    let rings : List (List Position) = map (λ x. x.now) c.args.rings.now in
+    inside_alike c.args.rule (polygon_edges rings) (polygon_edges more) c.args.p (winding-corner e q rings more c.args.p h off)

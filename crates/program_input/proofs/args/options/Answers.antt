@@ -1,34 +1,12 @@
-use Rattle.std.proofs.Common.{rules, ◌≡◌, ◌⊎◌, ℕ, List, Option, Some, None, IfSome, IsSome, Bor, false, true, [], subst, map, codes, option_map, refl, ap, ap₂, sym, inl, inr, ◌∙◌}
-use Rattle.clap.specs.Words.{App, Text, HasMatchesOf, IsAmong, app_of, fault_of, first_of, first_value, found_of, is_simple, is_simple_and_free, matches_of, rule_of, with_rule}
+use Rattle.std.proofs.Common.{rules, ◌≡◌, ℕ, Option, Some, None, IfSome, IsSome, Bor, false, true, subst, map, codes, option_map, refl, ap, ap₂, sym, ◌∙◌}
+use Rattle.clap.specs.Words.{Text, app_of, is_simple_and_free, rule_of, with_rule}
 use Rattle.std.proofs.lemmas.Result.{err_from_is_err_and}
 use Rattle.std.proofs.lemmas.Option.{same_Some}
 use Rattle.std.specs.Result.{result_err}
-use Rattle.clap.proofs.WalkLemmas.{first_value-rows}
-use Rattle.clap.specs.declared.error.kind.ErrorKind.{ErrorKind}
-use Rattle.clap.specs.declared.error.kind.ErrorKind.TheVariants as kind
-use Rattle.clap.specs.declared.parser.matches.ArgMatches.{ArgMatches}
-use Rattle.program_input.specs.declared.line_fault.LineFault.{LineFault}
 use Rattle.program_input.specs.declared.line_fault.LineFault.TheVariants as fault
-use Rattle.program_input.specs.Args.{option_rule, trirast_app, matched, line_fault, IsNumberText}
+use Rattle.program_input.specs.Args.{option_rule, trirast_app, matched, IsNumberText}
+use Rattle.program_input.proofs.Matches.{asked_for_help, named, no_fault}
 use Rattle.program_input.proofs.args.options.Goals as goal
-
-help_only : (k : ErrorKind) → line_fault k ≡ fault.Help → k ≡ kind.DisplayHelp
-help_only kind.DisplayHelp h = refl
-help_only _ h = absurd (cc)
-
-asked_for_help : (app : App) (arguments : List Text) (k e : ErrorKind) (f : LineFault) → app ≡ trirast_app → f ≡ line_fault k → k ≡ e → f ≡ fault.Help
-    → (e ≡ kind.OutOfMemory) ⊎ IsAmong e (fault_of app arguments) → IsAmong kind.DisplayHelp (fault_of trirast_app arguments)
-asked_for_help app arguments k e f is reported same help has =
-    let is_help : k ≡ kind.DisplayHelp = help_only k (sym reported ∙ help) in
-    let AmongFaults : ErrorKind → Type 0 = λ x. IsAmong x (fault_of app arguments) in
-    let HasHelp : App → Type 0 = λ a. IsAmong kind.DisplayHelp (fault_of a arguments) in
-    elim has [
-      | inl memory ↦ absurd (cc)
-      | inr among ↦ subst HasHelp is (subst AmongFaults (sym same ∙ is_help) among)
-    ]
-
-no_fault : (app : App) (arguments : List Text) → app ≡ trirast_app → fault_of app arguments ≡ [] → fault_of trirast_app arguments ≡ []
-no_fault app arguments is none = ap (λ a. fault_of a arguments) (sym is) ∙ none
 
 number_named : (found : Option (Bor Text)) (value : Option Text) (n : ℕ) → option_map (λ t. t.now) found ≡ value → IfSome found (λ t. IsNumberText t.now n) → IsSome found
     → IfSome value (λ t. IsNumberText t n) × IsSome value
@@ -36,11 +14,6 @@ number_named None value n is number some = let bad : false ≡ true = some in ab
 number_named (Some t) value n is number some =
     let Names : Option Text → Type 0 = λ o. IfSome o (λ t. IsNumberText t n) × IsSome o in
     subst Names is (number, refl)
-
-named : (app : App) (arguments : List Text) (m : ArgMatches) (id : Text) → app ≡ trirast_app → HasMatchesOf app arguments m → first_value (found_of m) id ≡ matched id arguments
-named app arguments m id is has =
-    let rows = (has (ap is_simple is)).0 in
-    first_value-rows (found_of m) id ∙ (ap (first_of id) rows ∙ ap (λ a. first_of id (matches_of a arguments)) is)
 
 pub returns-in_err-matches-clause-help : goal.returns-in_err-matches-clause-help
 returns-in_err-matches-clause-help c reported =
@@ -51,7 +24,7 @@ returns-in_err-matches-clause-help c reported =
     ∙ ap₂ with_rule (c.in_ok-arg.ensures.shape (search rules) ∙ ap₂ with_rule c.new-3.ensures.app tile_is) workers_is in
     let has = c.in_err-matches.ensures.kinds (ap is_simple_and_free app_is) in
     let help : p.0 ≡ fault.Help = same_Some _ _ (ap result_err (sym p.1 ∙ reported)) in
-    asked_for_help (app_of c.in_ok-command.command) (map (λ word. word.now) c.args.arguments.now) _ _ _ app_is p.2 refl help has
+    asked_for_help (app_of c.in_ok-command.command) trirast_app (map (λ word. word.now) c.args.arguments.now) _ _ _ app_is p.2 refl help has
 
 pub returns-clause-tile : goal.returns-clause-tile
 returns-clause-tile c =
@@ -61,8 +34,8 @@ returns-clause-tile c =
     ∙ ap₂ with_rule (c.in_ok-arg.ensures.shape (search rules) ∙ ap₂ with_rule c.new-3.ensures.app tile_is) workers_is in
     let texts = map (λ word. word.now) c.args.arguments.now in
     let none = c.in_ok-matches.ensures.kinds (ap is_simple_and_free app_is) in
-    let value = named (app_of c.in_ok-command.command) texts c.in_ok-matches.matches (codes "tile") app_is c.in_ok-matches.ensures.matches in
-    (no_fault (app_of c.in_ok-command.command) texts app_is none, sym value ∙ (sym c.get_str.ensures ∙ c.in-Some.ensures))
+    let value = named (app_of c.in_ok-command.command) trirast_app texts c.in_ok-matches.matches (codes "tile") app_is refl c.in_ok-matches.ensures.matches in
+    (no_fault (app_of c.in_ok-command.command) trirast_app texts app_is none, sym value ∙ (sym c.get_str.ensures ∙ c.in-Some.ensures))
 
 pub returns-clause-workers : goal.returns-clause-workers
 returns-clause-workers c =
@@ -71,7 +44,7 @@ returns-clause-workers c =
     let app_is : app_of c.in_ok-command.command ≡ trirast_app = c.in_ok-command.ensures.shape (search rules)
     ∙ ap₂ with_rule (c.in_ok-arg.ensures.shape (search rules) ∙ ap₂ with_rule c.new-3.ensures.app tile_is) workers_is in
     let texts = map (λ word. word.now) c.args.arguments.now in
-    let value = named (app_of c.in_ok-command.command) texts c.in_ok-matches.matches (codes "workers") app_is c.in_ok-matches.ensures.matches in
+    let value = named (app_of c.in_ok-command.command) trirast_app texts c.in_ok-matches.matches (codes "workers") app_is refl c.in_ok-matches.ensures.matches in
     let number = c.in-Some-workers_named.ensures in
     let both = number_named c.get_str-2.result (matched (codes "workers") texts) c.in-Some-workers_named.workers (c.get_str-2.ensures ∙ value) number.2 number.3 in
     (number.0, number.1, both.0, both.1)

@@ -2,7 +2,7 @@ use Rattle.std.proofs.Common.{◌≡◌, ◌+◌, ◌-◌, ◌*◌, ◌≤◌, �
 use Rattle.shade.specs.Canvas.{with_alpha}
 use Rattle.canvas.specs.Layout.{columns_of, planes_of_tile}
 use Rattle.canvas.proofs.Places.{part_within}
-use Rattle.canvas.proofs.ClearedTiles.{all_tiles, one_cleared, all_cleared}
+use Rattle.canvas.proofs.ClearedTiles.{all_tiles, one_cleared, none_cleared, all_cleared, all_uniform}
 use Rattle.canvas.proofs.tile_rows.TileRows.clear_all.Goals as goal
 
 pub slice_bounds-clear_tile-end : goal.slice_bounds-clear_tile-end
@@ -16,6 +16,11 @@ slice_bounds-clear_tile-end c =
     let fits : number * each + each ≤ length c.loop-number.samples =
     rw c.planes_of_tile-each.ensures.value (omega (arith, room, all, c.requires, c.loop-number.auto.samples)) in
     search rules
+
+pub loop-number-init : goal.loop-number-init
+loop-number-init c =
+    let self = c.args.self.now in
+    none_cleared self.canvas self.first self.end (with_alpha c.args.sample c.args.alpha) c.args.samples.now
 
 pub loop-number-preserved : goal.loop-number-preserved
 loop-number-preserved c =
@@ -31,9 +36,14 @@ loop-number-preserved c =
     let at : a ≡ number * pt = rw c.planes_of_tile-each.ensures.value (omega arith) in
     one_cleared self.canvas self.first self.end (with_alpha c.args.sample c.args.alpha) number c.loop-number.samples c.clear_tile.new.samples (a + each - a) a
     (omega (arith, room, all, size, at, c.requires, c.loop-number.auto.samples))
-    (omega (arith, c.clear_tile.auto.samples, room, all, size, at, c.requires, c.loop-number.auto.samples)) size at c.clear_tile.ensures c.loop-number.invariant
+    (omega (arith, c.clear_tile.auto.samples, room, all, size, at, c.requires, c.loop-number.auto.samples)) size at c.clear_tile.ensures.cleared c.clear_tile.ensures.uniform c.loop-number.invariant
 
-pub returns : goal.returns
-returns c =
+pub returns-clause-cleared : goal.returns-clause-cleared
+returns-clause-cleared c =
     let self = c.args.self.now in
     all_cleared self.canvas self.first self.end (with_alpha c.args.sample c.args.alpha) c.loop-number.number c.loop-number.samples (omega (arith, c.loop-number-test.false, c.tiles-number-end.ensures.value)) c.loop-number.invariant
+
+pub returns-clause-uniform : goal.returns-clause-uniform
+returns-clause-uniform c =
+    let self = c.args.self.now in
+    all_uniform self.canvas self.first self.end (with_alpha c.args.sample c.args.alpha) c.loop-number.number c.loop-number.samples (omega (arith, c.loop-number-test.false, c.tiles-number-end.ensures.value)) c.loop-number.invariant

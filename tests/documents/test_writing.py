@@ -1,0 +1,76 @@
+"""Tests that pages are written as STYLE.md says: lengths of pages, lines, cells of tables and sentences.
+
+    python3 -m pytest tests/documents/test_writing.py
+"""
+
+from __future__ import annotations
+
+import re
+
+import pytest
+
+from tools import writing
+from tools.places import text_of
+from tools.writing import Counts
+
+WORD = "word "
+
+
+def test_readme_is_short() -> None:
+    assert text_of("README.md").count("\n") <= 120
+    assert max(map(len, text_of("README.md").split("\n"))) <= writing.MOST_COLUMNS
+
+
+def test_each_figure_of_readme_stands_on_a_page() -> None:
+    readme = writing.prose_of(text_of("README.md"))
+    pages = "".join(text_of(page) for page in set(re.findall(r"\]\((docs/[\w.-]+\.md)", readme)))
+    figures = re.findall(r"(?<![\w.])\d+(?:[.,]\d+)+(?![\w.]*\d)", readme)
+    assert len(figures) > 8
+    assert [figure for figure in figures if not re.search(rf"(?<![\d.,]){figure}(?!\d)", pages)] == []
+
+
+@pytest.mark.parametrize("page", sorted(set(writing.pages()) - writing.listed().keys()))
+def test_rewritten_pages_are_short(page: str) -> None:
+    assert text_of(page).count("\n") <= 250
+
+
+def test_pages_keep_the_limits() -> None:
+    assert len(writing.pages()) > 30
+    assert list(writing.faults(writing.listed(), writing.counted())) == []
+
+
+def test_list_is_laid_out_by_its_command() -> None:
+    assert text_of(writing.LIST) == writing.text_of_list(writing.listed())
+
+
+@pytest.mark.parametrize(("page", "counts"), [
+    (f"{WORD * 21}word.\n", Counts()),
+    (f"{WORD * 21}{WORD * 2}.\n", Counts(lines=1)),
+    (f"{'w' * 111}\n", Counts()),
+    (f"```c\n{WORD * 50}\n```\n", Counts()),
+    (f"| {WORD * 24}word | a |\n", Counts()),
+    (f"| a | {WORD * 25}word |\n", Counts(cells=1)),
+    (f"| [{WORD * 24}word](docs/a.md) and `{WORD * 9}` | a |\n", Counts(cells=1)),
+    ((f"{WORD * 10}\n" * 4) + "\nA\n", Counts()),
+    ((f"{WORD * 10}\n" * 4) + "word.\n", Counts(sentences=1)),
+    ((f"{WORD * 10}\n" * 2) + "word. A\n" + (f"{WORD * 10}\n" * 2), Counts()),
+    ((f"{WORD * 10}\n" * 2) + "word: a\n" + (f"{WORD * 10}\n" * 2), Counts(sentences=1)),
+    ((f"- {WORD * 10}\n  {WORD * 10}\n" * 3), Counts()),
+    (f"- {WORD * 10}\n" + (f"  {WORD * 10}\n" * 4), Counts(sentences=1)),
+    ((f"{WORD * 10}\n" * 3) + "`code. Of many words that count as one` and `more of it`.\n", Counts()),
+])
+def test_what_is_too_long_is_counted(page: str, counts: Counts) -> None:
+    assert writing.found_in(page).counts() == counts
+
+
+def test_counts_may_only_fall() -> None:
+    before = {"a.md": Counts(3, 2, 1), "b.md": Counts(1, 0, 0), "gone.md": Counts(1, 1, 1)}
+    now = {"a.md": Counts(2, 2, 2), "new.md": Counts(0, 0, 1)}
+    faults = sorted(writing.faults(before, now))
+    assert [fault.split(":")[0] for fault in faults] == ["a.md", "b.md", "gone.md", "new.md"]
+    assert list(writing.faults(before, before)) == []
+    assert writing.renewed(before, now) == {"a.md": Counts(2, 2, 1)}
+
+
+def test_generated_pages_are_left_out() -> None:
+    assert not any(re.match(r"docs/statement\.md|crates/README\.md", page) for page in writing.pages())

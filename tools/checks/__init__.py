@@ -1,1 +1,0 @@
-"""The checks that run what was built: `ci/checks.py` lists them."""
