@@ -8,7 +8,7 @@ import re
 import signal
 import subprocess
 import time
-from typing import Mapping
+from typing import Iterable, Mapping
 
 from tools import places
 from tests.cases import must
@@ -56,16 +56,14 @@ def check_in_c(folder: str, flags: list[str], environment: Mapping[str, str], co
     return program
 
 
-def check_documented(title: str, files: Mapping[str, int]) -> None:
-    """packaging/FILES.md lists the files of a package below this title, and their sizes within a tenth or 2 KB."""
-    listed = listing.listed(title)
-    advice = "python3 -m tools.packaging.listing writes the lists"
+def check_documented(title: str, files: Iterable[str]) -> None:
+    """packaging/FILES.md lists exactly the files of a package below this title."""
+    listed, held = listing.listed(title), sorted(files)
     must(
-        sorted(listed) == sorted(files),
-        f"{sorted(listed.keys() ^ files.keys())} in one of page and package alone; {advice}",
+        listed == held,
+        f"{sorted({*listed} ^ {*held})} in one of page and package alone; "
+        "python3 -m tools.packaging.listing writes the lists",
     )
-    others = [name for name, size in files.items() if abs(1000 * listed[name] - size) > max(2000, size // 10)]
-    must(not others, f"{others} have other sizes; {advice}")
 
 
 def check_library_sizes(files: Mapping[str, int]) -> None:

@@ -1,8 +1,8 @@
-"""Writes the lists of the packages' files, with their sizes, into packaging/FILES.md.
+"""Writes the lists of the packages' files into packaging/FILES.md.
 
     python3 -m tools.packaging.listing
 
-It reads the packages of dist/, which make deb wheel builds. make check-packages compares the lists with the packages.
+It reads the packages of dist/, which `make deb wheel` builds. `make check-packages` compares the lists with them.
 """
 
 from __future__ import annotations
@@ -15,7 +15,7 @@ import sys
 import tarfile
 import zipfile
 from io import BytesIO
-from typing import Mapping
+from typing import Iterable
 
 from tools import places
 from tools.packaging import wheel
@@ -46,14 +46,8 @@ def debian_files() -> dict[str, int]:
     return found
 
 
-def kilobytes(size: int) -> int:
-    """A size in units of 1,000 bytes, rounded up."""
-    return -(-size // 1000)
-
-
-def table(files: Mapping[str, int]) -> str:
-    rows = "".join(f"| `{name}` | {kilobytes(size)} |\n" for name, size in sorted(files.items()))
-    return f"| File | KB |\n|---|---|\n{rows}"
+def bullets(files: Iterable[str]) -> str:
+    return "".join(f"- `{name}`\n" for name in sorted(files))
 
 
 def part_of(page: str, title: str) -> str:
@@ -64,10 +58,9 @@ def part_of(page: str, title: str) -> str:
     return found[0]
 
 
-def listed(title: str) -> dict[str, int]:
-    """The files that packaging/FILES.md lists below a title, with their sizes in KB."""
-    rows = re.findall(r"^\| `(.*?)` \| (\d+) \|$", part_of(places.text_of(PAGE), title), re.MULTILINE)
-    return {name: int(size) for name, size in rows}
+def listed(title: str) -> list[str]:
+    """The files that packaging/FILES.md lists below a title, sorted by name."""
+    return re.findall(r"^- `(.*)`$", part_of(places.text_of(PAGE), title), re.MULTILINE)
 
 
 def main() -> int:
@@ -77,7 +70,7 @@ def main() -> int:
         {wheel_title(name): wheel_files(name) for name in wheel.PROCESSORS if os.path.exists(wheel.path_of(name))}
     )
     for title, files in lists.items():
-        page = page.replace(f"## {title}\n\n{part_of(page, title)}", f"## {title}\n\n{table(files)}")
+        page = page.replace(f"## {title}\n\n{part_of(page, title)}", f"## {title}\n\n{bullets(files)}")
     with open(PAGE, "w", encoding="utf-8") as file:
         file.write(page)
     return 0
