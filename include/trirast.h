@@ -32,12 +32,13 @@
  *
  * - If the status is TRIRAST_STATUS_OK, the call did what its text says. The bytes of the buffer behind those that the
  *   text names are unchanged.
- * - Otherwise `*error` says why, if the call has one, and nothing else was written.
+ * - Otherwise `*error` says why, if the call has one, and nothing else was written. The exception is
+ *   trirast_polygons_measure, whose boxes are unspecified after an error of the polygons.
  * - Of several errors the first in this order is reported: TRIRAST_STATUS_BAD_STRUCT_SIZE,
  *   TRIRAST_STATUS_BAD_TILE_SIZE, TRIRAST_STATUS_INPUT_TOO_LONG, TRIRAST_STATUS_BAD_LIST, TRIRAST_STATUS_BAD_TILE_ROWS,
  *   TRIRAST_STATUS_BAD_PIXEL, TRIRAST_STATUS_BAD_SAMPLE, TRIRAST_STATUS_BAD_TRIANGLE, TRIRAST_STATUS_BUFFER_TOO_SMALL.
- *   TRIRAST_STATUS_OUT_OF_MEMORY is reported as soon as an allocation fails; later checks are not made. The calls on a
- *   canvas have an order of their own, which stands there.
+ *   TRIRAST_STATUS_OUT_OF_MEMORY is reported as soon as an allocation fails, which is tested and not proved; later
+ *   checks are not made. The calls on a canvas have an order of their own, which stands there.
  *
  * Functions whose names begin with trirast_proved_ are those that are proved where the plain name is an inline function
  * over them: one that takes NULL or a stride, or that checks the size and the alignment of scratch memory. Call the
@@ -674,8 +675,8 @@ typedef struct trirast_box {
 
 /* Polygons with their colours. A polygon is any number of rings, which may have holes, touch and cross each other and
  * themselves; a ring is closed from its last corner to its first, and one of fewer than three corners covers nothing.
- * Which samples a polygon covers is exact: neighbours with common edges leave no gap and no overlap, and a triangle
- * covers what trirast_canvas_draw draws of it (docs/polygons.md).
+ * Which samples a polygon covers is exact. Polygons that fit together leave no gap and no overlap: docs/polygons.md
+ * says when they do. A ring of a triangle's corners covers what trirast_canvas_draw draws of the triangle.
  *
  * The arrays of shapely.to_ragged_array and of GeoArrow are these, but that each of their arrays of ends begins with a
  * 0, which is left out here. */
@@ -725,9 +726,9 @@ trirast_status trirast_proved_polygons_measure(const trirast_polygons *polygons,
  * as one likes, by any number of threads, on any canvas: no such call looks at the corners of a polygon whose box lies
  * beside its canvas. Without boxes each call looks at all corners first.
  *
- * Boxes are believed. Whoever changes a corner, a ring or a polygon afterwards has to find them anew: with boxes that
- * do not hold their polygons' corners, some polygons may be left out, each as a whole, and no error says so. A polygon
- * that has a corner outside of the guard band is then left out too.
+ * Boxes are not checked. Whoever changes a corner, a ring or a polygon afterwards has to find them anew. With boxes
+ * that do not hold their polygons' corners, some polygons may be left out, each as a whole, and no error says so. A
+ * polygon that has a corner outside of the guard band is then left out too. Both are tested and not proved.
  *
  * @polygons: whose boxes are found. Only the corners and where rings and polygons end are looked at.
  * @boxes: where they go, one for each polygon. Those behind are unchanged.
@@ -917,7 +918,7 @@ trirast_status trirast_canvas_tile_ids(const trirast_canvas *canvas, uint32_t co
 /* Stores the colours of all samples of one tile, red + 256 * green + 65536 * blue each; the upper byte is not read.
  * Depths and other tiles are unchanged, and so is alpha, also on a canvas without alpha, where trirast_canvas_load and
  * trirast_canvas_store make it 255: such a canvas has to be cleared or loaded before. Storing what
- * trirast_canvas_tile_ids wrote changes nothing, and what was stored is what it then writes.
+ * trirast_canvas_tile_ids wrote changes nothing, and what was stored is what it then writes, with an upper byte of 0.
  *
  * @canvas, @column, @row: as for trirast_canvas_tile_ids.
  * @colors: as trirast_canvas_tile_ids writes ids.
