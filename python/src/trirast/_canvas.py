@@ -207,8 +207,9 @@ class Canvas:
         with `depth_write` the new one is stored. `keep` has the letters of the channels that are not written, of
         "rgba". Bit s of `sample_mask`, 0 to 65535, says whether sample s of each pixel is drawn. `scissor` is left,
         top, right and bottom, in pixels of the screen, of which right and bottom are outside. With `first_id` each
-        triangle is drawn in the colour of its id, whatever `blend` and `keep` are: `first_id` and its place, at most
-        16,777,215, as `ids` reads them.
+        triangle is drawn in the colour of its id, whatever `blend` is and which of "rgb" `keep` has: `first_id` and
+        its place, at most 16,777,215, as `ids` reads them. The alpha of a canvas that has one becomes 255 there, unless
+        `keep` has "a".
 
         Raises BatchError, and then nothing was drawn, if an index names no vertex, a vertex that an index names lies
         outside of -8388608 to 8388607 on the screen or as seen from the canvas, or a quad is not strictly convex;
