@@ -67,12 +67,11 @@ def goals() -> dict[str, Goal]:
 GOALS = goals()
 
 
-def is_there(gives: str) -> bool:
-    """Whether the machine has this command, module or file."""
+def is_there(gives: str, pythons: Iterable[str] = (sys.executable, DEBIAN_PYTHON)) -> bool:
+    """Whether the machine has this command or file, or one of these Pythons this module."""
     kind, _colon, module = gives.partition(":")
     if module:
         test = f"import importlib.util as found; raise SystemExit(not found.find_spec({module!r}))"
-        pythons = (sys.executable, DEBIAN_PYTHON)
         return any(shutil.which(each) and subprocess.run([each, "-c", test]).returncode == 0 for each in pythons)
     return bool(glob.glob(kind)) if os.path.isabs(kind) else shutil.which(kind) is not None
 
@@ -99,7 +98,8 @@ def main() -> int:
     options = parser.parse_args()
     if options.lacking:
         every = {each.name: each for goal in GOALS.values() for each in (*goal.needed, *goal.optional)}
-        print(*(name for name, each in every.items() if not is_there(each.gives)))
+        # What another Python has does not count: the one that runs this may not be the one that runs the checks.
+        print(*(name for name, each in every.items() if not is_there(each.gives, [DEBIAN_PYTHON])))
         return 0
     if not options.goal:
         for name, goal in GOALS.items():

@@ -7,7 +7,6 @@ import subprocess
 from typing import Sequence
 
 from tools import places
-from tests import header_edits
 from tests.cases import MAX_SECONDS
 from tests.library.commands import WARNINGS, need, run
 from tools.places import EXAMPLES, INCLUDE, TOP
@@ -47,8 +46,3 @@ def failures(program: Sequence[str], seeds: int) -> tuple[int, str]:
     """Runs the tests in C++. Returns their status and what they print."""
     done = subprocess.run([*program, "--seeds", str(seeds)], stdout=subprocess.PIPE, text=True, timeout=MAX_SECONDS)
     return done.returncode, done.stdout
-
-
-def edited(name: str) -> str:
-    """A folder with the headers, made wrong by an edit."""
-    return header_edits.apply("clip", name, [INCLUDE], os.path.join(OUT, name))

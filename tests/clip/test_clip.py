@@ -1,5 +1,5 @@
-"""Clipping: no crack and no double sample, the same bytes by every compiler, in C, C++ and Python, and wrong
-edits of the headers.
+"""Clipping: no crack and no double sample, the same bytes by every compiler, in C, C++ and Python, and mutants of the
+headers.
 
     python3 -m pytest tests/clip [-m 'long or not long']
 
@@ -17,16 +17,17 @@ import pytest
 
 from tools import places
 from tests.cases import Case, MissingError, case, must
-from tests import cases, header_edits
+from tests import cases, mutants
 from tests.clip import picture
-from tests.clip.programs import OUT, compiled, edited, failures, filter_by, linked
+from tests.clip.programs import OUT, compiled, failures, filter_by, linked
 from tests.clip.tasks import all_tasks
 from tests.library.arm64 import COMPILER as ARM64, QEMU
 from tests.library.commands import PACKAGE_ENVIRONMENT, WARNINGS, need, python_with, run
 from tests.library.sanitized import SANITIZERS
+from tests.mutants import Mutant
 from tools.places import INCLUDE, STATIC_LIBRARY, TOP
 
-SEEDS, LONG_SEEDS, EDIT_SEEDS, SANITIZED_SEEDS = 40, 400, 4, 4
+SEEDS, LONG_SEEDS, MUTANT_SEEDS, SANITIZED_SEEDS = 40, 400, 4, 4
 # The processors of the level that the library asks for, and those with a product that is fused with a sum.
 V2, V3 = "-march=x86-64-v2", "-march=x86-64-v3"
 OFF, FAST = "-ffp-contract=off", "-ffp-contract=fast"
@@ -42,7 +43,7 @@ FILTERS = (
     ("gcc", "c", "-O0"), ("gcc", "c", "-O3", "-march=native"), ("clang", "c", "-O3", "-march=native"),
     ("gcc", "c", "-O1", *SANITIZERS), ("g++", "cpp", "-O1", *SANITIZERS),
 )
-# An edit of these is found by the bytes that a filter writes, and of any other by the tests in C++.
+# The mutants that are found by the bytes that a filter writes. The tests in C++ find the others.
 BY_BYTES = {"between.may_be_fused": "c"}
 
 
@@ -195,21 +196,19 @@ def check_example() -> str:
     return line.strip()
 
 
-# ---- Wrong edits
+# ---- Mutants of the headers
 
 
-def check_edit(name: str) -> str:
-    """A wrong edit of a header is found. Returns by what."""
-    folder = edited(name)
-    language = "cpp" if name.startswith(("hpp.", "parts.")) else BY_BYTES.get(name)
+def found_by(mutant: Mutant) -> str | None:
+    """What finds a mutant of a header."""
+    folder = mutant.copied([INCLUDE], os.path.join(OUT, mutant.name))
+    language = "cpp" if mutant.name.startswith(("hpp.", "parts.")) else BY_BYTES.get(mutant.name)
     if language:
         program = filter_by({"c": "gcc", "cpp": "g++"}[language], language, V3, FAST, "-O2", include=folder)
-        must(run([program], input=question()) != wanted(), "the edit is not found")
-        return "other bytes"
-    status, text = failures([tests_of(f"{name}-tests", include=folder)], EDIT_SEEDS)
-    found = re.findall(r"^FAILED (.*)$", text, re.MULTILINE)
-    must(status == 1 and found != [], f"status {status}: the edit is not found")
-    return str(found[0])
+        return "other bytes" if run([program], input=question()) != wanted() else None
+    status, text = failures([tests_of(f"{mutant.name}-tests", include=folder)], MUTANT_SEEDS)
+    found = re.search(r"^FAILED (.*)$", text, re.MULTILINE)
+    return found[1] if status == 1 and found else None
 
 
 CASES = [
@@ -223,7 +222,7 @@ CASES = [
     case("the same bytes: Python", check_python),
     *(case(f"the program of the page in {language}", check_page, language) for language in ("c", "python")),
     case("the example", check_example),
-    *(case(f"wrong edit: {name}", check_edit, name) for name in header_edits.names("clip")),
+    *mutants.cases(mutants.listed("tests", "clip", "mutants.edits"), found_by),
 ]
 
 

@@ -158,7 +158,7 @@ class Names(unittest.TestCase):
     def test_number_of_mutants(self) -> None:
         self.assertIn(f"that {len(mutants.MUTANTS)} wrong rules", text_of("docs/tested.md"))
         self.assertIn(
-            f"finds {len(canvas_mutants.MUTANTS) + len(canvas_mutants.BLENDING)} wrong rules", text_of("docs/tested.md")
+            f"finds {len(canvas_mutants.EVERY)} wrong rules", text_of("docs/tested.md")
         )
 
     def test_sample_patterns(self) -> None:

@@ -10,12 +10,14 @@ from __future__ import annotations
 
 import os
 import re
+from functools import partial
 
 import pytest
 
+from tests.mutants import Mutant
 from tools import places
-from tools.edits import applied, clause_in
-from tools.places import TOP, text_of
+from tools.edits import clause_in
+from tools.places import text_of
 from tools.sources import wrong_bodies
 from tools.sources.rattle import functions_in
 from tools.sources.wrong_bodies import Edit, promises
@@ -45,7 +47,8 @@ def test_each_crate_with_edits_is_in_the_page() -> None:
 @pytest.mark.parametrize("edit", EDITS, ids=lambda edit: f"{edit.crate}/{edit.name}")
 def test_an_edit_can_be_applied_and_names_its_function_and_clause(edit: Edit) -> None:
     assert re.fullmatch(r"\w+\.\w+", edit.name), "an edit is named FUNCTION.WHAT_IS_WRONG"
-    assert applied(os.path.join(TOP, "crates", edit.crate), edit.text)[1] is None
+    changed = Mutant(edit.name, tuple(edit.pairs)).texts(partial(text_of, "crates", edit.crate))
+    assert all(file.startswith("src/") for file in changed)
     function = edit.function()
     assert function, f"there is no function {edit.name.split('.')[0]}"
     named, names = clause_in(edit.text), promises(function)

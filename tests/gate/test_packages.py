@@ -81,6 +81,7 @@ def test_commands_modules_and_files_are_found(tmp_path: Path) -> None:
     assert packages.is_there("sh") and packages.is_there("python:json") and packages.is_there(str(tmp_path))
     for lacking in ("no-such-command", "python:no_such_module", os.path.join(tmp_path, "no-such-file")):
         assert not packages.is_there(lacking)
+    assert packages.is_there("python:json", [sys.executable]) and not packages.is_there("python:json", ["no-python"])
 
 
 def test_the_list_is_of_checks() -> None:

@@ -8,6 +8,7 @@ import re
 import shlex
 import subprocess
 import sys
+import threading
 from itertools import takewhile
 from pathlib import Path
 
@@ -15,6 +16,7 @@ import pytest
 
 from tools.ci import checks, run_checks, total
 from tools.ci.checks import CHECKS, Check
+from tools.ci.run_checks import Outcome, Task, run_tasks
 from tools.counts import MISSING, Counts
 from tools.markdown import with_table
 from tools.places import TOP, text_of
@@ -117,6 +119,50 @@ def test_a_build_that_fails_fails_its_checks_alone(tmp_path: Path, capsys: pytes
     )
     assert tested.counts == Counts(2, 2)
     assert "FAILED build of library" in tested.said
+
+
+def test_builds_are_first_and_then_the_longest_checks() -> None:
+    given = [Check("short", "", "", 5), Check("long", "", "", 9, long="more", long_seconds=2), PASSES]
+    given.append(Check("needy", "", "", 1, runs=("program", "library")))
+    tasks = run_checks.Tests("").tasks(given)
+    assert [task.name for task in tasks] == [
+        "build of program", "build of library", "long", "short", "a-check", "needy"
+    ]
+    assert [task.needs for task in tasks[1:3]] == [("build of program",), ()]
+    assert tasks[-1].needs == ("build of program", "build of library")
+    assert run_checks.Tests("", is_long=True).tasks(given)[2].name == "short"
+
+
+def outcomes(tasks: list[Task], processors: int = 1) -> list[tuple[str, Outcome]]:
+    said: list[tuple[str, Outcome]] = []
+    run_tasks(tasks, processors, lambda name, outcome: said.append((name, outcome)))
+    return said
+
+
+def test_a_task_waits_for_those_that_it_needs() -> None:
+    done = Outcome(Counts(1), "")
+    tasks = [Task("high", lambda: done, ("low",)), Task("low", lambda: done), Task("other", lambda: done)]
+    assert [name for name, _outcome in outcomes(tasks)] == ["low", "high", "other"]
+
+
+def test_an_error_of_a_task_is_its_failure() -> None:
+    def breaks() -> Outcome:
+        raise OSError("no room")
+
+    (_one, broken), (_other, passed) = outcomes([Task("one", breaks), Task("other", lambda: Outcome(Counts(1), ""))])
+    assert (broken.counts, passed.counts) == (Counts(failed=1), Counts(1))
+    assert "no room" in broken.remark
+
+
+def test_tasks_run_side_by_side() -> None:
+    meeting = threading.Barrier(2, timeout=60)
+
+    def meets() -> Outcome:
+        meeting.wait()
+        return Outcome(Counts(1), "")
+
+    ended = outcomes([Task("one", meets), Task("other", meets)], processors=2)
+    assert all(outcome.counts == Counts(1) for _name, outcome in ended)
 
 
 def test_the_list_names_what_is_there() -> None:

@@ -1,27 +1,30 @@
-"""Mutants of the reference for canvases: shows that their comparison with it finds each of these wrong rules.
+"""Mutants of the reference for canvases, which its comparison with canvases of the library has to find.
 
-    python3 -m tests.reference.canvas_mutants [--lists 200] [--seed 1]
+    python3 -m pytest tests/reference/canvas_mutants.py
 
-The wrong rules are planted in tests/reference/renderer.py and blending.py one at a time. For each some list of
-tests/reference/generated_lists.py must have another pixel, or a sample another colour or depth, than on a canvas of the
-library. Each list is drawn once with each number of samples a pixel. Exit status 1 if no list finds a mutant, or if the
-reference as it stands differs.
+For each mutant some list of tests/reference/generated_lists.py has another pixel, or a sample another colour or depth,
+than on a canvas. Each list is drawn once with each number of samples a pixel.
 """
 
 from __future__ import annotations
 
-import argparse
 import random
-import sys
 from dataclasses import replace
-from typing import Any, Iterator, Sequence
+from functools import lru_cache
+from typing import Any, Sequence
 
+import pytest
+
+from tests import cases, mutants
+from tests.cases import Case
+from tests.mutants import Mutant
 from tests.reference import generated_lists, renderer
-from tests.reference.compare_canvas import Readings, an_origin, drawn, of_canvas, of_reference, run_with_package
+from tests.reference.compare_canvas import Readings, an_origin, drawn, of_canvas, of_reference
+from tests.reference.mutants import rules
 from tools.draw_list import encode
-from tests.reference.mutants import planted
-from tools.places import text_of
+from tools.places import SHARED_LIBRARY, is_built
 
+SEED = 1
 LISTS = 200
 PATTERN = "enumerate(SAMPLES[scene.samples])"
 MASK = "triangle.state.sample_mask"
@@ -32,7 +35,7 @@ FAILED = "(depth, old[3]):\n        return old"
 FAILED_WITH_ALPHA = "(depth, old[3]):\n        return old[:4] + tuple([value(6)] if len(old) > 4 else [])"
 MEAN = "out.append((sum(sample[channel] for sample in pixel) + count // 2) // count)"
 
-# The mutants: the name of the mistake, the numbers of samples that can show it, the text of the rule in
+# The name of each mistake, the numbers of samples that can show it, the text of the rule in
 # tests/reference/renderer.py, and what stands in its place.
 MUTANTS: list[tuple[str, Sequence[int], str, str]] = [
     ("two samples in each other's place", (2,), "((4, 4), (-4, -4))", "((-4, -4), (4, 4))"),
@@ -137,72 +140,41 @@ BLENDING: list[tuple[str, str, str]] = [
     ("colours left where alpha is 0", "    if a == 0:\n        return 0", "    if a == 0:\n        return c"),
     ("alpha's operation for colours", "x = OPERATIONS[operation]", "x = OPERATIONS.get(equation.alpha_operation, max)"),
 ]
+EVERY = {
+    **{Mutant(name, (("renderer.py", old, new),)): counts for name, counts, old, new in MUTANTS},
+    **{Mutant(name, (("blending.py", old, new),)): (1, 4) for name, old, new in BLENDING},
+}
 
 
-class Canvases:
-    """What the library makes of each generated list, which it is asked for once: every second list at a
-    window of the screen."""
-
-    def __init__(self, seed: int) -> None:
-        self.seed = seed
-        self.known: dict[tuple[int, int], tuple[renderer.Scene, Readings]] = {}
-
-    def readings(self, number: int, samples: int) -> tuple[renderer.Scene, Readings]:
-        """The list `number` with so many samples a pixel as a scene, and what a canvas has of it."""
-        key = number, samples
-        if key not in self.known:
-            listed = generated_lists.canvas_list(self.seed, number, samples, number % 3 > 0)
-            size = listed["width"], listed["height"]
-            origin = an_origin(random.Random(f"{self.seed} {number}"), listed) if number % 2 else (0, 0)
-            scene = replace(renderer.read(encode(listed), renderer.CANVAS), origin=origin)
-            self.known[key] = scene, of_canvas(drawn(listed, [listed["draws"]], size, origin, 1), 1)
-        return self.known[key]
-
-    def first_difference(self, rules: Any, counts: Sequence[int], lists: int) -> int | None:
-        """The number of the first list of which these rules make something else; `None` if there is none."""
-        for number in range(lists):
-            for samples in counts:
-                scene, found = self.readings(number, samples)
-                if of_reference(rules, scene) != found:
-                    return number
-        return None
+@lru_cache(maxsize=None)
+def readings(number: int, samples: int) -> tuple[renderer.Scene, Readings]:
+    """The list `number` with so many samples a pixel as a scene, every second one at a window of the screen, and what a
+    canvas has of it, which the library is asked for once."""
+    assert is_built(SHARED_LIBRARY, made_by="make library")
+    listed = generated_lists.canvas_list(SEED, number, samples, number % 3 > 0)
+    size = listed["width"], listed["height"]
+    origin = an_origin(random.Random(f"{SEED} {number}"), listed) if number % 2 else (0, 0)
+    scene = replace(renderer.read(encode(listed), renderer.CANVAS), origin=origin)
+    return scene, of_canvas(drawn(listed, [listed["draws"]], size, origin, 1), 1)
 
 
-def mutants() -> Iterator[tuple[str, Sequence[int], Any]]:
-    """The names of all mutants, the numbers of samples that can show them, and their rules."""
-    source, blending = (text_of("tests", "reference", name) for name in ("renderer.py", "blending.py"))
-    for name, counts, old, new in MUTANTS:
-        yield name, counts, planted(source, old, new)
-    for name, old, new in BLENDING:
-        wrong = planted(blending, old, new)
-        rules = planted(source, PATTERN, PATTERN)
-        rules.blending = wrong
-        yield name, (1, 4), rules
+def first_difference(rules: Any, counts: Sequence[int]) -> str | None:
+    """The first list of which these rules make something else than a canvas has."""
+    for number in range(LISTS):
+        for samples in counts:
+            scene, found = readings(number, samples)
+            if of_reference(rules, scene) != found:
+                return f"list {number}"
+    return None
 
 
-def try_mutants(lists: int, seed: int) -> int:
-    canvases, survivors = Canvases(seed), 0
-    for name, counts, rules in mutants():
-        found = canvases.first_difference(rules, counts, lists)
-        print(f"{name}: " + ("found by no list" if found is None else f"found by list {found}"), flush=True)
-        survivors += found is None
-    wrong = canvases.first_difference(renderer, renderer.CANVAS.counts, lists)
-    if wrong is not None:
-        print(f"the reference as it stands differs from a canvas at list {wrong}")
-    print(f"{len(MUTANTS) + len(BLENDING)} mutants, {survivors} found by no list")
-    return 1 if survivors or wrong is not None else 0
+CASES = mutants.cases(EVERY, lambda mutant: first_difference(rules(mutant), EVERY[mutant]))
 
 
-def main() -> int:
-    parser = argparse.ArgumentParser(
-        description="Shows that the comparison with canvases finds each of the wrong rules."
-    )
-    parser.add_argument("--lists", type=int, default=LISTS, help=f"number of lists (default {LISTS})")
-    parser.add_argument("--seed", type=int, default=1, help="of the lists (default 1)")
-    options = parser.parse_args()
-    status = run_with_package("tests.reference.canvas_mutants")
-    return try_mutants(options.lists, options.seed) if status is None else status
+def test_the_rules_differ_nowhere() -> None:
+    assert first_difference(renderer, renderer.CANVAS.counts) is None
 
 
-if __name__ == "__main__":
-    sys.exit(main())
+@pytest.mark.parametrize("case", cases.parameters(CASES))
+def test_mutant(case: Case) -> None:
+    cases.run(case)

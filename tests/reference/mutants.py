@@ -1,28 +1,32 @@
-"""Mutants of the reference: shows that the comparison with the program finds each of these wrong rules.
+"""Mutants of the reference renderer, which its comparison with the program has to find.
 
-    python3 -m tests.reference.mutants [--lists 300] [--refused 600] [--seed 1] [--program bin/trirast]
+    python3 -m pytest tests/reference/mutants.py
 
-The wrong rules are planted in the reference renderer one at a time, and for each some list of
-tests/reference/generated_lists.py must get another answer than the program's. The program answers each list once, with
-one tile size and one worker, since the rules are what is tried here. Exit status 1 if no list finds a mutant, or if the
-reference as it stands differs.
+For each mutant some list of tests/reference/generated_lists.py has another answer than the program's. The program
+answers each list once, with one tile size and one worker, since the rules are what is tried here.
 """
 
 from __future__ import annotations
 
-import argparse
-import os
 import sys
 import types
+from functools import lru_cache, partial
 from typing import Any
 
+import pytest
+
+from tests import cases, mutants
+from tests.cases import Case
+from tests.mutants import Mutant
 from tests.reference import compare, generated_lists, renderer
 from tools.answers import Answer
-from tools.places import is_built, text_of
+from tools.places import PROGRAM, is_built, text_of
 
-# The mutants: the name of the mistake, the text of the rule in tests/reference/renderer.py, and what
-# stands in its place.
-MUTANTS = [
+SEED = 1
+# How many accepted lists are tried, and how many broken ones.
+LISTS, BROKEN = 300, 600
+# The name of each mistake, the text of the rule in tests/reference/renderer.py, and what stands in its place.
+MUTANTS = [Mutant(name, (("renderer.py", old, new),)) for name, old, new in (
     ("a sample pattern mirrored", "(-2, -6), (6, -2), (-6, 2), (2, 6)", "(2, -6), (-6, -2), (6, 2), (-2, 6)"),
     ("two samples in each other's place", "(-2, -6), (6, -2)", "(6, -2), (-2, -6)"),
     ("a centre off by one unit", "(128 + 16 * x, 128 + 16 * y)", "(128 + 16 * x - (count == 1), 128 + 16 * y)"),
@@ -116,17 +120,25 @@ MUTANTS = [
     ),
     ("an unknown key passed over", "if any(key not in known for key in value):", "if False:"),
     ("a fraction taken as whole", "if type(value) is not int:", "if type(value) not in (int, float):"),
-]
+)]
 
 
-def planted(source: str, old: str, new: str) -> Any:
-    """The reference renderer with one text in place of another, as a module."""
-    if source.count(old) != 1:
-        raise ValueError(f"the text stands {source.count(old)} times in renderer.py: {old!r}")
-    module = types.ModuleType("planted")
-    sys.modules["planted"] = module  # its data classes look for themselves there
-    exec(compile(source.replace(old, new), "planted", "exec"), module.__dict__)
-    return module
+def module(name: str, text: str) -> Any:
+    """A text of Python as a module."""
+    made = types.ModuleType(name)
+    sys.modules[name] = made  # its data classes look for themselves there
+    exec(compile(text, name, "exec"), made.__dict__)
+    return made
+
+
+def rules(mutant: Mutant) -> Any:
+    """A mutant of tests/reference/renderer.py as a module, over its own blending.py if that is what is wrong."""
+    read = partial(text_of, "tests", "reference")
+    texts = mutant.texts(read)
+    made = module("mutant", texts.get("renderer.py") or read("renderer.py"))
+    if "blending.py" in texts:
+        made.blending = module("mutant_blending", texts["blending.py"])
+    return made
 
 
 def answer(rules: Any, text: bytes) -> Answer | str:
@@ -139,58 +151,39 @@ def answer(rules: Any, text: bytes) -> Answer | str:
         return repr(error)
 
 
-class Answers:
-    """The program's answer to each generated list, which it is asked for once."""
-
-    def __init__(self, program: str, seed: int, lists: int, broken: int) -> None:
-        self.comparison = compare.Comparison(program)
-        self.seed, self.lists, self.broken = seed, lists, broken
-        self.known: dict[int, tuple[bytes, Answer]] = {}
-
-    def text(self, k: int) -> bytes:
-        """List k: accepted and broken ones in turn, as many of each as there are."""
-        if k < 2 * min(self.lists, self.broken):
-            is_list, k = k % 2 == 0, k // 2
-        else:
-            k -= min(self.lists, self.broken)
-            is_list = self.lists > self.broken
-        return generated_lists.accepted_text(self.seed, k) if is_list else generated_lists.broken_text(self.seed, k)
-
-    def known_answer(self, k: int) -> tuple[bytes, Answer]:
-        if k not in self.known:
-            text = self.text(k)
-            self.known[k] = (text, self.comparison.run(text, 32, 1))
-        return self.known[k]
-
-    def first_difference(self, rules: Any) -> int | None:
-        """The number of the first list to which the program's answer is not that of these rules; `None`
-        if there is none."""
-        for k in range(self.lists + self.broken):
-            text, found = self.known_answer(k)
-            if answer(rules, text) != found:
-                return k
-        return None
+def text_of_list(k: int) -> bytes:
+    """List k: accepted and broken ones in turn, as many of each as there are."""
+    if k < 2 * min(LISTS, BROKEN):
+        is_list, k = k % 2 == 0, k // 2
+    else:
+        k, is_list = k - min(LISTS, BROKEN), LISTS > BROKEN
+    return generated_lists.accepted_text(SEED, k) if is_list else generated_lists.broken_text(SEED, k)
 
 
-def main() -> int:
-    parser = argparse.ArgumentParser(description="Shows that the comparison finds each of the wrong rules.")
-    compare.add_options(parser, 300, 600)
-    options = parser.parse_args()
-    if not is_built(options.program):
-        return 2
-    source = text_of("tests", "reference", "renderer.py")
-    answers = Answers(os.path.abspath(options.program), options.seed, options.lists, options.refused)
-    survivors = 0
-    for name, old, new in MUTANTS:
-        found = answers.first_difference(planted(source, old, new))
-        print(f"{name}: " + ("found by no list" if found is None else f"found by list {found}"), flush=True)
-        survivors += found is None
-    wrong = answers.first_difference(renderer)
-    if wrong is not None:
-        print(f"the reference as it stands differs from the program at list {wrong}")
-    print(f"{len(MUTANTS)} mutants, {survivors} found by no list")
-    return 1 if survivors or wrong is not None else 0
+@lru_cache(maxsize=None)
+def known_answer(k: int) -> tuple[bytes, Answer]:
+    """List k, and the program's answer to it, which it is asked for once."""
+    assert is_built(PROGRAM)
+    text = text_of_list(k)
+    return text, compare.Comparison(PROGRAM).run(text, 32, 1)
 
 
-if __name__ == "__main__":
-    sys.exit(main())
+def first_difference(rules: Any) -> str | None:
+    """The first list to which the program's answer is not that of these rules."""
+    for k in range(LISTS + BROKEN):
+        text, found = known_answer(k)
+        if answer(rules, text) != found:
+            return f"list {k}"
+    return None
+
+
+CASES = mutants.cases(MUTANTS, lambda mutant: first_difference(rules(mutant)))
+
+
+def test_the_rules_differ_nowhere() -> None:
+    assert first_difference(renderer) is None
+
+
+@pytest.mark.parametrize("case", cases.parameters(CASES))
+def test_mutant(case: Case) -> None:
+    cases.run(case)

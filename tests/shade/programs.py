@@ -8,7 +8,6 @@ import subprocess
 from typing import Sequence
 
 from tools import places
-from tests import header_edits
 from tests.cases import MAX_SECONDS
 from tests.library.commands import WARNINGS, need, run
 from tools.places import EXAMPLES, INCLUDE, STATIC_LIBRARY, TOP
@@ -116,8 +115,3 @@ def program_of(source: str, *flags: str, more: Sequence[str] = (), name: str = "
     path, text = os.path.join(OUT, name or source), os.path.join(PROGRAMS, f"{source}.cpp")
     run([need("g++"), *STRICT, *flags, "-I", INCLUDE, text, canvas or library(), *more, "-o", path, "-pthread"])
     return path
-
-
-def edited(name: str) -> str:
-    """A folder with the headers, and with those of the examples, made wrong by an edit."""
-    return header_edits.apply("shade", name, [INCLUDE, PROGRAMS], os.path.join(OUT, name))

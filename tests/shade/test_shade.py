@@ -1,5 +1,5 @@
 """Shading: weights and pictures beside exact ones, each pair of a pixel and a triangle once, the same bytes by every
-compiler, and wrong edits of the headers.
+compiler, and mutants of the headers.
 
     python3 -m pytest tests/shade [-m 'long or not long']
 
@@ -15,15 +15,15 @@ import shutil
 
 import pytest
 
-from tests import cases, header_edits
+from tests import cases, mutants
 from tests.cases import Case, MissingError, case, must
 from tests.library.arm64 import COMPILER as ARM64, QEMU
 from tests.library.commands import need, run
 from tests.library.sanitized import SANITIZERS
+from tests.mutants import Mutant
 from tests.shade import exact, examples, programs
 from tests.shade.programs import (
-    IN_C, OUT, compiled, edited, failures, filter_by, filter_for_arm64, named, outcome,
-    tests_of,
+    IN_C, OUT, PROGRAMS, compiled, failures, filter_by, filter_for_arm64, named, outcome, tests_of,
 )
 from tools.places import INCLUDE
 
@@ -41,8 +41,8 @@ FILTERS = (
     ("g++", SCALAR, OFF, "-O1", *SANITIZERS), ("clang++", V3, OFF, "-O1", *SANITIZERS),
 )
 SHORT_FILTERS = 3
-# Edits that the short form tries: every so many.
-SHORT_EDITS = 16
+# The short form tries one mutant of so many.
+SHORT_MUTANTS = 16
 
 
 def on_this_processor(*flags: str) -> None:
@@ -126,13 +126,15 @@ def check_fast_math() -> None:
             run([need(compiler), f"-std={standard}", "-ffast-math", "-fsyntax-only", os.path.join(INCLUDE, header)])
 
 
-def check_edit(name: str) -> str:
-    """A wrong edit of a header is found: by a check, or by a signal where it leads out of an array. Returns by what."""
+def found_by(mutant: Mutant) -> str | None:
+    """What finds a mutant of a header: a check, or a signal where it leads out of an array."""
     on_this_processor(V3)
-    way = (IN_C,) if name.startswith("c.") else ()
-    status, text = outcome(tests_of(f"{name}-tests", "-O1", V3, OFF, *way, before=edited(name)), SEEDS)
-    must(status < 0 or (status == 1 and failures(text) != []), f"status {status}: the edit is not found")
-    return f"signal {-status}" if status < 0 else failures(text)[0]
+    folder = mutant.copied([INCLUDE, PROGRAMS], os.path.join(OUT, mutant.name))
+    way = (IN_C,) if mutant.name.startswith("c.") else ()
+    status, text = outcome(tests_of(f"{mutant.name}-tests", "-O1", V3, OFF, *way, before=folder), SEEDS)
+    if status < 0:
+        return f"signal {-status}"
+    return failures(text)[0] if status == 1 and failures(text) else None
 
 
 CASES = [
@@ -165,10 +167,7 @@ CASES = [
     case("a walk through a model", examples.check_walk, 200),
     case("standards", check_standards, is_long=True),
     case("fast-math is refused", check_fast_math),
-    *(
-        case(f"wrong edit: {name}", check_edit, name, is_long=k % SHORT_EDITS > 0)
-        for k, name in enumerate(header_edits.names("shade"))
-    ),
+    *mutants.cases(mutants.listed("tests", "shade", "mutants.edits"), found_by, SHORT_MUTANTS),
 ]
 
 

@@ -21,9 +21,6 @@ WIDTH, HEIGHT = 1280, 900
 SECONDS = 60
 SHIFT = 8
 
-# Of a file of the page: a text, and what is served in its place.
-Changes = Mapping[str, tuple[str, str]]
-
 # Errors of the page, from its first line on.
 WATCH = """globalThis.errors = [];
 addEventListener('error', (event) => errors.push(String(event.message)));
@@ -58,10 +55,10 @@ HANDLE = """(() => {
 
 
 class Handler(http.server.SimpleHTTPRequestHandler):
-    """Serves files without a log, some of them changed."""
+    """Serves files without a log, and other texts in place of some of them."""
 
-    def __init__(self, *arguments: Any, changes: Changes, **named: Any) -> None:
-        self.changes = changes
+    def __init__(self, *arguments: Any, texts: Mapping[str, str], **named: Any) -> None:
+        self.texts = texts
         super().__init__(*arguments, **named)
 
     def log_message(self, format: str, *arguments: Any) -> None:
@@ -69,16 +66,10 @@ class Handler(http.server.SimpleHTTPRequestHandler):
 
     def do_GET(self) -> None:
         name = self.path.lstrip("/")
-        if name not in self.changes:
+        if name not in self.texts:
             super().do_GET()
             return
-        with open(os.path.join(FOLDER, name), encoding="utf-8") as file:
-            text = file.read()
-        old, new = self.changes[name]
-        if old not in text:
-            self.send_error(500, f"{name} does not have {old}")
-            return
-        data = text.replace(old, new).encode()
+        data = self.texts[name].encode()
         self.send_response(200)
         self.send_header("Content-Type", self.guess_type(name))
         self.send_header("Content-Length", str(len(data)))
@@ -87,9 +78,9 @@ class Handler(http.server.SimpleHTTPRequestHandler):
 
 
 @contextlib.contextmanager
-def served(changes: Changes = {}) -> Iterator[str]:
-    """The address of the page, served on this machine alone."""
-    handler = functools.partial(Handler, directory=FOLDER, changes=changes)
+def served(texts: Mapping[str, str] = {}) -> Iterator[str]:
+    """The address of the page, served on this machine alone, with other texts of some files."""
+    handler = functools.partial(Handler, directory=FOLDER, texts=texts)
     with http.server.ThreadingHTTPServer(("127.0.0.1", 0), handler) as server:
         threading.Thread(target=server.serve_forever, daemon=True).start()
         try:

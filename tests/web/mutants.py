@@ -2,14 +2,18 @@
 
 from __future__ import annotations
 
-from tests.cases import CheckError, must
-from tests.web.explorer import Explorer, served
+from functools import partial
+
+from tests.cases import CheckError
+from tests.mutants import Mutant
+from tests.web.explorer import FOLDER, Explorer, served
 from tests.web.positions import check_positions
+from tools.places import text_of
 
 FIGURES = 25
 
 # What is wrong, the file, its text, and what is served in its place.
-MUTANTS = (
+MUTANTS = [Mutant(name, ((file, old, new),)) for name, file, old, new in (
     ("two samples of the pattern are swapped", "figure.js", "[[96, 32], [224, 96], ", "[[224, 96], [96, 32], "),
     ("two of sixteen samples are swapped", "figure.js", "[144, 144], [112, 80], ", "[112, 80], [144, 144], "),
     ("culling takes back for front", "draw_list.js", "'none', 'front', 'back'", "'none', 'back', 'front'"),
@@ -34,14 +38,14 @@ MUTANTS = (
         "event.shiftKey ? UNIT : 16 * this.step",
     ),
     ("a sample is marked as drawn wherever it is covered", "grid.js", "bits(of, 'drawn')", "bits(of, 'covers')"),
-)
+)]
 
 
-def check_mutant(explorer: Explorer, file: str, old: str, new: str) -> str:
-    with served({file: (old, new)}) as address:
+def found_by(explorer: Explorer, mutant: Mutant) -> str | None:
+    """How the figures differ on a page with this mistake."""
+    with served(mutant.texts(partial(text_of, FOLDER))) as address:
         try:
             check_positions(explorer, address, FIGURES, ("mutants",))
         except CheckError as error:
-            return f"found: {str(error)[:70]}"
-    must(False, "it was not found")
-    return ""
+            return str(error)
+    return None

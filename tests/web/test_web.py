@@ -11,6 +11,7 @@ from __future__ import annotations
 
 import os
 import subprocess
+from functools import partial
 from typing import Iterator
 
 import pytest
@@ -19,10 +20,11 @@ from tools import places
 from tests.library.commands import make
 from tools.packaging.common import make_anew
 from tools.places import PROGRAM, is_built
+from tests.mutants import Mutant, check
 from tests.posters.browser import chromium
 from tests.web import checks
 from tests.web.explorer import Explorer, explorer, served
-from tests.web.mutants import MUTANTS, check_mutant
+from tests.web.mutants import MUTANTS, found_by
 from tests.web.numbers import check_numbers
 from tests.web.positions import check_positions
 
@@ -30,10 +32,8 @@ OUT = os.path.join(places.OUT, "check-web")
 TARGET = "wasm64-unknown-unknown"
 FIGURES, MANY_FIGURES = 60, 200
 VIEWS = (("light", False), ("dark", False), ("light", True), ("dark", True))
-# One mutant of each file is enough for the shorter form.
-SOME_MUTANTS = {
-    next(mutant[0] for mutant in MUTANTS if mutant[1] == file) for file in {mutant[1] for mutant in MUTANTS}
-}
+# One mutant of each file is enough for the shorter form: the first.
+SOME_MUTANTS = {mutant.changes[0][0]: mutant for mutant in reversed(MUTANTS)}.values()
 
 
 def what_is_missing(rt: str) -> str | None:
@@ -112,9 +112,9 @@ def test_no_other_server(page: Explorer, address: str) -> None:
     checks.check_alone(page, address)
 
 
-@pytest.mark.parametrize(("file", "old", "new"), [
-    pytest.param(*mutant[1:], id=mutant[0], marks=[] if mutant[0] in SOME_MUTANTS else [pytest.mark.long])
+@pytest.mark.parametrize("mutant", [
+    pytest.param(mutant, id=mutant.name, marks=[] if mutant in SOME_MUTANTS else [pytest.mark.long])
     for mutant in MUTANTS
 ])
-def test_mutant(page: Explorer, file: str, old: str, new: str) -> None:
-    check_mutant(page, file, old, new)
+def test_mutant(page: Explorer, mutant: Mutant) -> None:
+    check(mutant, partial(found_by, page))

@@ -153,7 +153,7 @@ CHECKS = (
     Check(
         name="canvas-mutants",
         about="mutants of the second renderer's canvases",
-        command="tests.reference.canvas_mutants", seconds=25,
+        command="pytest tests/reference/canvas_mutants.py", seconds=25,
         runs=EVERYTHING, needs=COMPILER,
     ),
     Check(
@@ -176,7 +176,7 @@ CHECKS = (
     Check(
         name="mutants",
         about="mutants of the second renderer, which the comparison has to find",
-        command="tests.reference.mutants", seconds=25,
+        command="pytest tests/reference/mutants.py", seconds=25,
         runs=("program",),
     ),
     Check(
@@ -238,7 +238,7 @@ CHECKS = (
     ),
     Check(
         name="clip",
-        about="clipping in C, C++ and Python: samples covered once, the same bytes by every compiler, wrong edits",
+        about="clipping in C, C++ and Python: samples covered once, the same bytes by every compiler, mutants",
         command="pytest tests/clip", seconds=80,
         long="-m 'long or not long'", long_seconds=110,
         runs=("library",), needs=(*COMPILER, "g++"),
@@ -246,7 +246,7 @@ CHECKS = (
     Check(
         name="shade",
         about="shading in C and C++: weights and pictures beside exact ones, the same bytes by "
-        "every compiler, wrong edits",
+        "every compiler, mutants",
         command="pytest tests/shade", seconds=85,
         long="-m 'long or not long'", long_seconds=600,
         runs=("library",), needs=(*COMPILER, "g++"),

@@ -17,11 +17,12 @@ import shutil
 import signal
 import sys
 import time
+from concurrent.futures import FIRST_COMPLETED, Future, ThreadPoolExecutor, wait
+from dataclasses import dataclass
 from functools import partial
-from typing import Sequence
+from typing import Callable, Sequence
 
 from tools.ci.checks import BUILDS, CHECKS, Check, by_name
-from tools.ci.schedule import Ended, Outcome, Schedule, Task, clock
 from tools.ci.commands import Ran, run, stop_all
 from tools.counts import MISSING, Counts
 from tools.places import PYTHON_SOURCES, TOP
@@ -30,8 +31,6 @@ LOGS = os.path.join("out", "test")
 MINUTE = 60
 # Against a check that does not end, on a machine that may be slow and busy. What make builds may have to be proved.
 CHECK_SECONDS, LONG_SECONDS, BUILD_SECONDS = 40 * MINUTE, 120 * MINUTE, 120 * MINUTE
-# For the order of tasks alone.
-BUILD_LIKELY = 5 * MINUTE
 SKIPPED = re.compile(r"^skipped\b.*", re.MULTILINE)
 
 
@@ -48,16 +47,56 @@ def counted(ran: Ran) -> Counts:
     return counts or Counts(passed=1)
 
 
+@dataclass(frozen=True)
+class Outcome:
+    """How a check or a build ended."""
+
+    counts: Counts
+    # What is printed of it.
+    remark: str
+    # Of a processor.
+    seconds: float = 0.0
+    # The last lines of what it printed, if it failed.
+    details: tuple[str, ...] = ()
+
+
+@dataclass(frozen=True)
+class Task:
+    name: str
+    run: Callable[[], Outcome]
+    # The names of tasks that have to end before.
+    needs: tuple[str, ...] = ()
+
+
+def run_tasks(tasks: Sequence[Task], processors: int, tell: Callable[[str, Outcome], None]) -> None:
+    """Runs tasks, the first ones first, each as soon as those that it needs have ended and a processor is free. An
+    error of this program is a failure of the task alone."""
+    waiting, ended = list(tasks), set[str]()
+    running: dict[Future[Outcome], str] = {}
+    with ThreadPoolExecutor(processors) as pool:
+        while waiting or running:
+            ready = [task for task in waiting if ended.issuperset(task.needs)]
+            for task in ready[: processors - len(running)]:
+                waiting.remove(task)
+                running[pool.submit(task.run)] = task.name
+            for future in wait(running, return_when=FIRST_COMPLETED).done:
+                name, error = running.pop(future), future.exception()
+                ended.add(name)
+                tell(name, Outcome(Counts(failed=1), f"{type(error).__name__}: {error}") if error else future.result())
+
+
 class Tests:
     """A run of checks at the top of a repository."""
 
     def __init__(self, top: str, is_long: bool = False) -> None:
         self.top = top
         self.is_long = is_long
+        self.begun = time.monotonic()
         self.counts = Counts()
         self.seconds = 0.0
+        self.built: set[str] = set()
         self.skipped: list[str] = []
-        self.failures: list[Ended] = []
+        self.failures: dict[str, Outcome] = {}
 
     def log(self, name: str, ran: Ran) -> None:
         path = os.path.join(self.top, LOGS, f"{name}.log")
@@ -68,10 +107,14 @@ class Tests:
         ran = run(["make", *BUILDS[name]], self.top, BUILD_SECONDS)
         self.log(f"build-{name}", ran)
         if ran.status != 0:
-            return Outcome(False, f"make failed with status {ran.status}", ran.seconds, tuple(ran.last_lines(12)))
-        return Outcome(True, "there", ran.seconds, counts=Counts())
+            remark = f"make failed with status {ran.status}"
+            return Outcome(Counts(failed=1), remark, ran.seconds, tuple(ran.last_lines(12)))
+        self.built.add(name)
+        return Outcome(Counts(), "there", ran.seconds)
 
     def check(self, check: Check) -> Outcome:
+        if lacking := [name for name in check.runs if name not in self.built]:
+            return Outcome(Counts(failed=1), f"not run, since this failed: build of {lacking[0]}")
         # Some checks start programs that import the package.
         environment = {**os.environ, "PYTHONUNBUFFERED": "1", "PYTHONPATH": PYTHON_SOURCES}
         ran = run(check.words(self.is_long), self.top, LONG_SECONDS if self.is_long else CHECK_SECONDS, environment)
@@ -82,34 +125,31 @@ class Tests:
         self.skipped += [f"{check.name}: {found[0]}" for found in SKIPPED.finditer(ran.text)]
         late = " (its time was over)" if ran.status is None else ""
         details = tuple(ran.last_lines(40)) if counts.failed else ()
-        return Outcome(not counts.failed, f"{counts}{late}", ran.seconds, details, counts)
+        return Outcome(counts, f"{counts}{late}", ran.seconds, details)
 
-    def tell(self, ended: Ended) -> None:
-        outcome = ended.outcome
-        self.counts += outcome.number()
+    def tell(self, name: str, outcome: Outcome) -> None:
+        self.counts += outcome.counts
         self.seconds += outcome.seconds
-        if outcome.number() != Counts():
-            print(f"{clock(ended.at)} {outcome.seconds:7.1f}  {ended.task.name}: {outcome.remark}", flush=True)
-        if not outcome.has_passed:
-            self.failures.append(ended)
+        if outcome.counts != Counts():
+            minutes, seconds = divmod(int(time.monotonic() - self.begun), MINUTE)
+            print(f"{minutes:4}:{seconds:02} {outcome.seconds:7.1f}  {name}: {outcome.remark}", flush=True)
+        if outcome.counts.failed:
+            self.failures[name] = outcome
 
     def tasks(self, checks: Sequence[Check]) -> list[Task]:
-        """The builds that are needed, one after the other, and the checks behind them."""
-        wanted = [name for name in BUILDS if any(name in check.runs for check in checks)]
+        """The builds that are needed, one after the other, and then the checks, of which the longest are first."""
         made: list[Task] = []
-        for name in wanted:
-            # rt works in a crate for one command at a time.
-            # What has to be proved takes longer than any check.
-            before = tuple(task.name for task in made[-1:])
-            made.append(Task(f"build of {name}", partial(self.build, name), before, BUILD_LIKELY))
-        for check in checks:
+        for name in BUILDS:
+            if any(name in check.runs for check in checks):
+                # rt works in a crate for one command at a time.
+                before = tuple(task.name for task in made[-1:])
+                made.append(Task(f"build of {name}", partial(self.build, name), before))
+        for check in sorted(checks, key=lambda check: -(self.is_long and check.long_seconds or check.seconds)):
             needs = tuple(f"build of {name}" for name in check.runs)
-            seconds = self.is_long and check.long_seconds or check.seconds
-            made.append(Task(check.name, partial(self.check, check), needs, seconds))
+            made.append(Task(check.name, partial(self.check, check), needs))
         return made
 
     def run(self, checks: Sequence[Check], processors: int) -> Counts:
-        begun = time.monotonic()
         shutil.rmtree(os.path.join(self.top, LOGS), ignore_errors=True)
         os.makedirs(os.path.join(self.top, LOGS))
         able: list[Check] = []
@@ -119,18 +159,18 @@ class Tests:
                 self.counts += Counts(skipped=1)
             else:
                 able.append(check)
-        Schedule(self.tasks(able), processors, self.tell).run()
-        self.summarize(begun)
+        run_tasks(self.tasks(able), processors, self.tell)
+        self.summarize()
         return self.counts
 
-    def summarize(self, begun: float) -> None:
+    def summarize(self) -> None:
         for line in self.skipped:
             print(f"skipped: {line}")
-        for ended in self.failures:
-            print(f"\nFAILED {ended.task.name}: {ended.outcome.remark}; out/test/{ended.task.name}.log")
-            for line in ended.outcome.details:
+        for name, outcome in self.failures.items():
+            print(f"\nFAILED {name}: {outcome.remark}; out/test/{name}.log")
+            for line in outcome.details:
                 print(f"    {line}")
-        minutes = (time.monotonic() - begun) / 60
+        minutes = (time.monotonic() - self.begun) / MINUTE
         print(f"{minutes:.1f} minutes, {self.seconds / 60:.1f} of a processor", flush=True)
 
 
