@@ -1,5 +1,5 @@
 -- Tiles that are cleared one after another.
-use Rattle.std.proofs.Common.{◌≡◌, ◌≢◌, ◌∙◌, inl, inr, ap, sym, ℕ, ◌+◌, ◌-◌, ◌*◌, ◌/◌, ◌<◌, ◌≤◌, List, length, arith}
+use Rattle.std.proofs.Common.{◌≡◌, ◌≢◌, ◌∙◌, inl, inr, ap, sym, ℕ, ◌+◌, ◌-◌, ◌*◌, ◌/◌, ◌<◌, ◌≤◌, List, length, arith, take, drop}
 use Rattle.std.specs.Prelude.{slice_index_or}
 use Rattle.std.proofs.lemmas.Bool.{cases_lt}
 use Rattle.std.proofs.Math.Nat.{mul_comm}
@@ -7,13 +7,32 @@ use Rattle.std.proofs.lemmas.Nat.{mul-add-lt, same_from_place}
 use Rattle.grid.specs.Samples.{count_of}
 use Rattle.shade.specs.declared.sample.CanvasSample.{CanvasSample}
 use Rattle.lanes.specs.declared.block_samples.BlockSamples.{BlockSamples}
-use Rattle.canvas.proofs.Cut.{put, put_here, put_elsewhere}
-use Rattle.canvas.proofs.Places.{none, same_in}
-use Rattle.canvas.proofs.TileEntries.{uniform_same, plane_in}
+use Rattle.blocks.proofs.Cut.{put, put_here, put_elsewhere, part_of}
+use Rattle.blocks.proofs.Places.{none, same_in}
 use Rattle.canvas.specs.declared.canvas.Canvas.{Canvas}
-use Rattle.canvas.specs.Layout.{IsStoredIn, HasTile, columns_of, planes_of_tile, planes_of_row, plane_of, stored, stored_in_tile}
+use Rattle.blocks.specs.Layout.{planes_of_tile, stored_in_tile, IsUniformTile, way_of, id_of}
+use Rattle.canvas.specs.Layout.{IsStoredIn, HasTile, columns_of, plane_of, stored, planes_of_row}
 use Rattle.canvas.specs.Drawing.{AreCleared}
-use Rattle.canvas.specs.Tiles.{IsUniformTile, IsUniform, AreUniform, planes_in}
+use Rattle.canvas.specs.Tiles.{IsUniform, AreUniform, planes_in}
+use Rattle.grid.specs.declared.sample_count.SampleCount.{SampleCount}
+use Rattle.shade.proofs.Resolved.{some_samples}
+use Rattle.canvas.proofs.Places.{within_row}
+
+pub uniform_same : (count : SampleCount) (xs ys : List BlockSamples) → ((k : ℕ) → k < planes_of_tile count → slice_index_or ys k none ≡ slice_index_or xs k none) → IsUniformTile count xs → IsUniformTile count ys
+uniform_same count xs ys same u =
+    let first : slice_index_or ys 0 none ≡ slice_index_or xs 0 none = same 0 (omega arith) in
+    let sample : (i j s : ℕ) → s < count_of count → stored_in_tile count ys i j s ≡ stored_in_tile count xs i j s =
+    λ i j s h. same_in count (λ k. slice_index_or ys k none) (λ k. slice_index_or xs k none) i j s h same in
+    record {
+      cleared = λ k l. ap (λ (p : BlockSamples). way_of p k) first ∙ u.cleared k l;
+      one = λ i j s h. ap id_of (sample i j s h) ∙ u.one i j s h ∙ sym (ap id_of (sample 0 0 0 (some_samples count)));
+    }
+
+pub plane_in : (c : Canvas) (first column row : ℕ) (xs : List BlockSamples) (k : ℕ) → column < columns_of c → k < planes_of_tile c.count
+    → slice_index_or (planes_in c first column row xs) k none ≡ slice_index_or xs ((row - first) * planes_of_row c + (column * planes_of_tile c.count + k)) none
+plane_in c first column row xs k wide h =
+    part_of (take (planes_of_row c) (drop ((row - first) * planes_of_row c) xs)) (column * planes_of_tile c.count) (planes_of_tile c.count) none k h
+    ∙ part_of xs ((row - first) * planes_of_row c) (planes_of_row c) none (column * planes_of_tile c.count + k) (within_row c column k wide h)
 
 -- a tile's place by its number
 pub tiles_before : (r columns column each k : ℕ) → r * (columns * each) + column * each + k ≡ (r * columns + column) * each + k

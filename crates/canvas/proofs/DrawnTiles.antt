@@ -11,12 +11,12 @@ use Rattle.lanes.specs.Block.{stored_at}
 use Rattle.shade.specs.declared.placed.Placed.{Placed}
 use Rattle.raster.specs.declared.tile.Tile.{Tile}
 use Rattle.raster.specs.Samples.{IsSampleOf, place_of as place_in, stored as in_tile}
-use Rattle.canvas.proofs.Cut.{put, put_elsewhere, part_of}
+use Rattle.blocks.proofs.Cut.{put, put_elsewhere, part_of}
 use Rattle.canvas.proofs.Ends.{ends_at}
-use Rattle.canvas.proofs.Places.{none}
-use Rattle.canvas.proofs.TilePlanes.{by_way, own_place, within_own}
-use Rattle.canvas.specs.declared.way.Way.TheVariants.{Own}
-use Rattle.canvas.specs.Layout.{planes_of_tile, block_in_tile, way_of, stored_in_tile, way_in_tile, IsSameTile}
+use Rattle.blocks.proofs.Places.{none}
+use Rattle.blocks.proofs.TilePlanes.{by_way, own_place, within_own}
+use Rattle.blocks.specs.declared.way.Way.TheVariants.{Own}
+use Rattle.blocks.specs.Layout.{planes_of_tile, block_in_tile, way_of, stored_in_tile, way_in_tile, IsSameTile}
 use Rattle.canvas.specs.Drawing.{TileEnds, TileHasEnds}
 
 -- the planes of its own blocks, put back changed

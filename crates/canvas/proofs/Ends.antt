@@ -13,9 +13,10 @@ use Rattle.shade.proofs.Endings.{of_canvas, ends_more, ends-append, ends-unique}
 use Rattle.raster.specs.declared.tile.Tile.{Tile}
 use Rattle.raster.specs.Samples.{IsSampleOf}
 use Rattle.raster.specs.Drawing.{DrawsTile}
-use Rattle.canvas.proofs.Cut.{put}
+use Rattle.blocks.proofs.Cut.{put}
 use Rattle.canvas.specs.declared.canvas.Canvas.{Canvas}
-use Rattle.canvas.specs.Layout.{IsStoredIn, planes_of_tile, planes_of_row, stored, stored_in_tile}
+use Rattle.blocks.specs.Layout.{planes_of_tile, stored_in_tile}
+use Rattle.canvas.specs.Layout.{IsStoredIn, planes_of_row, stored}
 use Rattle.canvas.specs.Drawing.{HaveEnds, TileEnds, TileHasEnds}
 use Rattle.canvas.proofs.Places.{row_of, tile_of, row_put, row_kept, tile_put, tile_kept}
 

@@ -7,7 +7,8 @@ use Rattle.shade.specs.Canvas.{CanvasEnds}
 use Rattle.raster.specs.declared.tile.Tile.{Tile}
 use Rattle.raster.specs.Samples.{IsSampleOf, stored as in_tile}
 use Rattle.canvas.specs.declared.canvas.Canvas.{Canvas}
-use Rattle.canvas.specs.Layout.{IsStoredIn, stored, stored_in_tile}
+use Rattle.blocks.specs.Layout.{stored_in_tile}
+use Rattle.canvas.specs.Layout.{IsStoredIn, stored}
 
 -- Each sample of the tile rows from `first` to before `end` is this one.
 abbrev pub AreCleared : Canvas → ℕ → ℕ → CanvasSample → List BlockSamples → Type 0

@@ -22,7 +22,8 @@ pub struct Canvas {
 
 impl Canvas {
     ghost use Rattle.grid.specs.declared.pixels.TileSide.TheVariants.{T64};
-    ghost use Rattle.canvas.specs.Layout.{IsCanvasSize, columns_of, rows_of, planes_of_tile, planes_of_row};
+    ghost use Rattle.blocks.specs.Layout.{planes_of_tile};
+    ghost use Rattle.canvas.specs.Layout.{IsCanvasSize, columns_of, rows_of, planes_of_row};
 
     /// The canvas of this size, or `None` if it has no pixels or more than 4096 in a row or a column.
     pub fn new(width: u32, height: u32, count: SampleCount) -> Option<Canvas>

@@ -5,8 +5,8 @@ ghost use Rattle.canvas.specs.Layout.{columns_of, planes_of_rows};
 ghost use Rattle.canvas.specs.Drawing.{AreCleared};
 ghost use Rattle.canvas.specs.Tiles.{AreUniform};
 
-use crate::tile_planes::clear_tile;
 use crate::tile_rows::TileRows;
+use blocks::clear_tile;
 use lanes::BlockSamples;
 use shade::Sample;
 

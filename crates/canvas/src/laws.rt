@@ -1,6 +1,5 @@
 //! Laws of what is drawn. Their functions do nothing.
-ghost use Rattle.std.specs.Prelude.{Bool, if◌then◌else◌, ◌≡◌, ◌↔◌, ◌<◌, ◌≤◌, ◌^◌, ℕ, ◌+◌, ℤ, pos, ◌+ℤ◌, map, slice_index, List, ◌++◌, Option as Maybe, None as Nothing};
-ghost use Rattle.grid.specs.Samples.{count_of};
+ghost use Rattle.std.specs.Prelude.{◌≡◌, ◌↔◌, ◌<◌, ◌≤◌, ℕ, ◌+◌, ℤ, pos, ◌+ℤ◌, map, List, ◌++◌, Option as Maybe, None as Nothing};
 ghost use Rattle.grid.specs.declared.sample_count.SampleCount.{SampleCount};
 ghost use Rattle.lanes.specs.declared.block_samples.BlockSamples.{BlockSamples};
 ghost use Rattle.shade.specs.declared.sample.CanvasSample.{CanvasSample};
@@ -8,12 +7,7 @@ ghost use Rattle.shade.specs.declared.placed.Placed.{Placed};
 ghost use Rattle.shade.specs.Canvas.{CanvasEnds};
 ghost use Rattle.canvas.specs.declared.canvas.Canvas.{Canvas};
 ghost use Rattle.canvas.specs.declared.window.Origin.{Origin};
-ghost use Rattle.canvas.specs.declared.format.Format.{Format};
-ghost use Rattle.canvas.specs.Layout.{IsStoredIn, HasPixel, rows_of, stored};
-ghost use Rattle.canvas.specs.Pixels.{IsAsStored, HasAlpha, pixel_bytes, entry_of};
-ghost use Rattle.canvas.specs.Colours.{AreColours};
-ghost use Rattle.canvas.specs.Loaded.{AreStored};
-ghost use Rattle.canvas.specs.Tiles.{IsInTile, said_of, HasBytes, AreTileIds, AreTileColours};
+ghost use Rattle.canvas.specs.Layout.{IsStoredIn, rows_of, stored};
 ghost use Rattle.canvas.specs.Drawing.{HaveEnds};
 ghost use Rattle.canvas.specs.Window.{moved, HaveEndsOnScreen, IsSamePixel};
 ghost use Rattle.canvas.specs.Ids.{with_ids, IsLast, HasId};
@@ -57,32 +51,4 @@ pub fn moves_by_pixels()
         → (i j i' j' s : ℕ) → IsStoredIn c first end i j s → IsStoredIn c' first' end' i' j' s → IsSamePixel origin origin' i j i' j'
         → stored c' first' old' i' j' s ≡ stored c first old i j s →
         stored c' first' new' i' j' s ≡ stored c first new i j s }
-{}
-
-/// Storing the ids that were read of a tile changes no sample, and what was stored in a tile is what is read of it.
-pub fn keeps_tiles()
-    ensures ids { (c : Canvas) (first end column row : ℕ) (entries : List ℕ) (old new : List BlockSamples)
-        → AreTileIds c first end column row old entries → AreTileColours c first end column row entries old new
-        → (i j s : ℕ) → IsStoredIn c first end i j s → HasBytes (stored c first old i j s) →
-        stored c first new i j s ≡ stored c first old i j s }
-    ensures colours { (c : Canvas) (first end column row : ℕ) (entries back : List ℕ) (old new : List BlockSamples)
-        → AreTileColours c first end column row entries old new → AreTileIds c first end column row new back
-        → (i j s : ℕ) → IsStoredIn c first end i j s → IsInTile column row i j →
-        said_of c.count entries i j s < 2 ^ 24 → said_of c.count back i j s ≡ said_of c.count entries i j s }
-{}
-
-/// The colours that were stored for one sample index are those that are read of it, in a format whose channels are those
-/// that are stored: the first three bytes of each pixel are the same. So is its alpha, if alpha was stored too; else 255
-/// is read.
-pub fn keeps_colours()
-    ensures colours { (c : Canvas) (first end s stride : ℕ) (format : Format) (bytes before after : List ℕ) (too : Bool) (old new : List BlockSamples) → IsAsStored format → s < count_of c.count
-        → AreStored c first end s bytes format stride too old new → AreColours c first end new s format stride before after
-        → (i j k : ℕ) → HasPixel c first end i j → k < 3 →
-        slice_index after (entry_of first (pixel_bytes format) stride i j + k) ≡
-        slice_index bytes (entry_of first (pixel_bytes format) stride i j + k) }
-    ensures alpha { (c : Canvas) (first end s stride : ℕ) (format : Format) (bytes before after : List ℕ) (too : Bool) (old new : List BlockSamples) → IsAsStored format → HasAlpha format → s < count_of c.count
-        → AreStored c first end s bytes format stride too old new → AreColours c first end new s format stride before after
-        → (i j : ℕ) → HasPixel c first end i j →
-        slice_index after (entry_of first (pixel_bytes format) stride i j + 3) ≡
-        (if too then slice_index bytes (entry_of first (pixel_bytes format) stride i j + 3) else 255) }
 {}

@@ -4,14 +4,15 @@ ghost use Rattle.lanes.specs.declared.block_samples.BlockSamples.{BlockSamples a
 ghost use Rattle.shade.specs.declared.placed.Placed.{Placed};
 ghost use Rattle.raster.specs.Samples.{planes_of};
 ghost use Rattle.grid.specs.declared.pixels.TileSide.TheVariants.{T64};
-ghost use Rattle.canvas.specs.Layout.{columns_of, rows_of, planes_of_tile, planes_of_row, planes_of_rows};
+ghost use Rattle.blocks.specs.Layout.{planes_of_tile};
+ghost use Rattle.canvas.specs.Layout.{columns_of, rows_of, planes_of_row, planes_of_rows};
 ghost use Rattle.canvas.specs.Drawing.{HaveEnds, TileEnds, TileHasEnds};
 ghost use Rattle.canvas.specs.Rows.{AreOfRow, AreOfTile, numbered};
 
 use crate::canvas::Canvas;
 use crate::row_list::RowList;
-use crate::tile_planes::fill_tile;
 use crate::tile_rows::TileRows;
+use blocks::fill_tile;
 use lanes::BlockSamples;
 use raster::{Tile, draw_triangle};
 use reach::{Bounds, NOWHERE, Spans, next_bit};

@@ -3,14 +3,15 @@ ghost use Rattle.std.specs.Prelude.{◌≡◌, ◌+◌, ◌<◌, ◌≤◌, leng
 ghost use Rattle.raster.specs.Samples.{planes_of};
 ghost use Rattle.reach.specs.Reach.{AreReached};
 ghost use Rattle.grid.specs.declared.pixels.TileSide.TheVariants.{T64};
-ghost use Rattle.canvas.specs.Layout.{rows_of, planes_of_tile, planes_of_row, planes_of_rows};
+ghost use Rattle.blocks.specs.Layout.{planes_of_tile};
+ghost use Rattle.canvas.specs.Layout.{rows_of, planes_of_row, planes_of_rows};
 ghost use Rattle.canvas.specs.Drawing.{HaveEnds, TileEnds, TileHasEnds};
 ghost use Rattle.canvas.specs.Rows.{IsMaskOf};
 
 use crate::canvas::Canvas;
 use crate::hidden::first_shown;
-use crate::tile_planes::fill_tile;
 use crate::tile_rows::TileRows;
+use blocks::fill_tile;
 use lanes::BlockSamples;
 use raster::{Tile, draw_triangle};
 use reach::{CHUNK, Reached, reach_of};

@@ -2,9 +2,9 @@
 use Rattle.std.specs.Prelude.{⊤}
 use Rattle.std.proofs.Common.{◌≡◌, ◌≢◌, ◌↔◌, ◌∙◌, refl, sym, ap, subst, inl, inr, ℕ, max, ℤ, Option, List, Result, Ok, Err, IsOk, IfErr, OnOk, MatchResult}
 use Rattle.std.proofs.lemmas.Bool.{false≢true}
-use Rattle.canvas.specs.declared.misfit.Misfit.{Misfit}
+use Rattle.readout.specs.declared.misfit.Misfit.{Misfit}
 use Rattle.canvas.specs.declared.tile_rows.TileRows.{TileRows as Rows}
-use Rattle.canvas.specs.Pixels.{IsLargeEnough}
+use Rattle.readout.specs.Pixels.{IsLargeEnough}
 use Rattle.grid.specs.Samples.{count_of, pattern_of}
 use Rattle.model.specs.Checking.{Checks, done as checked, check, followed_by, Pass, FirstIs, IsJudged}
 use Rattle.model.proofs.Checking.{pass_both, fails_later}

@@ -2,11 +2,11 @@
 use Rattle.std.proofs.Common.{◌≡◌, ◌≢◌, inl, inr, refl, sym, ap, subst, ℕ, ◌≤◌, List, take, slice_index, arith}
 use Rattle.lanes.specs.declared.block_samples.BlockSamples.{BlockSamples}
 use Rattle.canvas.specs.declared.canvas.Canvas.{Canvas}
-use Rattle.canvas.specs.declared.misfit.Misfit.{Misfit}
+use Rattle.readout.specs.declared.misfit.Misfit.{Misfit}
 use Rattle.canvas.specs.declared.tile_rows.TileRows.{TileRows as Rows}
 use Rattle.canvas.specs.Layout.{HasTile}
-use Rattle.canvas.specs.Tiles.{IsTileMisfit, IsIdCount, AreTileIds}
-use Rattle.canvas.proofs.TileEntries.{many_entries}
+use Rattle.readout.specs.Tiles.{IsTileMisfit, IsIdCount, AreTileIds}
+use Rattle.readout.proofs.TileEntries.{many_entries}
 use Rattle.model.specs.Checking.{done, check, followed_by, Pass, FirstIs}
 use Rattle.model.proofs.Checking.{pass_both, fails_later}
 use Rattle.c_abi.specs.declared.status.Status.TheVariants.{BufferTooSmall, BadTile}

@@ -3,11 +3,11 @@ use Rattle.std.specs.Prelude.{◌≡◌, ◌⊎◌, ℕ, Bool, ◌==◌, ◌+◌
 use Rattle.model.specs.Checking.{Checks, done, check, followed_by}
 use Rattle.grid.specs.Samples.{IsPattern, pattern_of}
 use Rattle.canvas.specs.declared.canvas.Canvas.{Canvas}
-use Rattle.canvas.specs.declared.format.Format.{Format}
-use Rattle.canvas.specs.declared.format.Format.TheVariants.{Rgb8, Rgba8, Bgra8, Rgba8Straight, Bgra8Straight}
+use Rattle.readout.specs.declared.format.Format.{Format}
+use Rattle.readout.specs.declared.format.Format.TheVariants.{Rgb8, Rgba8, Bgra8, Rgba8Straight, Bgra8Straight}
 use Rattle.canvas.specs.declared.tile_rows.TileRows.{TileRows}
 use Rattle.canvas.specs.Layout.{IsCanvasSize}
-use Rattle.canvas.specs.Pixels.{pixel_bytes}
+use Rattle.readout.specs.Pixels.{pixel_bytes}
 use Rattle.c_abi.specs.Sizes.{IsOwnSize}
 use Rattle.c_abi.specs.declared.status.Status.{Status}
 use Rattle.c_abi.specs.declared.status.Status.TheVariants.{BufferTooSmall, BadTileRows, BadStructSize, BadCanvas, BadMemory, BadFormat, BadSample, BadStride}

@@ -4,10 +4,11 @@ use Rattle.model.specs.Checking.{Checks, done, check, followed_by}
 use Rattle.grid.specs.Samples.{count_of, pattern_of}
 use Rattle.lanes.specs.declared.block_samples.BlockSamples.{BlockSamples}
 use Rattle.canvas.specs.declared.canvas.Canvas.{Canvas}
-use Rattle.canvas.specs.declared.misfit.Misfit.{Misfit}
-use Rattle.canvas.specs.declared.misfit.Misfit.TheVariants.{Pixels, Sample, Tile}
-use Rattle.canvas.specs.Pixels.{pixel_bytes}
-use Rattle.canvas.specs.Tiles.{tile_entries, IsUniform, AreTileIds}
+use Rattle.readout.specs.declared.misfit.Misfit.{Misfit}
+use Rattle.readout.specs.declared.misfit.Misfit.TheVariants.{Pixels, Sample, Tile}
+use Rattle.readout.specs.Pixels.{pixel_bytes}
+use Rattle.canvas.specs.Tiles.{IsUniform}
+use Rattle.readout.specs.Tiles.{tile_entries, AreTileIds}
 use Rattle.c_abi.specs.declared.status.Status.{Status}
 use Rattle.c_abi.specs.declared.status.Status.TheVariants.{BufferTooSmall, BadFormat, BadSample, BadTile}
 use Rattle.canvas_c.specs.declared.piece.CanvasHead.{CanvasHead}

@@ -1,14 +1,14 @@
 //! Depths and ids, written to the caller's memory.
 ghost use Rattle.std.specs.Prelude.{◌≡◌, ◌≢◌, ◌<◌, length, map, OnOk, OnErr, ⊤};
-ghost use Rattle.canvas.specs.Colours.{AreEntries, AreDepths, AreIds};
+ghost use Rattle.readout.specs.Colours.{AreEntries, AreDepths, AreIds};
 ghost use Rattle.model.specs.Checking.{IsJudged};
 ghost use Rattle.c_abi.specs.Calls.{IsStatus};
 ghost use Rattle.canvas_c.specs.Pieces.{OnRows, entries_of as row_entries, entries_checks};
 
 use crate::piece::{CanvasHead, CanvasPiece, fitted, rows_of};
 use c_abi::{Status, status_of};
-use canvas::Entry;
 use lanes::BlockSamples;
+use readout::{Entry, View};
 
 /// The bytes of a depth and of an id.
 const DEPTH_BYTES: usize = size_of::<u16>();
@@ -52,7 +52,7 @@ fn entries_into<E: Entry>(
         return Err(Status::BadStride);
     }
     let stride = entries_of(head.width, entry_bytes, stride);
-    fitted(rows.view(planes).entries(sample, entries, stride))
+    fitted(View::of(&rows, planes).entries(sample, entries, stride))
 }
 
 /// Writes the depth of sample `sample` of each pixel of these tile rows. Entries of no pixel are unchanged. Returns the

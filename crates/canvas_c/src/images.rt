@@ -1,9 +1,9 @@
 //! Pictures in the caller's memory.
 ghost use Rattle.std.specs.Prelude.{◌≡◌, ◌≢◌, ◌↔◌, ◌*◌, ◌≤◌, length, IsSome, IfSome, IfOk, OnOk, OnErr, ⊤};
 ghost use Rattle.canvas.specs.Layout.{planes_of_rows};
-ghost use Rattle.canvas.specs.Colours.{AreResolved};
-ghost use Rattle.canvas.specs.Pixels.{pixel_bytes};
-ghost use Rattle.canvas.specs.Loaded.{AreLoaded};
+ghost use Rattle.readout.specs.Colours.{AreResolved};
+ghost use Rattle.readout.specs.Pixels.{pixel_bytes};
+ghost use Rattle.readout.specs.Loaded.{AreLoaded};
 ghost use Rattle.model.specs.Checking.{IsJudged, check, followed_by, done as checked};
 ghost use Rattle.c_abi.specs.Calls.{IsStatus};
 ghost use Rattle.c_abi.specs.declared.status.Status.TheVariants as failed;
@@ -11,8 +11,9 @@ ghost use Rattle.canvas_c.specs.Pieces.{has_alpha, AreRowsOf, OnRows, IsFormat, 
 
 use crate::piece::{CanvasHead, CanvasPiece, fitted, rows_of};
 use c_abi::{Status, status_of};
-use canvas::{Format, TileRows};
+use canvas::TileRows;
 use lanes::BlockSamples;
+use readout::{Format, View, load};
 
 /// The format of this number.
 fn format_of(number: u32) -> Option<Format>
@@ -77,7 +78,8 @@ fn load_into(
 {
     let (rows, format) = image_rows(head, planes, format)?;
     let mut piece = rows.over(planes);
-    fitted(piece.load(
+    fitted(load(
+        &mut piece,
         pixels,
         format,
         stride_of(head, format, stride),
@@ -126,7 +128,7 @@ pub extern "C" fn trirast_canvas_resolve(
 {
     match image_rows(&canvas.head, canvas.planes, format) {
         Ok((rows, format)) => {
-            let view = rows.view(canvas.planes);
+            let view = View::of(&rows, canvas.planes);
             let stride = stride_of(&canvas.head, format, stride);
             status_of(fitted(view.resolve(pixels, format, stride)))
         }

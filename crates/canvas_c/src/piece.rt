@@ -6,9 +6,10 @@ ghost use Rattle.grid.specs.Samples.{pattern_of};
 ghost use Rattle.canvas_c.specs.Pieces.{IsCount, AreChannels, IsCanvas, IsWhole, has_alpha, planes_listed, tile_rows_of, AreRowsOf, piece_checks};
 
 use c_abi::{Status, is_own_size};
-use canvas::{Canvas, Misfit, TileRows};
+use canvas::{Canvas, TileRows};
 use grid::SampleCount;
 use lanes::BlockSamples;
+use readout::Misfit;
 
 /// The bytes of a plane of samples.
 const PLANE_BYTES: usize = size_of::<BlockSamples>();

@@ -2,9 +2,9 @@
 ghost use Rattle.std.specs.Prelude.{◌≡◌, ◌≢◌, ◌*◌, ◌<◌, length, IfOk, OnOk, OnErr, ⊤};
 ghost use Rattle.grid.specs.Samples.{count_of, pattern_of};
 ghost use Rattle.canvas.specs.Layout.{planes_of_rows};
-ghost use Rattle.canvas.specs.Pixels.{pixel_bytes};
-ghost use Rattle.canvas.specs.Colours.{AreColours};
-ghost use Rattle.canvas.specs.Loaded.{AreStored};
+ghost use Rattle.readout.specs.Pixels.{pixel_bytes};
+ghost use Rattle.readout.specs.Colours.{AreColours};
+ghost use Rattle.readout.specs.Loaded.{AreStored};
 ghost use Rattle.model.specs.Checking.{IsJudged, check, followed_by, done as checked};
 ghost use Rattle.c_abi.specs.Calls.{IsStatus};
 ghost use Rattle.c_abi.specs.declared.status.Status.TheVariants as failed;
@@ -14,8 +14,9 @@ ghost use Rattle.canvas_c.specs.Samples.{colours_checks};
 use crate::images::{image_rows, stride_of};
 use crate::piece::{CanvasHead, CanvasPiece, fitted};
 use c_abi::{Status, status_of};
-use canvas::{Format, TileRows};
+use canvas::TileRows;
 use lanes::BlockSamples;
+use readout::{Format, View, store};
 
 /// The tile rows that the caller names, and the format of this number, if a pixel has the sample.
 fn sample_rows(
@@ -62,7 +63,8 @@ fn store_into(
 {
     let (rows, format) = sample_rows(head, planes, sample, format)?;
     let mut piece = rows.over(planes);
-    fitted(piece.store(
+    fitted(store(
+        &mut piece,
         sample,
         pixels,
         format,
@@ -114,7 +116,7 @@ pub extern "C" fn trirast_canvas_colors(
 {
     match sample_rows(&canvas.head, canvas.planes, sample, format) {
         Ok((rows, format)) => {
-            let view = rows.view(canvas.planes);
+            let view = View::of(&rows, canvas.planes);
             let stride = stride_of(&canvas.head, format, stride);
             status_of(fitted(view.colors(sample, pixels, format, stride)))
         }

@@ -1,6 +1,6 @@
 //! The samples of one tile, in the caller's memory.
 ghost use Rattle.std.specs.Prelude.{◌≡◌, ◌≢◌, length, OnOk, OnErr, ⊤};
-ghost use Rattle.canvas.specs.Tiles.{AreTileColours};
+ghost use Rattle.readout.specs.Tiles.{AreTileColours};
 ghost use Rattle.model.specs.Checking.{IsJudged};
 ghost use Rattle.c_abi.specs.Calls.{IsStatus};
 ghost use Rattle.canvas_c.specs.Pieces.{OnRows};
@@ -8,8 +8,8 @@ ghost use Rattle.canvas_c.specs.Samples.{tile_ids_checks, tile_store_checks, sta
 
 use crate::piece::{CanvasHead, CanvasPiece, rows_of};
 use c_abi::{Status, status_of};
-use canvas::Misfit;
 use lanes::BlockSamples;
+use readout::{Misfit, View, tile_store};
 
 /// The status of a call for a tile that does not fit.
 fn status_for_tile(misfit: Misfit) -> Status
@@ -43,7 +43,7 @@ fn ids_into(
     ensures kept { OnErr result (ids.new ≡ ids.old) }
 {
     let rows = rows_of(head, planes)?;
-    match rows.view(planes).tile_ids(column, row, ids) {
+    match View::of(&rows, planes).tile_ids(column, row, ids) {
         Ok(many) => Ok(is_one(many)),
         Err(misfit) => Err(status_for_tile(misfit)),
     }
@@ -90,7 +90,7 @@ fn store_in_tile(
 {
     let rows = rows_of(head, planes)?;
     let mut piece = rows.over(planes);
-    match piece.tile_store(column, row, colours) {
+    match tile_store(&mut piece, column, row, colours) {
         Ok(()) => Ok(()),
         Err(misfit) => Err(status_for_tile(misfit)),
     }

@@ -10,8 +10,8 @@ use Rattle.model.specs.Picture.{IsDepthPixel, PixelOf, IsPixel, IsPicture, pixel
 use Rattle.shade.specs.Canvas.{colour_and_depth}
 use Rattle.canvas.specs.declared.canvas.Canvas.{Canvas}
 use Rattle.canvas.specs.Layout.{rows_of, stored}
-use Rattle.canvas.specs.Pixels.{entry_of}
-use Rattle.canvas.specs.Colours.{AreDepths}
+use Rattle.readout.specs.Pixels.{entry_of}
+use Rattle.readout.specs.Colours.{AreDepths}
 use Rattle.canvas_picture.specs.Batches.{IsCanvasOf, AreListed, AreMade, ArePairsOf}
 use Rattle.canvas_picture.proofs.Batched.{has_pixel, sample_end, number_below, in_part}
 

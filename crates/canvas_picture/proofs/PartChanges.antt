@@ -5,13 +5,13 @@ use Rattle.std.proofs.lemmas.List.{get_or_append_left}
 use Rattle.lanes.specs.declared.block_samples.BlockSamples.{BlockSamples}
 use Rattle.shade.specs.declared.sample.CanvasSample.{CanvasSample}
 use Rattle.canvas.specs.declared.canvas.Canvas.{Canvas}
-use Rattle.canvas.specs.declared.format.Format.{Format}
-use Rattle.canvas.specs.Colours.{id_of}
+use Rattle.readout.specs.declared.format.Format.{Format}
+use Rattle.blocks.specs.Layout.{id_of}
 use Rattle.canvas.specs.Layout.{IsStoredIn, HasPixel, stored}
-use Rattle.canvas.specs.Loaded.{coloured, AreChanged, AreLoaded, AreStored}
-use Rattle.canvas.specs.Pixels.{pixel_bytes, entry_of}
-use Rattle.canvas.specs.Tiles.{IsInTile, said_of, with_colour, AreTileIds, AreTileColours}
-use Rattle.canvas.proofs.Changes.{coloured_same}
+use Rattle.readout.specs.Loaded.{coloured, AreChanged, AreLoaded, AreStored}
+use Rattle.readout.specs.Pixels.{pixel_bytes, entry_of}
+use Rattle.readout.specs.Tiles.{IsInTile, said_of, with_colour, AreTileIds, AreTileColours}
+use Rattle.readout.proofs.Changes.{coloured_same}
 use Rattle.canvas.proofs.Places.{in_upper, in_lower}
 use Rattle.canvas_picture.specs.Parts.{AreUpper, AreUpperRows}
 use Rattle.canvas_picture.proofs.Parts.{of_both, above_end, below_end}

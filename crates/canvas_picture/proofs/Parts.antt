@@ -11,14 +11,14 @@ use Rattle.shade.specs.declared.sample.CanvasSample.{CanvasSample}
 use Rattle.shade.specs.Canvas.{CanvasEnds}
 use Rattle.shade.proofs.Resolved.{resolved_same}
 use Rattle.canvas.specs.declared.canvas.Canvas.{Canvas}
-use Rattle.canvas.specs.declared.format.Format.{Format}
+use Rattle.readout.specs.declared.format.Format.{Format}
 use Rattle.canvas.specs.Layout.{IsStoredIn, HasPixel, columns_of, stored}
 use Rattle.canvas.specs.Drawing.{AreCleared, HaveEnds}
-use Rattle.canvas.specs.Pixels.{pixel_bytes, entry_of, AreWritten}
-use Rattle.canvas.specs.Colours.{IsColourOfPixel, IsAlphaOfPixel, IsPixelOf, AreResolved, AreEntries}
+use Rattle.readout.specs.Pixels.{pixel_bytes, entry_of, AreWritten}
+use Rattle.readout.specs.Colours.{IsColourOfPixel, IsAlphaOfPixel, IsPixelOf, AreResolved, AreEntries}
 use Rattle.canvas.proofs.Places.{in_upper, in_lower}
-use Rattle.canvas.proofs.PixelColours.{bytes_same}
-use Rattle.canvas.proofs.Units.{below_unit}
+use Rattle.readout.proofs.PixelColours.{bytes_same}
+use Rattle.readout.proofs.Units.{below_unit}
 use Rattle.canvas_picture.specs.Parts.{AreUpper, AreUpperRows}
 
 -- ---- samples

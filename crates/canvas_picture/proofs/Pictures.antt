@@ -9,10 +9,10 @@ use Rattle.model.specs.Scene.{Scene}
 use Rattle.model.specs.Picture.{IsColour, IsColourPixel, PixelOf, IsPixel, IsPicture, pixel_at, output_pixel_bytes}
 use Rattle.shade.specs.Canvas.{colour_and_depth}
 use Rattle.canvas.specs.declared.canvas.Canvas.{Canvas}
-use Rattle.canvas.specs.declared.format.Format.TheVariants.{Rgb8}
+use Rattle.readout.specs.declared.format.Format.TheVariants.{Rgb8}
 use Rattle.canvas.specs.Layout.{rows_of, stored}
-use Rattle.canvas.specs.Pixels.{entry_of}
-use Rattle.canvas.specs.Colours.{IsPixelOf, AreResolved}
+use Rattle.readout.specs.Pixels.{entry_of}
+use Rattle.readout.specs.Colours.{IsPixelOf, AreResolved}
 use Rattle.canvas_picture.specs.Batches.{IsCanvasOf, AreListed, AreMade}
 use Rattle.canvas_picture.proofs.Batched.{has_pixel, sample_end, number_below, in_part}
 

@@ -1,9 +1,10 @@
 //! Triangles, states and blends that look random, and small canvases for them.
 ghost use Rattle.std.specs.Prelude.{◌≤◌, length};
 
-use canvas::{Canvas, Piece, TileRows, Vertex, View};
+use canvas::{Canvas, Piece, TileRows, Vertex};
 use grid::{Cull, PixelBox, Point, SampleCount, Tri};
 use lanes::BlockSamples;
+use readout::View;
 use shade::{
     Blend, BlendFactor, BlendOperation, DepthTest, Equation, Merge, Placed, Sample, State, Stored,
 };
@@ -206,7 +207,7 @@ pub(crate) fn piece<'a>(
 /// Tile rows with their planes, to be read out.
 pub(crate) fn view<'a>(rt: &impl Abort, rows: &TileRows, samples: &'a [BlockSamples]) -> View<'a> {
     assert!(rt; rows.fits(samples.len()));
-    rows.view(samples)
+    View::of(rows, samples)
 }
 
 pub(crate) fn small_canvas(rt: &impl Abort, count: SampleCount) -> Canvas {

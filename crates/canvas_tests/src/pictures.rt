@@ -4,8 +4,9 @@ use crate::fixtures::{
     CLEAR, CLEAR_ALPHA, Numbers, UNTOUCHED, cleared, piece, placed, small_canvas, stored,
     untouched, view,
 };
-use canvas::{Canvas, Format, Ids, Indexed, Misfit, Origin, View, Window};
+use canvas::{Canvas, Ids, Indexed, Origin, Window};
 use grid::{Cull, PixelBox, Point, SampleCount, Tri, sample_at};
+use readout::{Format, Misfit, View, load};
 use shade::{
     Blend, CanvasSample, DepthTest, MAX_SAMPLES, Merge, Placed, Sample, State, apply_on_canvas,
     resolved_colour,
@@ -298,7 +299,13 @@ fn resolves(
     let mut bytes = untouched(alloc, stride * 66)?;
     let resolved = view(rt, &rows, &samples).resolve(&mut bytes, format, stride);
     let mut other = cleared(alloc, &rows)?;
-    let loaded = piece(rt, &rows, &mut other).load(&bytes, format, stride, true);
+    let loaded = load(
+        &mut piece(rt, &rows, &mut other),
+        &bytes,
+        format,
+        stride,
+        true,
+    );
     let mut again = untouched(alloc, stride * 66)?;
     let returned = view(rt, &rows, &other).resolve(&mut again, format, stride);
     let done = resolved.is_ok() && loaded.is_ok() && returned.is_ok();
@@ -471,7 +478,13 @@ fn does_nothing_where_sizes_do_not_fit(rt: HostRuntime) -> Result<(), Fail> {
     assert_eq!(rt; narrow, Err(Misfit::Pixels));
     let long = view(&rt, &rows, &samples).resolve(&mut bytes, Format::Rgb8, 211);
     assert_eq!(rt; long, Err(Misfit::Pixels));
-    let wide = piece(&rt, &rows, &mut samples).load(&bytes, Format::Rgba8, 280, true);
+    let wide = load(
+        &mut piece(&rt, &rows, &mut samples),
+        &bytes,
+        Format::Rgba8,
+        280,
+        true,
+    );
     assert_eq!(rt; wide, Err(Misfit::Pixels));
     assert!(rt; bytes == untouched(rt.alloc(), 210 * 66)?);
     let view = view(&rt, &rows, &samples);

@@ -1,11 +1,13 @@
 //! Tiles whose blocks are kept in each way, compared with those whose blocks all have planes of their own.
 use crate::fixtures::{CLEAR, CLEAR_ALPHA, Numbers, cleared, piece, stored, untouched, view};
-use canvas::{
-    Canvas, FlatBlock, Format, TileRows, fill_block, fill_tile, has_pairs, is_cleared, make_single,
-    pair_block, replace_samples, second_place, single_block,
+use blocks::{
+    FlatBlock, fill_block, fill_tile, has_pairs, is_cleared, make_single, pair_block,
+    replace_samples, second_place, single_block,
 };
+use canvas::{Canvas, TileRows};
 use grid::SampleCount;
 use lanes::BlockSamples;
+use readout::Format;
 use shade::{CanvasSample, Sample};
 use std::alloc::Global;
 use std::process::Abort;
@@ -147,7 +149,14 @@ fn read_out(
 
 /// Stores a picture in place of the colours of the first sample of each pixel.
 fn store(rt: &impl Abort, rows: &TileRows, picture: &[u8], samples: &mut [BlockSamples]) {
-    let stored = piece(rt, rows, samples).store(0, picture, Format::Bgra8, 256, true);
+    let stored = readout::store(
+        &mut piece(rt, rows, samples),
+        0,
+        picture,
+        Format::Bgra8,
+        256,
+        true,
+    );
     assert!(rt; stored.is_ok());
 }
 

@@ -7,7 +7,7 @@ use Rattle.shade.specs.declared.placed.Placed.{Placed}
 use Rattle.raster.specs.declared.tile.Tile.{Tile}
 use Rattle.raster.specs.Drawing.{IsChosen, IsInPart}
 use Rattle.raster.proofs.BlockDrawn.{part_at_most}
-use Rattle.canvas.specs.Layout.{stored_in_tile}
+use Rattle.blocks.specs.Layout.{stored_in_tile}
 use Rattle.painting.specs.declared.masks.Masks.{Masks}
 use Rattle.painting.specs.Parts.{block_mask, IsInBlock, TilePaints}
 use Rattle.painting.proofs.Columns.{none_set}

@@ -9,13 +9,13 @@ use Rattle.lanes.specs.Block.{stored_at}
 use Rattle.shade.specs.declared.placed.Placed.{Placed}
 use Rattle.shade.specs.declared.sample.CanvasSample.{CanvasSample}
 use Rattle.shade.specs.Canvas.{IsCanvasDrawnAt}
-use Rattle.canvas.specs.declared.way.Way.TheVariants.{Own}
+use Rattle.blocks.specs.declared.way.Way.TheVariants.{Own}
 use Rattle.canvas.specs.Hidden.{ReplacesColours}
-use Rattle.canvas.specs.Layout.{block_in_tile, pixel_in_block, place_by, stored_in_tile, way_in_tile, IsSameTile}
-use Rattle.canvas.proofs.Cut.{part_of}
-use Rattle.canvas.proofs.Places.{none}
+use Rattle.blocks.specs.Layout.{block_in_tile, pixel_in_block, place_by, stored_in_tile, way_in_tile, IsSameTile}
+use Rattle.blocks.proofs.Cut.{part_of}
+use Rattle.blocks.proofs.Places.{none}
 use Rattle.canvas.proofs.Shown.{always, merged_alike}
-use Rattle.canvas.proofs.TilePlanes.{by_way, cases_eq}
+use Rattle.blocks.proofs.TilePlanes.{by_way, cases_eq}
 use Rattle.painting.specs.Parts.{DrawsAlike, KeepsOtherBlocks}
 
 -- the triangle that replaces colours makes the same of samples of the same depth and alpha

@@ -22,15 +22,15 @@ use Rattle.lanes.specs.declared.block_samples.BlockSamples.{BlockSamples}
 use Rattle.raster.specs.declared.tile.Tile.{Tile}
 use Rattle.raster.specs.Drawing.{LiesIn}
 use Rattle.raster.specs.Samples.{IsSampleOf}
-use Rattle.canvas.specs.declared.flat_block.FlatBlock.{FlatBlock}
-use Rattle.canvas.specs.declared.palette.Palette.{Palette}
-use Rattle.canvas.specs.Layout.{block_in_tile, pixel_in_block, stored_in_tile, way_in_tile, chosen}
-use Rattle.canvas.specs.declared.way.Way.TheVariants.{Cleared, Single, Flat, FlatPair, FlatFour}
-use Rattle.canvas.specs.FlatBlocks.{HasFlat, HasOne, StaysFlat}
-use Rattle.canvas.specs.Palettes.{palette_number, palette_sample, sample_numbered, HasPalette, IsPaletteReplaced}
-use Rattle.canvas.proofs.Palettes.{below_four}
-use Rattle.canvas.proofs.Pairs.{chosen_set, chosen_clear}
-use Rattle.canvas.proofs.TilePlanes.{cases_eq}
+use Rattle.blocks.specs.declared.flat_block.FlatBlock.{FlatBlock}
+use Rattle.blocks.specs.declared.palette.Palette.{Palette}
+use Rattle.blocks.specs.Layout.{block_in_tile, pixel_in_block, stored_in_tile, way_in_tile, chosen}
+use Rattle.blocks.specs.declared.way.Way.TheVariants.{Cleared, Single, Flat, FlatPair, FlatFour}
+use Rattle.blocks.specs.FlatBlocks.{HasFlat, HasOne, StaysFlat}
+use Rattle.blocks.specs.Palettes.{palette_number, palette_sample, sample_numbered, HasPalette, IsPaletteReplaced}
+use Rattle.blocks.proofs.Palettes.{below_four}
+use Rattle.blocks.proofs.Pairs.{chosen_set, chosen_clear}
+use Rattle.blocks.proofs.TilePlanes.{cases_eq}
 use Rattle.painting.specs.declared.masks.Masks.{Masks}
 use Rattle.painting.specs.Parts.{block_mask, number_in_tile, DrawsSample, IsInWords, TilePaints}
 use Rattle.painting.specs.FewSamples.{IsNotDrawnFlat, IsNotDrawnInFour, IsNotKeptFlat, IsNotKeptInFour, LeavesManySamples, LeavesNoPalette, StaysFlatDrawn}

@@ -13,14 +13,14 @@ use Rattle.shade.specs.Canvas.{IsCanvasDrawnAt}
 use Rattle.raster.specs.declared.tile.Tile.{Tile}
 use Rattle.raster.specs.Drawing.{IsInSquare, LiesIn}
 use Rattle.raster.specs.Samples.{IsSampleOf}
-use Rattle.canvas.specs.declared.flat_block.FlatBlock.{FlatBlock}
-use Rattle.canvas.specs.declared.palette.Palette.{Palette}
-use Rattle.canvas.specs.Layout.{block_in_tile, pixel_in_block, stored_in_tile, chosen, KeepsOtherSamples}
-use Rattle.canvas.specs.Palettes.{palette_number, sample_numbered, palette_sample, HasPalette, IsFlatReplacedInFour}
-use Rattle.canvas.proofs.Palettes.{below_four, sample_chosen}
-use Rattle.canvas.specs.FlatBlocks.{flat_sample, with_samples, HasFlat, HasOne, IsFlatReplaced}
-use Rattle.canvas.proofs.Pairs.{chosen_set, chosen_clear}
-use Rattle.canvas.proofs.TilePlanes.{cases_eq}
+use Rattle.blocks.specs.declared.flat_block.FlatBlock.{FlatBlock}
+use Rattle.blocks.specs.declared.palette.Palette.{Palette}
+use Rattle.blocks.specs.Layout.{block_in_tile, pixel_in_block, stored_in_tile, chosen, KeepsOtherSamples}
+use Rattle.blocks.specs.Palettes.{palette_number, sample_numbered, palette_sample, HasPalette, IsFlatReplacedInFour}
+use Rattle.blocks.proofs.Palettes.{below_four, sample_chosen}
+use Rattle.blocks.specs.FlatBlocks.{flat_sample, with_samples, HasFlat, HasOne, IsFlatReplaced}
+use Rattle.blocks.proofs.Pairs.{chosen_set, chosen_clear}
+use Rattle.blocks.proofs.TilePlanes.{cases_eq}
 use Rattle.painting.specs.Parts.{number_in_tile, DrawsSample, IsInWords, IsPaletteDrawn, TilePaints}
 use Rattle.painting.proofs.PairBlocks.{square_of}
 use Rattle.painting.proofs.Tiles.{on_screen, in_block}

@@ -8,7 +8,8 @@ use Rattle.lanes.specs.declared.block_samples.BlockSamples.{BlockSamples}
 use Rattle.raster.specs.declared.tile.Tile.{Tile}
 use Rattle.raster.specs.Samples.{IsSampleOf}
 use Rattle.canvas.specs.declared.canvas.Canvas.{Canvas}
-use Rattle.canvas.specs.Layout.{IsStoredIn, stored, stored_in_tile, IsSameTile}
+use Rattle.blocks.specs.Layout.{stored_in_tile, IsSameTile}
+use Rattle.canvas.specs.Layout.{IsStoredIn, stored}
 use Rattle.painting.specs.Parts.{TilePaints, RowsPaint}
 
 -- ---- in a tile

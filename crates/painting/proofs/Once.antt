@@ -19,7 +19,7 @@ use Rattle.canvas.specs.declared.canvas.Canvas.{Canvas}
 use Rattle.canvas.specs.declared.window.Origin.{Origin}
 use Rattle.canvas.specs.Layout.{IsStoredIn, stored}
 use Rattle.canvas.specs.Window.{IsSamePixel}
-use Rattle.canvas.proofs.TilePlanes.{cases_eq}
+use Rattle.blocks.proofs.TilePlanes.{cases_eq}
 use Rattle.painting.specs.Painting.{Shape, fragment_of, IsInScissor, MeetsSample, Paints, PaintAll, ArePainted}
 use Rattle.painting.proofs.FewSamples.{applied_once}
 

@@ -17,12 +17,12 @@ use Rattle.raster.specs.Drawing.{IsChosen, IsInSquare, LiesIn, DrawsMasks}
 use Rattle.raster.specs.Region.{HoldsTile}
 use Rattle.raster.specs.Samples.{IsSampleOf, place_of as place_in, stored as in_tile}
 use Rattle.raster.proofs.Rows.{word_full}
-use Rattle.canvas.specs.declared.way.Way.{Way}
-use Rattle.canvas.specs.declared.way.Way.TheVariants.{Cleared, Single, Own, FlatFour}
-use Rattle.canvas.specs.Layout.{masks_from, further_plane, first_further, stored_in_tile, block_in_tile, pixel_in_block, in_list, place_by, place_in_tile, sample_place, masks_place, more_place, masks_in, more_in, mask_of, own_plane, slot_by, is_plain, way_of, way_in_tile}
-use Rattle.canvas.proofs.Cut.{put, put_here, put_elsewhere, part_of}
-use Rattle.canvas.proofs.Places.{none, last_sample, further_below, within_block, slot_below}
-use Rattle.canvas.proofs.TilePlanes.{cases_eq, has_own, apart, same_place_by}
+use Rattle.blocks.specs.declared.way.Way.{Way}
+use Rattle.blocks.specs.declared.way.Way.TheVariants.{Cleared, Single, Own, FlatFour}
+use Rattle.blocks.specs.Layout.{masks_from, further_plane, first_further, stored_in_tile, block_in_tile, pixel_in_block, in_list, place_by, place_in_tile, sample_place, masks_place, more_place, masks_in, more_in, mask_of, own_plane, slot_by, is_plain, way_of, way_in_tile}
+use Rattle.blocks.proofs.Cut.{put, put_here, put_elsewhere, part_of}
+use Rattle.blocks.proofs.Places.{none, last_sample, further_below, within_block, slot_below}
+use Rattle.blocks.proofs.TilePlanes.{cases_eq, has_own, apart, same_place_by}
 use Rattle.grid.specs.declared.sample_count.SampleCount.{SampleCount}
 use Rattle.painting.specs.declared.masks.Masks.{Masks}
 use Rattle.painting.specs.Parts.{block_mask, number_in_tile, AllowsTile, IsAllowed, IsInBlock, IsKeptAt, HasNoMasks, KeepsPlanesBut, DrawsPlane, TilePaints, DrawsAlike, KeepsOtherBlocks}

@@ -16,14 +16,14 @@ use Rattle.raster.specs.declared.tile.Tile.{Tile}
 use Rattle.raster.specs.Drawing.{IsInSquare, LiesIn}
 use Rattle.raster.specs.Samples.{IsSampleOf}
 use Rattle.raster.proofs.Bits.{is_one, is_set}
-use Rattle.canvas.specs.declared.way.Way.{Way}
-use Rattle.canvas.specs.declared.way.Way.TheVariants.{Pair}
+use Rattle.blocks.specs.declared.way.Way.{Way}
+use Rattle.blocks.specs.declared.way.Way.TheVariants.{Pair}
 use Rattle.canvas.specs.Hidden.{ReplacesColours}
-use Rattle.canvas.specs.Layout.{block_in_tile, pixel_in_block, in_list, place_by, place_in_tile, sample_place, slot_by, mask_of as mask_in, masks_in, more_in, own_plane, stored_in_tile, way_in_tile, HasMasks, AreReplaced, KeepsOtherSamples}
-use Rattle.canvas.proofs.Places.{further_not_first, middle_sample}
-use Rattle.canvas.proofs.TilePlanes.{cases_eq}
+use Rattle.blocks.specs.Layout.{block_in_tile, pixel_in_block, in_list, place_by, place_in_tile, sample_place, slot_by, mask_of as mask_in, masks_in, more_in, own_plane, stored_in_tile, way_in_tile, HasMasks, AreReplaced, KeepsOtherSamples}
+use Rattle.blocks.proofs.Places.{further_not_first, middle_sample}
+use Rattle.blocks.proofs.TilePlanes.{cases_eq}
 use Rattle.painting.specs.declared.masks.Masks.{Masks}
-use Rattle.canvas.proofs.Ways.{pair_not_four}
+use Rattle.blocks.proofs.Ways.{pair_not_four}
 use Rattle.painting.specs.Parts.{block_mask, number_in_tile, AllowsTile, IsInWords, IsInBlock, IsKeptAt, HasNoMasks, KeepsPlanesBut, DrawsPlane, TilePaints}
 use Rattle.painting.proofs.BlocksAlike.{drawn_alike}
 use Rattle.painting.proofs.Joined.{tile_same, tile_joined}

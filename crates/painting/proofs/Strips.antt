@@ -12,8 +12,9 @@ use Rattle.shade.specs.Canvas.{IsCanvasDrawnAt}
 use Rattle.raster.specs.declared.tile.Tile.{Tile}
 use Rattle.raster.specs.Samples.{IsSampleOf}
 use Rattle.canvas.specs.declared.canvas.Canvas.{Canvas}
-use Rattle.canvas.specs.Layout.{IsStoredIn, planes_of_tile, stored, stored_in_tile}
-use Rattle.canvas.proofs.Cut.{put}
+use Rattle.blocks.specs.Layout.{planes_of_tile, stored_in_tile}
+use Rattle.canvas.specs.Layout.{IsStoredIn, stored}
+use Rattle.blocks.proofs.Cut.{put}
 use Rattle.canvas.proofs.Places.{tile_of, tile_put, tile_kept}
 use Rattle.painting.specs.declared.masks.Masks.{Masks}
 use Rattle.painting.specs.Parts.{block_mask, IsInColumn, IsFlagged, TilePaints, RowsPaint}

@@ -15,7 +15,7 @@ use Rattle.polygons.specs.Cells.{AreZeros}
 use Rattle.canvas.specs.declared.canvas.Canvas.{Canvas}
 use Rattle.canvas.specs.declared.window.Origin.{Origin}
 use Rattle.canvas.specs.Layout.{IsStoredIn, rows_of, planes_of_row, stored}
-use Rattle.canvas.proofs.Cut.{put, put_here, put_elsewhere}
+use Rattle.blocks.proofs.Cut.{put, put_here, put_elsewhere}
 use Rattle.canvas.proofs.Places.{row_of as in_row, row_put, row_kept}
 use Rattle.painting.specs.declared.polygon.Polygon.{Polygon}
 use Rattle.painting.specs.declared.window.Window.{Window}

@@ -13,13 +13,13 @@ use Rattle.shade.proofs.Resolved.{some_samples, few_samples}
 use Rattle.raster.specs.declared.tile.Tile.{Tile}
 use Rattle.raster.specs.Drawing.{IsChosen, IsInSquare, DrawsMasks}
 use Rattle.raster.specs.Samples.{IsSampleOf, place_of as place_in, stored as in_tile}
-use Rattle.canvas.specs.declared.way.Way.{Way}
-use Rattle.canvas.specs.declared.way.Way.TheVariants.{Cleared, Single, Pair, Own, Flat, FlatPair, FlatFour}
-use Rattle.canvas.specs.Layout.{masks_from, further_plane, first_further, planes_of_tile, stored_in_tile, way_of, way_in_tile, block_in_tile, pixel_in_block, in_list, is_plain, place_by, flat_place, slot_by, masks_place, more_place, masks_in, more_in, own_plane}
-use Rattle.canvas.proofs.Cut.{put, put_elsewhere, part_of}
+use Rattle.blocks.specs.declared.way.Way.{Way}
+use Rattle.blocks.specs.declared.way.Way.TheVariants.{Cleared, Single, Pair, Own, Flat, FlatPair, FlatFour}
+use Rattle.blocks.specs.Layout.{masks_from, further_plane, first_further, planes_of_tile, stored_in_tile, way_of, way_in_tile, block_in_tile, pixel_in_block, in_list, is_plain, place_by, flat_place, slot_by, masks_place, more_place, masks_in, more_in, own_plane}
+use Rattle.blocks.proofs.Cut.{put, put_elsewhere, part_of}
 use Rattle.canvas.proofs.DrawnTiles.{own_put, mark_put}
-use Rattle.canvas.proofs.Places.{none, last_sample, further_below, within_block, flat_where}
-use Rattle.canvas.proofs.TilePlanes.{by_way, by_any_way, own_place, within_own, same_own_plane, same_mask, same_further}
+use Rattle.blocks.proofs.Places.{none, last_sample, further_below, within_block, flat_where}
+use Rattle.blocks.proofs.TilePlanes.{by_way, by_any_way, own_place, within_own, same_own_plane, same_mask, same_further}
 use Rattle.painting.specs.Parts.{number_in_tile, TilePaints}
 
 -- ---- where the samples of a block are

@@ -6,8 +6,9 @@ use Rattle.lanes.specs.declared.block_samples.BlockSamples.{BlockSamples}
 use Rattle.shade.specs.declared.placed.Placed.{Placed}
 use Rattle.raster.specs.declared.tile.Tile.{Tile}
 use Rattle.canvas.specs.declared.canvas.Canvas.{Canvas}
-use Rattle.canvas.specs.Layout.{IsStoredIn, planes_of_tile}
-use Rattle.canvas.proofs.Cut.{put}
+use Rattle.blocks.specs.Layout.{planes_of_tile}
+use Rattle.canvas.specs.Layout.{IsStoredIn}
+use Rattle.blocks.proofs.Cut.{put}
 use Rattle.painting.specs.declared.masks.Masks.{Masks}
 use Rattle.painting.specs.Parts.{block_mask, IsAllowed, IsFlagged, TilePaints, RowsPaint}
 use Rattle.painting.proofs.Joined.{rows_joined}

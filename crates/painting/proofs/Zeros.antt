@@ -4,7 +4,7 @@ use Rattle.std.proofs.lemmas.Bool.{cases_lt}
 use Rattle.std.proofs.lemmas.List.{get_or_past}
 use Rattle.polygons.specs.ManyRows.{row_of}
 use Rattle.polygons.specs.Cells.{AreZeros}
-use Rattle.canvas.proofs.Places.{part_within}
+use Rattle.blocks.proofs.Places.{part_within}
 use Rattle.polygons.proofs.RowLists.{row-here, row-other}
 
 pub one_more : (cells : List (List ℕ)) (n : ℕ) (zeros : List ℕ) → ((i : ℕ) → slice_index zeros i ≡ 0) → n < length cells → ((column i : ℕ) → column < n → slice_index (row_of cells column) i ≡ 0)

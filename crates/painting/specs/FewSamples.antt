@@ -7,12 +7,12 @@ use Rattle.shade.specs.declared.placed.Placed.{Placed}
 use Rattle.shade.specs.declared.sample.CanvasSample.{CanvasSample}
 use Rattle.lanes.specs.declared.block_samples.BlockSamples.{BlockSamples}
 use Rattle.raster.specs.declared.tile.Tile.{Tile}
-use Rattle.canvas.specs.declared.flat_block.FlatBlock.{FlatBlock}
-use Rattle.canvas.specs.declared.palette.Palette.{Palette}
-use Rattle.canvas.specs.declared.way.Way.TheVariants.{Cleared, Single, Flat, FlatPair, FlatFour}
-use Rattle.canvas.specs.Layout.{way_in_tile}
-use Rattle.canvas.specs.FlatBlocks.{HasFlat, HasOne, StaysFlat}
-use Rattle.canvas.specs.Palettes.{sample_numbered, HasPalette, HasNoPalette}
+use Rattle.blocks.specs.declared.flat_block.FlatBlock.{FlatBlock}
+use Rattle.blocks.specs.declared.palette.Palette.{Palette}
+use Rattle.blocks.specs.declared.way.Way.TheVariants.{Cleared, Single, Flat, FlatPair, FlatFour}
+use Rattle.blocks.specs.Layout.{way_in_tile}
+use Rattle.blocks.specs.FlatBlocks.{HasFlat, HasOne, StaysFlat}
+use Rattle.blocks.specs.Palettes.{sample_numbered, HasPalette, HasNoPalette}
 use Rattle.painting.specs.declared.masks.Masks.{Masks}
 use Rattle.painting.specs.Parts.{block_mask, number_in_tile, DrawsSample, TilePaints}
 

@@ -27,14 +27,15 @@ use Rattle.raster.specs.Drawing.{Allows, IsInSquare}
 use Rattle.raster.specs.Region.{HoldsTile}
 use Rattle.raster.specs.Samples.{IsSampleOf}
 use Rattle.canvas.specs.declared.canvas.Canvas.{Canvas}
-use Rattle.canvas.specs.declared.flat_block.FlatBlock.{FlatBlock}
-use Rattle.canvas.specs.declared.palette.Palette.{Palette}
-use Rattle.canvas.specs.declared.way.Way.TheVariants.{FlatFour}
+use Rattle.blocks.specs.declared.flat_block.FlatBlock.{FlatBlock}
+use Rattle.blocks.specs.declared.palette.Palette.{Palette}
+use Rattle.blocks.specs.declared.way.Way.TheVariants.{FlatFour}
 use Rattle.canvas.specs.declared.window.Origin.{Origin}
-use Rattle.canvas.specs.Layout.{IsStoredIn, block_in_tile, columns_of, in_list, is_plain, masks_place, more_place, pixel_in_block, place_in_tile, rows_of, stored, stored_in_tile, way_in_tile}
+use Rattle.blocks.specs.Layout.{block_in_tile, in_list, is_plain, masks_place, more_place, pixel_in_block, place_in_tile, stored_in_tile, way_in_tile}
+use Rattle.canvas.specs.Layout.{IsStoredIn, columns_of, rows_of, stored}
 use Rattle.lanes.specs.Block.{stored_at}
-use Rattle.canvas.specs.FlatBlocks.{IsFlatReplaced}
-use Rattle.canvas.specs.Palettes.{sample_numbered, IsPaletteReplaced}
+use Rattle.blocks.specs.FlatBlocks.{IsFlatReplaced}
+use Rattle.blocks.specs.Palettes.{sample_numbered, IsPaletteReplaced}
 use Rattle.canvas.specs.Window.{moved_state}
 use Rattle.painting.specs.declared.masks.Masks.{Masks}
 use Rattle.painting.specs.declared.polygon.Polygon.{Polygon}

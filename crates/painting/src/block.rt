@@ -2,13 +2,13 @@
 ghost use Rattle.std.specs.Prelude.{◌≡◌, ◌<◌, false, length, IsTrue};
 ghost use Rattle.grid.specs.Samples.{IsPart, count_of};
 ghost use Rattle.raster.specs.Drawing.{IsChosen, IsInSquare};
-ghost use Rattle.canvas.specs.declared.way.Way.TheVariants.{Own, Single};
-ghost use Rattle.canvas.specs.Layout.{planes_of_tile, way_in_tile};
+ghost use Rattle.blocks.specs.declared.way.Way.TheVariants.{Own, Single};
+ghost use Rattle.blocks.specs.Layout.{planes_of_tile, way_in_tile};
 ghost use Rattle.painting.specs.Parts.{number_in_tile, IsInBlock, TilePaints};
 
 use crate::covered_block::CoveredBlock;
 use crate::masks::{Masks, has_some};
-use canvas::{Way, block_way, fill_block, has_pairs, place_by};
+use blocks::{Way, block_way, fill_block, has_pairs, place_by};
 use lanes::BlockSamples;
 use planes::Corrections;
 use raster::draw_masks;

@@ -2,7 +2,7 @@
 ghost use Rattle.std.specs.Prelude.{◌≡◌, ◌+◌, ◌<◌, ◌≤◌, length};
 ghost use Rattle.grid.specs.Samples.{count_of};
 ghost use Rattle.grid.specs.declared.pixels.TileSide.TheVariants.{T64};
-ghost use Rattle.canvas.specs.Layout.{planes_of_tile};
+ghost use Rattle.blocks.specs.Layout.{planes_of_tile};
 ghost use Rattle.painting.specs.declared.change.Change.TheVariants.{Replaces as AsReplaces, BlendsOver as AsBlendsOver};
 ghost use Rattle.painting.specs.Changes.{BlendsAlone, ReplacesAlone};
 ghost use Rattle.painting.specs.Parts.{FillsScreen, IsInColumn, TilePaints};
@@ -11,7 +11,7 @@ use crate::allowed::allows_tile;
 use crate::change::Change;
 use crate::covered_block::CoveredBlock;
 use crate::masks::Masks;
-use canvas::known;
+use blocks::known;
 use lanes::{BlockSamples, Interpolants};
 use raster::Tile;
 

@@ -1,8 +1,8 @@
 //! Blocks that have one sample or two.
 ghost use Rattle.std.specs.Prelude.{◌≡◌, ◌↔◌, ◌⊎◌, ◌<◌, ◌≤◌, false, length, IsTrue, IsSome, IfSome};
 ghost use Rattle.grid.specs.Samples.{count_of};
-ghost use Rattle.canvas.specs.Layout.{planes_of_tile};
-ghost use Rattle.canvas.specs.FlatBlocks.{HasOne};
+ghost use Rattle.blocks.specs.Layout.{planes_of_tile};
+ghost use Rattle.blocks.specs.FlatBlocks.{HasOne};
 ghost use Rattle.canvas.specs.Tiles.{HasBytes};
 ghost use Rattle.painting.specs.Parts.{number_in_tile, DrawsSample, IsFlatDrawn, IsInBlock, TilePaints};
 ghost use Rattle.painting.specs.FewSamples.{IsNotDrawnFlat, IsNotDrawnInFour, IsSmallOfFour, StaysFlatDrawn};
@@ -10,7 +10,7 @@ ghost use Rattle.painting.specs.FewSamples.{IsNotDrawnFlat, IsNotDrawnInFour, Is
 use crate::change::Change;
 use crate::covered_block::CoveredBlock;
 use crate::masks::Masks;
-use canvas::{FlatBlock, known, make_flat, one_sample};
+use blocks::{FlatBlock, known, make_flat, one_sample};
 use grid::SampleCount;
 use lanes::BlockSamples;
 use shade::{CanvasSample, Shaded, apply_on_canvas, over};

@@ -1,14 +1,12 @@
 //! Blocks that are kept as pairs: two planes, and masks which say in which of the two a pixel has a sample.
 ghost use Rattle.std.specs.Prelude.{◌≡◌, ◌<◌, false, length, IsTrue};
 ghost use Rattle.raster.specs.Drawing.{IsInSquare};
-ghost use Rattle.canvas.specs.Layout.{planes_of_tile, in_list};
+ghost use Rattle.blocks.specs.Layout.{planes_of_tile, in_list};
 ghost use Rattle.painting.specs.Parts.{IsInWords, TilePaints};
 
 use crate::covered_block::CoveredBlock;
-use canvas::{
-    Way, block_way, has_pairs, pair_block, place_by, replace_samples, replaces_colours,
-    second_place,
-};
+use blocks::{Way, block_way, has_pairs, pair_block, place_by, replace_samples, second_place};
+use canvas::replaces_colours;
 use lanes::BlockSamples;
 
 /// Whether two planes of a tile have the same depths and the same alphas.

@@ -1,12 +1,12 @@
 //! Blocks that have up to four samples.
 ghost use Rattle.std.specs.Prelude.{◌≡◌, ◌≤◌, false, length, IsTrue, IfSome, IfNone};
 ghost use Rattle.grid.specs.Samples.{count_of};
-ghost use Rattle.canvas.specs.Layout.{planes_of_tile};
+ghost use Rattle.blocks.specs.Layout.{planes_of_tile};
 ghost use Rattle.painting.specs.Parts.{number_in_tile, IsInWords, IsPaletteDrawn, TilePaints};
 ghost use Rattle.painting.specs.FewSamples.{IsNotDrawnInFour, IsNotKeptFlat, LeavesNoPalette};
 
 use crate::covered_block::CoveredBlock;
-use canvas::{FlatBlock, Palette, known};
+use blocks::{FlatBlock, Palette, known};
 use grid::SampleCount;
 use lanes::BlockSamples;
 

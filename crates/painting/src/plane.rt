@@ -2,7 +2,7 @@
 ghost use Rattle.std.specs.Prelude.{◌≡◌, ◌<◌, ◌≤◌, length, IsTrue};
 ghost use Rattle.grid.specs.declared.pixels.TileSide.TheVariants.{T8};
 ghost use Rattle.grid.specs.declared.sample_count.SampleCount.TheVariants.{One};
-ghost use Rattle.canvas.specs.Layout.{planes_of_tile, in_list};
+ghost use Rattle.blocks.specs.Layout.{planes_of_tile, in_list};
 ghost use Rattle.painting.specs.Parts.{IsKeptAt, HasNoMasks, KeepsPlanesBut, DrawsPlane, TilePaints};
 
 use crate::covered_block::CoveredBlock;

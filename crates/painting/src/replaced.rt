@@ -1,12 +1,13 @@
 //! Blocks that are drawn whole, for which one plane can stand.
 ghost use Rattle.std.specs.Prelude.{◌≡◌, ℕ, ◌<◌, false, length, IsTrue};
-ghost use Rattle.canvas.specs.declared.way.Way.TheVariants.{Single as AsSingle};
-ghost use Rattle.canvas.specs.Layout.{in_list, planes_of_tile, way_in_tile};
+ghost use Rattle.blocks.specs.declared.way.Way.TheVariants.{Single as AsSingle};
+ghost use Rattle.blocks.specs.Layout.{in_list, planes_of_tile, way_in_tile};
 ghost use Rattle.painting.specs.Parts.{number_in_tile, DrawsAlike, KeepsOtherBlocks};
 
 use crate::covered_block::CoveredBlock;
 use crate::pair::have_same_depths;
-use canvas::{Way, block_way, make_single, place_by, replaces_colours, single_block};
+use blocks::{Way, block_way, make_single, place_by, single_block};
+use canvas::replaces_colours;
 use lanes::BlockSamples;
 
 /// Whether all planes have the same depths and the same alphas.

@@ -3,15 +3,15 @@
 ghost use Rattle.std.specs.Prelude.{◌≡◌, ℕ, ◌+◌, ◌%◌, ◌<◌, ◌≤◌, length, IsBitSet, IsTrue};
 ghost use Rattle.grid.specs.Samples.{count_of};
 ghost use Rattle.grid.specs.declared.pixels.TileSide.TheVariants.{T64};
-ghost use Rattle.canvas.specs.declared.way.Way.TheVariants.{Cleared};
-ghost use Rattle.canvas.specs.Layout.{planes_of_tile, way_in_tile};
+ghost use Rattle.blocks.specs.declared.way.Way.TheVariants.{Cleared};
+ghost use Rattle.blocks.specs.Layout.{planes_of_tile, way_in_tile};
 ghost use Rattle.painting.specs.Parts.{block_mask, FillsScreen, AllowsTile, IsAllowed, TilePaints};
 
 use crate::allowed::allows_tile;
 use crate::change::Change;
 use crate::covered_block::CoveredBlock;
 use crate::masks::Masks;
-use canvas::{Way, is_cleared, place_by};
+use blocks::{Way, is_cleared, place_by};
 use lanes::{BlockSamples, Interpolants};
 use raster::Tile;
 

@@ -1,8 +1,8 @@
 use Rattle.std.proofs.Common.{◌≡◌, ◌+◌, ◌-◌, ◌≤◌, ℕ, ap, sym, subst, length, take, drop, arith}
 use Rattle.grid.specs.Samples.{count_of}
-use Rattle.canvas.specs.Layout.{planes_of_tile}
+use Rattle.blocks.specs.Layout.{planes_of_tile}
 use Rattle.canvas.specs.Drawing.{TileHasEnds}
-use Rattle.canvas.proofs.Cut.{put}
+use Rattle.blocks.proofs.Cut.{put}
 use Rattle.canvas.proofs.DrawnTiles.{own_put, mark_put, tile_drawn}
 use Rattle.canvas.proofs.triangles.draw_tile.Goals as goal
 

@@ -1,7 +1,7 @@
 use Rattle.std.proofs.Common.{rules, inl, inr, refl, ◌≡◌, ◌∙◌, ◌↔◌, ap, ℕ, ◌%◌, ◌<◌, max, IsOk, length}
 use Rattle.std.proofs.lemmas.Result.{err_from_is_err_and}
 use Rattle.grid.specs.Samples.{count_of}
-use Rattle.canvas.specs.Entries.{FitEntries}
+use Rattle.readout.specs.Entries.{FitEntries}
 use Rattle.model.specs.Checking.{Checks, done, check, followed_by}
 use Rattle.model.proofs.Checking.{pass_both, fails_before, fails_later}
 use Rattle.c_abi.specs.declared.status.Status.{Status}
@@ -12,7 +12,7 @@ use Rattle.canvas_c.proofs.entries.entries_into.Goals as goal
 
 pub returns-clause-written : goal.returns-clause-written
 returns-clause-written g c =
-    on_done _ _ c.entries.result c.fitted.result c.fitted.ensures.done (λ written. record { rows = c.in_ok-rows.rows; are = c.in_ok-rows.ensures.judged.1; holds = rw (c.entries_of-stride.ensures, c.view.ensures.rows, c.view.ensures.planes) at written }) c.entries.ensures.entries
+    on_done _ _ c.entries.result c.fitted.result c.fitted.ensures.done (λ written. record { rows = c.in_ok-rows.rows; are = c.in_ok-rows.ensures.judged.1; holds = rw (c.entries_of-stride.ensures, c.of.ensures.rows, c.of.ensures.planes) at written }) c.entries.ensures.entries
 
 pub returns-in_err-rows-clause-judged : goal.returns-in_err-rows-clause-judged
 returns-in_err-rows-clause-judged g c =
@@ -34,7 +34,7 @@ returns-clause-judged g c =
     let aligned : c.args.stride % c.args.entry_bytes ≡ 0 = search rules in
     let own : Checks Status = check (c.args.sample < max 1 head.samples) BadSample (check (c.args.stride % c.args.entry_bytes ≡ 0) BadStride done) in
     let counted : count_of rows.canvas.count ≡ max 1 head.samples = ap count_of are.count ∙ count_is head.samples passed.1.0.pattern in
-    let fits : IsOk c.entries.result ↔ FitEntries rows.canvas rows.first rows.end c.args.sample 1 stride size = rw (c.entries_of-stride.ensures, c.view.ensures.rows) at c.entries.ensures.fits in
+    let fits : IsOk c.entries.result ↔ FitEntries rows.canvas rows.first rows.end c.args.sample 1 stride size = rw (c.entries_of-stride.ensures, c.of.ensures.rows) at c.entries.ensures.fits in
     let pieces = piece_checks head (length c.args.planes.now) in
     fitted_is (followed_by pieces own) (HasRoom head 1 stride size) c.entries.result c.fitted.result
     (pass_both pieces own passed (few, (aligned, record {}))) c.fitted.ensures.done c.fitted.ensures.small

@@ -1,7 +1,7 @@
 use Rattle.std.proofs.Common.{rules, ◌↔◌, IsOk, subst, ℕ, ◌*◌, length}
 use Rattle.std.proofs.lemmas.Result.{err_from_is_err_and}
-use Rattle.canvas.specs.Pixels.{pixel_bytes, IsLargeEnough}
-use Rattle.canvas.specs.Loaded.{AreLoaded}
+use Rattle.readout.specs.Pixels.{pixel_bytes, IsLargeEnough}
+use Rattle.readout.specs.Loaded.{AreLoaded}
 use Rattle.model.specs.Checking.{done, check, followed_by}
 use Rattle.model.proofs.Checking.{fails_before}
 use Rattle.c_abi.specs.declared.status.Status.TheVariants.{BufferTooSmall, BadFormat}

@@ -1,5 +1,5 @@
 use Rattle.std.proofs.Common.{◌↔◌, IsOk, ℕ, ◌*◌, length, inr}
-use Rattle.canvas.specs.Pixels.{pixel_bytes, IsLargeEnough}
+use Rattle.readout.specs.Pixels.{pixel_bytes, IsLargeEnough}
 use Rattle.model.specs.Checking.{done, check, followed_by}
 use Rattle.model.proofs.Checking.{fails_before}
 use Rattle.c_abi.specs.declared.status.Status.TheVariants.{BufferTooSmall, BadFormat}
@@ -10,7 +10,7 @@ use Rattle.canvas_c.proofs.images.trirast_canvas_resolve.Goals as goal
 pub returns-in-Ok-clause-resolved : goal.returns-in-Ok-clause-resolved
 returns-in-Ok-clause-resolved c =
     done_if _ c.fitted.result c.status_of.result c.status_of.ensures.done
-    (on_done _ _ c.resolve.result c.fitted.result c.fitted.ensures.done (λ written. record { rows = c.in-Ok.rows; are = c.in-Ok.ensures.judged.1; holds = rw (c.stride_of-stride.ensures, c.in-Ok.ensures.format, c.view-view.ensures.rows, c.view-view.ensures.planes) at written }) c.resolve.ensures.resolved)
+    (on_done _ _ c.resolve.result c.fitted.result c.fitted.ensures.done (λ written. record { rows = c.in-Ok.rows; are = c.in-Ok.ensures.judged.1; holds = rw (c.stride_of-stride.ensures, c.in-Ok.ensures.format, c.of-view.ensures.rows, c.of-view.ensures.planes) at written }) c.resolve.ensures.resolved)
 
 pub returns-in-Err-clause-status : goal.returns-in-Err-clause-status
 returns-in-Err-clause-status c =
@@ -26,7 +26,7 @@ returns-in-Ok-clause-status c =
     let unit = pixel_bytes (format_of c.args.format) in
     let stride = stride_of (head.width * unit) c.args.stride in
     let size : ℕ = length c.args.pixels.now in
-    let fits : IsOk c.resolve.result ↔ IsLargeEnough rows.canvas rows.first rows.end unit stride size = rw (c.stride_of-stride.ensures, c.in-Ok.ensures.format, c.view-view.ensures.rows) at c.resolve.ensures.fits in
+    let fits : IsOk c.resolve.result ↔ IsLargeEnough rows.canvas rows.first rows.end unit stride size = rw (c.stride_of-stride.ensures, c.in-Ok.ensures.format, c.of-view.ensures.rows) at c.resolve.ensures.fits in
     status_is (image_checks c.args.canvas.now.head (length c.args.canvas.now.planes.now) c.args.format c.args.stride (length c.args.pixels.now)) c.fitted.result c.status_of.result
     (fitted_is (followed_by (piece_checks head (length c.args.canvas.now.planes.now)) (check (IsFormat c.args.format) BadFormat done)) (HasRoom head unit stride size) c.resolve.result c.fitted.result
     c.in-Ok.ensures.judged.0 c.fitted.ensures.done c.fitted.ensures.small

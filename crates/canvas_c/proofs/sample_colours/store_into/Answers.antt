@@ -1,9 +1,9 @@
 use Rattle.std.proofs.Common.{◌↔◌, rules, subst, ℕ, ◌*◌, ◌<◌, length, IsOk}
 use Rattle.std.proofs.lemmas.Result.{err_from_is_err_and}
 use Rattle.grid.specs.Samples.{count_of, pattern_of}
-use Rattle.canvas.specs.Pixels.{pixel_bytes}
-use Rattle.canvas.specs.Entries.{FitEntries}
-use Rattle.canvas.specs.Loaded.{AreStored}
+use Rattle.readout.specs.Pixels.{pixel_bytes}
+use Rattle.readout.specs.Entries.{FitEntries}
+use Rattle.readout.specs.Loaded.{AreStored}
 use Rattle.model.specs.Checking.{done, check, followed_by}
 use Rattle.model.proofs.Checking.{fails_before}
 use Rattle.c_abi.specs.declared.status.Status.TheVariants.{BufferTooSmall, BadFormat, BadSample}

@@ -1,6 +1,6 @@
 use Rattle.std.proofs.Common.{refl, ℕ, ◌≤◌, length}
 use Rattle.std.proofs.lemmas.Result.{err_from_is_err_and}
-use Rattle.canvas.specs.Tiles.{tile_entries, FitTile, IsTileMisfit}
+use Rattle.readout.specs.Tiles.{tile_entries, FitTile, IsTileMisfit}
 use Rattle.model.specs.Checking.{done, check}
 use Rattle.model.proofs.Checking.{fails_before}
 use Rattle.c_abi.specs.declared.status.Status.TheVariants.{BufferTooSmall, BadTile}
@@ -24,13 +24,13 @@ returns-in-Ok-clause-judged c =
     let planes : ℕ = length c.args.planes.now in
     let size : ℕ = length c.args.ids.now in
     let judged = c.in_ok-rows.ensures.judged in
-    let fits : FitTile rows.canvas rows.first rows.end c.args.column c.args.row size = rw c.view.ensures.rows at c.in-Ok.ensures.fits.0 refl in (
+    let fits : FitTile rows.canvas rows.first rows.end c.args.column c.args.row size = rw c.of.ensures.rows at c.in-Ok.ensures.fits.0 refl in (
       tile_fits head rows judged.1 c.args.column c.args.row planes (entries_in_tile head ≤ size) (tile_entries rows.canvas.count ≤ size) judged.0 fits.0 (rw judged.1.count at fits.1),
       record {
         rows = rows;
         are = judged.1;
         holds = told_ids rows.canvas rows.first rows.end c.args.column c.args.row c.args.planes.now c.args.ids.now c.tile_ids.new.ids c.in-Ok.many c.is_one.result
-            (rw (c.view.ensures.rows, c.view.ensures.planes) at c.in-Ok.ensures.many) (rw (c.view.ensures.rows, c.view.ensures.planes) at c.in-Ok.ensures.ids) c.in-Ok.ensures.others c.is_one.ensures.one c.is_one.ensures.more;
+            (rw (c.of.ensures.rows, c.of.ensures.planes) at c.in-Ok.ensures.many) (rw (c.of.ensures.rows, c.of.ensures.planes) at c.in-Ok.ensures.ids) c.in-Ok.ensures.others c.is_one.ensures.one c.is_one.ensures.more;
       },
     )
 
@@ -41,6 +41,6 @@ returns-in-Err-clause-judged c =
     let planes : ℕ = length c.args.planes.now in
     let size : ℕ = length c.args.ids.now in
     let judged = c.in_ok-rows.ensures.judged in
-    let reason : IsTileMisfit rows.canvas rows.first rows.end c.args.column c.args.row (tile_entries rows.canvas.count ≤ size) c.in-Err.misfit = rw c.view.ensures.rows at c.in-Err.ensures.reason in
+    let reason : IsTileMisfit rows.canvas rows.first rows.end c.args.column c.args.row (tile_entries rows.canvas.count ≤ size) c.in-Err.misfit = rw c.of.ensures.rows at c.in-Err.ensures.reason in
     rw c.status_for_tile.ensures
     (tile_fails head rows judged.1 c.args.column c.args.row planes (entries_in_tile head ≤ size) (tile_entries rows.canvas.count ≤ size) judged.0 c.in-Err.misfit (λ room. rw judged.1.count room) reason)

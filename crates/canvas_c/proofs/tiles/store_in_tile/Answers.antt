@@ -1,6 +1,6 @@
 use Rattle.std.proofs.Common.{◌≡◌, ◌⊎◌, refl, subst, rules, ℕ, length}
 use Rattle.std.proofs.lemmas.Result.{err_from_is_err_and}
-use Rattle.canvas.specs.Tiles.{tile_entries, FitTileOrOne, IsTileMisfit, AreTileColours}
+use Rattle.readout.specs.Tiles.{tile_entries, FitTileOrOne, IsTileMisfit, AreTileColours}
 use Rattle.model.specs.Checking.{done, check}
 use Rattle.model.proofs.Checking.{fails_before}
 use Rattle.c_abi.specs.declared.status.Status.TheVariants.{BufferTooSmall, BadTile}

@@ -1,5 +1,5 @@
 use Rattle.std.proofs.Common.{◌≡◌, ℕ, ◌<◌}
-use Rattle.canvas.specs.Layout.{in_list}
+use Rattle.blocks.specs.Layout.{in_list}
 use Rattle.painting.proofs.replaced.are_alike.Given as goal
 
 abbrev pub invariant-loop-s : goal.invariant-loop-s

@@ -8,7 +8,7 @@ use Rattle.polygons.specs.declared.rule.Rule.{Rule}
 use Rattle.polygons.specs.declared.rule.Rule.TheVariants.{EvenOdd, NonZero}
 use Rattle.polygons.specs.Cells.{flags_by}
 use Rattle.canvas.specs.Layout.{columns_of, planes_of_row}
-use Rattle.canvas.proofs.Places.{part_within}
+use Rattle.blocks.proofs.Places.{part_within}
 use Rattle.painting.specs.Parts.{MeetsHere, RowsPaint}
 use Rattle.painting.proofs.Joined.{rows_none, rows_same}
 use Rattle.painting.proofs.TileRows.{one_row_more, in_window, polygon_painted, zeros_of_part, zeros_put}

@@ -2,8 +2,8 @@ use Rattle.std.proofs.Common.{◌≡◌, sym, ap, ◌∙◌, arith, inl, inr, �
 use Rattle.std.proofs.lemmas.Bool.{cases_eq, cases_lt}
 use Rattle.std.proofs.lemmas.List.{length-take, length-drop}
 use Rattle.polygons.specs.ManyRows.{row_of}
-use Rattle.canvas.proofs.Cut.{put, put_here, put_elsewhere}
-use Rattle.canvas.proofs.Places.{part_within}
+use Rattle.blocks.proofs.Cut.{put, put_here, put_elsewhere}
+use Rattle.blocks.proofs.Places.{part_within}
 use Rattle.painting.proofs.Zeros.{all, apart_part, next_part}
 use Rattle.painting.proofs.scratch.clear_masks.Goals as goal
 

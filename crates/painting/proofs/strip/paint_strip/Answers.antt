@@ -1,6 +1,7 @@
 use Rattle.std.proofs.Common.{rules, ◌≡◌, refl, ℕ, ◌+◌, ◌-◌, ◌*◌, ◌/◌, ◌<◌, ap, subst, arith}
-use Rattle.canvas.specs.Layout.{columns_of, planes_of_tile}
-use Rattle.canvas.proofs.Places.{part_within}
+use Rattle.blocks.specs.Layout.{planes_of_tile}
+use Rattle.canvas.specs.Layout.{columns_of}
+use Rattle.blocks.proofs.Places.{part_within}
 use Rattle.painting.specs.Parts.{IsFlagged, RowsPaint}
 use Rattle.painting.proofs.Joined.{rows_none}
 use Rattle.painting.proofs.Strips.{one_column_more}

@@ -1,6 +1,6 @@
 use Rattle.std.proofs.Common.{ap, subst, sym, ◌∙◌}
 use Rattle.std.proofs.lemmas.Bool.{false≢true}
-use Rattle.canvas.specs.Layout.{is_plain}
+use Rattle.blocks.specs.Layout.{is_plain}
 use Rattle.painting.specs.Parts.{IsKeptAt, TilePaints}
 use Rattle.painting.proofs.OnePlane.{whole_painted}
 use Rattle.painting.proofs.whole.paint_whole.Goals as goal

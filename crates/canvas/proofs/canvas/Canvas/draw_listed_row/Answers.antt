@@ -1,6 +1,7 @@
 use Rattle.std.proofs.Common.{◌≡◌, ◌+◌, ◌-◌, ◌*◌, ◌<◌, ◌≤◌, ℕ, min, arith}
-use Rattle.canvas.specs.Layout.{columns_of, planes_of_tile}
-use Rattle.canvas.proofs.Places.{part_within}
+use Rattle.blocks.specs.Layout.{planes_of_tile}
+use Rattle.canvas.specs.Layout.{columns_of}
+use Rattle.blocks.proofs.Places.{part_within}
 use Rattle.canvas.proofs.Ends.{none_drawn, all_drawn, one_tile_drawn, column_of}
 use Rattle.canvas.proofs.Listed.{row_unmet}
 use Rattle.canvas.proofs.canvas.Canvas.draw_listed_row.Goals as goal

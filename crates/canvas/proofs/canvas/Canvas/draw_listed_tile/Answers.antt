@@ -2,10 +2,10 @@ use Rattle.std.proofs.Common.{◌≡◌, ◌∙◌, ◌+◌, ◌-◌, ◌*◌, �
 use Rattle.grid.specs.Samples.{count_of}
 use Rattle.lanes.specs.declared.block_samples.BlockSamples.{BlockSamples}
 use Rattle.shade.specs.declared.placed.Placed.{Placed}
-use Rattle.canvas.specs.Layout.{stored_in_tile}
+use Rattle.blocks.specs.Layout.{stored_in_tile}
 use Rattle.canvas.specs.Drawing.{TileHasEnds}
 use Rattle.canvas.specs.Rows.{numbered}
-use Rattle.canvas.proofs.Cut.{put}
+use Rattle.blocks.proofs.Cut.{put}
 use Rattle.canvas.proofs.DrawnTiles.{own_put, mark_put, tile_drawn}
 use Rattle.canvas.proofs.Listed.{nothing, columns_of_tile, tile_of_row}
 use Rattle.canvas.proofs.canvas.Canvas.draw_listed_tile.Goals as goal

@@ -1,6 +1,7 @@
 use Rattle.std.proofs.Common.{◌≡◌, ◌+◌, ◌-◌, ◌*◌, ◌<◌, ◌≤◌, ℕ, min, sym, subst, arith}
-use Rattle.canvas.specs.Layout.{columns_of, planes_of_tile}
-use Rattle.canvas.proofs.Places.{part_within}
+use Rattle.blocks.specs.Layout.{planes_of_tile}
+use Rattle.canvas.specs.Layout.{columns_of}
+use Rattle.blocks.proofs.Places.{part_within}
 use Rattle.canvas.proofs.Ends.{none_drawn, one_missed, all_drawn, one_tile_drawn, column_of, AreTilesDrawn}
 use Rattle.canvas.proofs.Masks.{mask_of_tile}
 use Rattle.canvas.proofs.Missed.{before_columns, behind_columns, no_mark_in_both}

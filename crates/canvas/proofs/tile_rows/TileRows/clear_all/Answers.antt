@@ -1,7 +1,8 @@
 use Rattle.std.proofs.Common.{◌≡◌, ◌+◌, ◌-◌, ◌*◌, ◌≤◌, ℕ, length, rules, arith}
 use Rattle.shade.specs.Canvas.{with_alpha}
-use Rattle.canvas.specs.Layout.{columns_of, planes_of_tile}
-use Rattle.canvas.proofs.Places.{part_within}
+use Rattle.blocks.specs.Layout.{planes_of_tile}
+use Rattle.canvas.specs.Layout.{columns_of}
+use Rattle.blocks.proofs.Places.{part_within}
 use Rattle.canvas.proofs.ClearedTiles.{all_tiles, one_cleared, none_cleared, all_cleared, all_uniform}
 use Rattle.canvas.proofs.tile_rows.TileRows.clear_all.Goals as goal
 

@@ -1,6 +1,6 @@
 use Rattle.std.proofs.Common.{◌≡◌, ◌+◌, ◌-◌, ◌*◌, ◌<◌, ◌≤◌, ℕ, length, min, sym, subst, rules, arith}
 use Rattle.canvas.specs.Layout.{planes_of_row}
-use Rattle.canvas.proofs.Places.{part_within}
+use Rattle.blocks.proofs.Places.{part_within}
 use Rattle.canvas.proofs.Ends.{none_drawn, one_missed, all_drawn, one_row_drawn, row_of_tiles, AreRowsDrawn}
 use Rattle.canvas.proofs.Missed.{above_rows, behind_rows, no_mark_in_row}
 use Rattle.canvas.proofs.tile_rows.TileRows.draw_chunk.Goals as goal

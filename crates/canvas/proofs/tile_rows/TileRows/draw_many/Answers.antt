@@ -1,6 +1,6 @@
 use Rattle.std.proofs.Common.{◌≡◌, ◌+◌, ◌-◌, ◌*◌, ◌<◌, ◌≤◌, ℕ, length, min, rules, arith}
 use Rattle.canvas.specs.Layout.{planes_of_row}
-use Rattle.canvas.proofs.Places.{part_within}
+use Rattle.blocks.proofs.Places.{part_within}
 use Rattle.canvas.proofs.Ends.{none_drawn, all_drawn, one_row_drawn, row_of_tiles}
 use Rattle.canvas.proofs.Listed.{outside_bounds}
 use Rattle.canvas.proofs.tile_rows.TileRows.draw_many.Goals as goal

@@ -1,6 +1,6 @@
 use Rattle.std.proofs.lemmas.Option.{IfSome_then}
 use Rattle.std.specs.Prelude.{IsSome}
-use Rattle.canvas.specs.declared.flat_block.FlatBlock.{FlatBlock}
+use Rattle.blocks.specs.declared.flat_block.FlatBlock.{FlatBlock}
 use Rattle.painting.proofs.FewSamples.{stays_drawn}
 use Rattle.painting.proofs.covered_block.CoveredBlock.flat_drawn.Goals as goal
 

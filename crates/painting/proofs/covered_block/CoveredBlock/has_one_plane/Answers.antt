@@ -3,9 +3,9 @@ use Rattle.std.proofs.lemmas.List.{length-take, length-drop}
 use Rattle.grid.specs.Samples.{count_of}
 use Rattle.shade.specs.declared.placed.Placed.{Placed}
 use Rattle.lanes.specs.declared.block_samples.BlockSamples.{BlockSamples}
-use Rattle.canvas.specs.declared.way.Way.TheVariants.{Own}
+use Rattle.blocks.specs.declared.way.Way.TheVariants.{Own}
 use Rattle.canvas.specs.Hidden.{ReplacesColours}
-use Rattle.canvas.specs.Layout.{way_in_tile}
+use Rattle.blocks.specs.Layout.{way_in_tile}
 use Rattle.painting.specs.Parts.{DrawsAlike}
 use Rattle.painting.proofs.BlocksAlike.{replaced_alike}
 use Rattle.painting.proofs.covered_block.CoveredBlock.has_one_plane.Goals as goal

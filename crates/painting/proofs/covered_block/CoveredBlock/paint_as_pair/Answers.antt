@@ -1,9 +1,9 @@
 use Rattle.std.proofs.Common.{rules, ◌≡◌, ◌∙◌, sym, subst, ap, ◌/◌, IsTrue}
 use Rattle.grid.specs.Samples.{count_of}
-use Rattle.canvas.specs.declared.way.Way.TheVariants.{Pair}
+use Rattle.blocks.specs.declared.way.Way.TheVariants.{Pair}
 use Rattle.shade.specs.declared.placed.Placed.{Placed}
 use Rattle.canvas.specs.Hidden.{ReplacesColours}
-use Rattle.canvas.specs.Layout.{place_by, in_list, way_in_tile, AreReplaced, HasMasks, KeepsOtherSamples}
+use Rattle.blocks.specs.Layout.{place_by, in_list, way_in_tile, AreReplaced, HasMasks, KeepsOtherSamples}
 use Rattle.painting.specs.Parts.{number_in_tile, DrawsPlane, HasNoMasks, IsInWords, IsKeptAt, TilePaints}
 use Rattle.painting.proofs.Joined.{tile_after_same}
 use Rattle.painting.proofs.PairBlocks.{no_masks_second, pair_painted, replaced_painted}

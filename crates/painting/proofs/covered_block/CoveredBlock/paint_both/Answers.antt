@@ -1,9 +1,9 @@
 use Rattle.std.proofs.Common.{rules, ◌≡◌, ◌∙◌, sym, subst, ap, ◌/◌}
 use Rattle.grid.specs.Samples.{count_of}
-use Rattle.canvas.specs.declared.way.Way.TheVariants.{Pair}
+use Rattle.blocks.specs.declared.way.Way.TheVariants.{Pair}
 use Rattle.lanes.specs.declared.block_samples.BlockSamples.{BlockSamples}
-use Rattle.canvas.specs.Layout.{place_by, way_of, way_in_tile}
-use Rattle.canvas.proofs.Places.{behind_first}
+use Rattle.blocks.specs.Layout.{place_by, way_of, way_in_tile}
+use Rattle.blocks.proofs.Places.{behind_first}
 use Rattle.painting.specs.Parts.{number_in_tile, HasNoMasks, IsKeptAt, KeepsPlanesBut, TilePaints}
 use Rattle.painting.proofs.PairBlocks.{no_masks_first, no_masks_second, both_painted}
 use Rattle.painting.proofs.covered_block.CoveredBlock.paint_both.Goals as goal

@@ -1,7 +1,7 @@
 use Rattle.std.proofs.Common.{◌≡◌, inl, inr, subst, List}
 use Rattle.lanes.specs.declared.block_samples.BlockSamples.{BlockSamples}
-use Rattle.canvas.specs.Layout.{KeepsOtherSamples}
-use Rattle.canvas.specs.Palettes.{HasPalette}
+use Rattle.blocks.specs.Layout.{KeepsOtherSamples}
+use Rattle.blocks.specs.Palettes.{HasPalette}
 use Rattle.painting.specs.Parts.{number_in_tile, IsInWords, IsPaletteDrawn, TilePaints}
 use Rattle.painting.specs.FewSamples.{IsNotDrawnInFour, IsNotKeptInFour, LeavesNoPalette}
 use Rattle.painting.proofs.FewSamples.{leaves_many, not_in_four}

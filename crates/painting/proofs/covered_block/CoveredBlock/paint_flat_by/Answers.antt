@@ -1,6 +1,6 @@
 use Rattle.std.proofs.Common.{◌≡◌, inr, subst}
-use Rattle.canvas.specs.Layout.{KeepsOtherSamples}
-use Rattle.canvas.specs.FlatBlocks.{HasFlat}
+use Rattle.blocks.specs.Layout.{KeepsOtherSamples}
+use Rattle.blocks.specs.FlatBlocks.{HasFlat}
 use Rattle.painting.specs.Parts.{number_in_tile, IsFlatDrawn, IsInBlock, IsInWords}
 use Rattle.painting.proofs.FewSamples.{flat_not_kept, flat_not_left, not_flat, not_in_block}
 use Rattle.painting.proofs.FlatBlocks.{flat_painted}

@@ -1,6 +1,6 @@
 use Rattle.std.proofs.Common.{refl, ◌≡◌, subst}
-use Rattle.canvas.specs.Layout.{KeepsOtherSamples}
-use Rattle.canvas.specs.FlatBlocks.{HasFlat, HasOne}
+use Rattle.blocks.specs.Layout.{KeepsOtherSamples}
+use Rattle.blocks.specs.FlatBlocks.{HasFlat, HasOne}
 use Rattle.painting.specs.Parts.{number_in_tile}
 use Rattle.painting.proofs.FlatBlocks.{as_two, drawn_in_words, flat_painted, has_two, one_painted, one_replaced}
 use Rattle.painting.proofs.OnePlane.{full_painted}

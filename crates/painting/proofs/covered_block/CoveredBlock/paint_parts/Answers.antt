@@ -1,6 +1,6 @@
 use Rattle.std.proofs.Common.{◌≡◌, arith, sym, subst, ◌+◌, ◌≤◌, List}
-use Rattle.canvas.specs.declared.way.Way.TheVariants.{Own}
-use Rattle.canvas.specs.Layout.{way_in_tile}
+use Rattle.blocks.specs.declared.way.Way.TheVariants.{Own}
+use Rattle.blocks.specs.Layout.{way_in_tile}
 use Rattle.lanes.specs.declared.block_samples.BlockSamples.{BlockSamples}
 use Rattle.painting.specs.Parts.{number_in_tile, IsInBlock, TilePaints}
 use Rattle.painting.proofs.BlockParts.{OfParts, no_part, block_part_more, block_part_skipped, every_part}

@@ -1,6 +1,6 @@
 use Rattle.std.proofs.Common.{◌≡◌}
-use Rattle.canvas.specs.declared.way.Way.TheVariants.{Own}
-use Rattle.canvas.specs.Layout.{way_in_tile}
+use Rattle.blocks.specs.declared.way.Way.TheVariants.{Own}
+use Rattle.blocks.specs.Layout.{way_in_tile}
 use Rattle.painting.specs.Parts.{number_in_tile, IsInBlock, TilePaints}
 use Rattle.painting.proofs.BlockParts.{OfParts}
 use Rattle.painting.proofs.covered_block.CoveredBlock.paint_parts.Given as goal

@@ -1,7 +1,7 @@
 use Rattle.std.proofs.lemmas.Bool.{false≢true}
 use Rattle.std.proofs.Common.{refl, ◌≡◌, ◌∙◌, ap, subst, sym}
-use Rattle.canvas.specs.declared.way.Way.TheVariants.{Single}
-use Rattle.canvas.specs.Layout.{is_plain, place_by}
+use Rattle.blocks.specs.declared.way.Way.TheVariants.{Single}
+use Rattle.blocks.specs.Layout.{is_plain, place_by}
 use Rattle.painting.specs.Parts.{number_in_tile, HasNoMasks, IsKeptAt, TilePaints}
 use Rattle.painting.proofs.OnePlane.{no_masks_at, single_painted}
 use Rattle.shade.proofs.Resolved.{some_samples}

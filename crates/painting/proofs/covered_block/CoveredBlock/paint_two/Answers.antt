@@ -1,7 +1,7 @@
 use Rattle.std.proofs.Common.{◌≡◌, subst}
-use Rattle.canvas.specs.Layout.{KeepsOtherSamples}
-use Rattle.canvas.specs.FlatBlocks.{HasFlat}
-use Rattle.canvas.specs.Palettes.{HasPalette, IsFlatReplacedInFour}
+use Rattle.blocks.specs.Layout.{KeepsOtherSamples}
+use Rattle.blocks.specs.FlatBlocks.{HasFlat}
+use Rattle.blocks.specs.Palettes.{HasPalette, IsFlatReplacedInFour}
 use Rattle.painting.specs.Parts.{number_in_tile}
 use Rattle.painting.specs.FewSamples.{IsNotKeptFlat}
 use Rattle.painting.proofs.FewSamples.{not_flat}

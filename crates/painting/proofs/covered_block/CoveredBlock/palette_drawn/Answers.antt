@@ -1,6 +1,6 @@
 use Rattle.std.proofs.Common.{[], ◌∷◌}
 use Rattle.std.proofs.lemmas.Option.{IfSome_then}
-use Rattle.canvas.specs.declared.palette.Palette.{Palette}
+use Rattle.blocks.specs.declared.palette.Palette.{Palette}
 use Rattle.painting.proofs.FewSamples.{if_none_then}
 use Rattle.painting.proofs.FlatBlocks.{each_drawn}
 use Rattle.painting.proofs.covered_block.CoveredBlock.palette_drawn.Goals as goal

@@ -1,6 +1,6 @@
 use Rattle.std.proofs.Common.{rules, sym, ap, subst, arith, ◌≡◌, ◌+◌, ◌-◌, ◌*◌, ◌<◌, ◌≤◌, get_or, length, ℕ, [], ◌∷◌}
 use Rattle.canvas.specs.Layout.{planes_of_row}
-use Rattle.canvas.proofs.Places.{part_within}
+use Rattle.blocks.proofs.Places.{part_within}
 use Rattle.painting.specs.Batches.{shape_in, shapes_between}
 use Rattle.painting.specs.Painting.{Shape, ArePainted}
 use Rattle.painting.specs.declared.group.Span.{Span}

@@ -1,0 +1,11 @@
+pub mod Cut
+pub mod Places
+pub mod Ways
+pub mod TilePlanes
+pub mod Pairs
+pub mod FlatBlocks
+pub mod Palettes
+pub mod Needed
+pub mod MaskLanes
+pub mod MaskBits
+pub mod BlockMeans

@@ -1,0 +1,81 @@
+-- The definitions of this crate, each file behind those that it uses; `python3 -m tools.definitions` writes these lines.
+--
+-- Layout.antt
+--   planes_of_tile: How many planes a tile has.
+--   block_in_tile: The number of the block of pixel (i, j) among the 64 of its tile, row by row.
+--   pixel_in_block: The number of pixel (i, j) among the 64 of its block, row by row.
+--   by_byte: The way in which a block keeps its samples, by a byte.
+--   way_of: The way in which block k of a tile keeps its samples, by the tile's first plane.
+--   flat_place: The index of the plane with a sample of flat block k among those of its tile.
+--   place_by: The index of own plane n of block k among the planes of its tile, if the block keeps its samples in this way.
+--   slot_by: The number in its plane of the sample of pixel p of block k, by the way in which the block keeps its samples.
+--   is_plain: Whether a block that is kept in this way has its samples of an index in one plane, each at the number of its pixel.
+--   mask_of: The mask of sample index s, 64 bits in place of depths: bit p says in which plane of a pair pixel p has the sample.
+--   if_bit: The number, if the mask has bit p, else 0.
+--   own_plane: Which of the own planes of a block has sample s of pixel p.
+--   masks_place: The index of the plane with the masks of block k among those of its tile, if it is a pair: the last of its own planes.
+--   masks_in: The masks of block k of a tile with these planes.
+--   masks_from: The masks of a plane from this number on.
+--   further_plane: Which of a block's own planes has its further masks, if it has up to four samples: the last one, behind its masks.
+--   first_further: The number of the first further mask among those of its plane.
+--   more_place: The index of the plane with the further masks of block k among those of its tile.
+--   more_in: The further masks of block k of a tile with these planes.
+--   sample_place: The index of the plane of sample s of pixel p of block k among those of its tile, if it keeps its samples in this way.
+--   place_in_tile: The index of the plane of sample s of pixel (i, j) among those of its tile.
+--   sample_in: Sample s of pixel (i, j), by the planes of its tile.
+--   in_list: The planes of a tile by their index.
+--   stored_in_tile: Sample s of the pixel in a column and a row of a tile, as it is stored in the tile's planes.
+--   way_in_tile: The way in which block k of a tile keeps its samples, by the tile's planes.
+--   IsSameTile: Each sample of the tile is unchanged.
+--   KeepsOtherSamples: Each sample of the tile that is not one of block k is unchanged.
+--   KeepsOtherWays: All blocks of the tile but block k keep their samples in the way in which they did.
+--   chosen: Where the mask has a bit, the first sample, else the second.
+--   AreOwnBy: Each sample of block k, which kept them in this way before, is now in its own plane.
+--   KeepsOtherPlanes: All planes of the tile but the own ones of block k are unchanged.
+--   HasMasks: The masks of block k of a tile, which is a pair, are these.
+--   AreReplaced: Of block k sample s of a pixel is that of this plane where mask s has the pixel's bit, else it is unchanged.
+--   id_of: The id that is stored in place of a colour: red is its lowest byte.
+--   IsUniformTile: All blocks of the tile are kept as the one to which it was cleared, and all of its samples have one id.
+--
+-- Lanes.antt
+--   AreChosen: Each pixel has the number of `set` where its lane is 1, else that of `clear`.
+--   channel_of: A channel of a sample.
+--
+-- Means.antt
+--   IsMeanOf: The colour and the alpha of a sample are resolved from these samples.
+--   HasMeansOf: The plane has the mean of the samples of each pixel of block k of the tile with these planes.
+--
+-- FlatBlocks.antt
+--   flat_sample: Sample s of pixel p of the block: the second one where its mask has the pixel's bit, else the first.
+--   HasFlat: The samples of block k of a tile are these.
+--   HasOne: All samples of block k of a tile are this one.
+--   with_samples: The block once `first` has taken the place of its first sample, and `second` that of its second one.
+--   IsFlatReplaced: Where the masks have a bit, `first` has taken the place of the first sample, and `second` that of the second one.
+--   HaveAll: The masks have all samples of all pixels.
+--   HaveFirst: The masks have all samples that are the first one.
+--   HaveSecond: The masks have all samples that are the second one.
+--   StaysPair: One sample takes the places of both, and no third one is left beside it.
+--   StaysFlat: The block has one sample or two once others have taken places of its samples.
+--
+-- Palettes.antt
+--   palette_number: The number of sample s of pixel p in the palette: the pixel's bit in the low mask, and twice that in the high one.
+--   sample_numbered: The sample of this number.
+--   palette_sample: Sample s of pixel p of the block.
+--   HasPalette: The samples of block k of a tile are these.
+--   IsPaletteReplaced: Where the masks have a bit, the sample of the same number among `drawn` has taken the place of each sample.
+--   IsFlatReplacedInFour: Of a block of one sample or two, `first` and `second` have taken the place of these where the masks have a bit.
+--   HasNoPalette: No palette has what is to be there then: it is more than four samples.
+--   HasNumbers: The mask has the bit of pixel p if its sample s has this number.
+--   place_of_number: The number among those of the samples of a pixel with which sample `number` of a flat block is stored.
+--   HasNoNumber: None of the samples that have the first numbers is this one.
+--   IsNewNumber: Number n is the next one after those in use.
+--   IsGathered: Sample s of pixel p has one of the first numbers, and is this one.
+--   AreSamplesStored: Those samples of the palette that are one of flat block k are in the block's places for them.
+--   KeepsOtherPlaces: What stands in a place of another block is unchanged, in whatever way that block is kept.
+--   IsSampleStored: The sample of this number is stored as one of flat block k.
+
+pub mod Layout
+pub mod Lanes
+pub mod Means
+pub mod FlatBlocks
+pub mod Palettes

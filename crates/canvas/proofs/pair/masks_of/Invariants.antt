@@ -1,9 +1,0 @@
-use Rattle.std.proofs.Common.{◌≡◌, ℕ, ◌<◌, length, slice_index}
-use Rattle.canvas.specs.Layout.{mask_of}
-use Rattle.canvas.proofs.pair.masks_of.Given as goal
-
-abbrev pub invariant-loop-s : goal.invariant-loop-s
-invariant-loop-s l = record {
-  long : length l.masks ≡ 16;
-  read : (t : ℕ) → t < l.s → slice_index l.masks t ≡ mask_of l.plane t;
-}

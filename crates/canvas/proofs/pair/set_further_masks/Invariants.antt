@@ -1,9 +1,0 @@
-use Rattle.std.proofs.Common.{◌≡◌, ℕ, ◌+◌, ◌<◌, slice_index}
-use Rattle.canvas.specs.Layout.{mask_of}
-use Rattle.canvas.proofs.pair.set_further_masks.Given as goal
-
-abbrev pub invariant-loop-s : goal.invariant-loop-s
-invariant-loop-s l = record {
-  set : (t : ℕ) → t < l.s → mask_of l.plane (l.first + t) ≡ slice_index l.fn.masks t;
-  before : (t : ℕ) → t < l.first → mask_of l.plane t ≡ mask_of l.fn.plane t;
-}

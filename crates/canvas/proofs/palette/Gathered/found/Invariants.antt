@@ -1,5 +1,0 @@
-use Rattle.canvas.specs.Palettes.{HasNoNumber}
-use Rattle.canvas.proofs.palette.Gathered.found.Given as goal
-
-abbrev pub invariant-loop-n : goal.invariant-loop-n
-invariant-loop-n l = HasNoNumber l.self.palette.samples l.n l.sample

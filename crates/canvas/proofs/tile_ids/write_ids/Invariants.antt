@@ -1,6 +1,0 @@
-use Rattle.canvas.proofs.Units.{AreUnits}
-use Rattle.canvas.proofs.TileEntries.{HasIdsOf}
-use Rattle.canvas.proofs.tile_ids.write_ids.Given as goal
-
-abbrev pub invariant-loop-number : goal.invariant-loop-number
-invariant-loop-number l = AreUnits 64 (λ n ids. HasIdsOf l.count l.samples n ids) l.number l.ids

@@ -1,6 +1,0 @@
-use Rattle.canvas.specs.Palettes.{palette_sample}
-use Rattle.canvas.proofs.TilePlanes.{AreFilled}
-use Rattle.canvas.proofs.tile_planes.fill_four.Given as goal
-
-abbrev pub invariant-loop-s : goal.invariant-loop-s
-invariant-loop-s l = AreFilled l.fn.count l.k l.s (λ s p. palette_sample l.palette s p) l.fn.samples l.samples

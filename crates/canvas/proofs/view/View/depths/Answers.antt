@@ -1,6 +1,0 @@
-use Rattle.std.proofs.Common.{}
-use Rattle.std.proofs.lemmas.List.{map-id}
-use Rattle.canvas.proofs.view.View.depths.Goals as goal
-
-pub returns-clause-depths : goal.returns-clause-depths
-returns-clause-depths c = rw (map-id, map-id) at c.entries.ensures.entries
