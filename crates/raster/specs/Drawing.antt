@@ -1,5 +1,5 @@
 -- What a triangle makes of the samples of a tile.
-use Rattle.std.specs.Prelude.{◌≡◌, ◌↔◌, ℕ, ◌+◌, ◌-◌, ◌*◌, ◌/◌, ◌%◌, ◌^◌, ◌<◌, ◌≤◌, List, slice_index, IsBitSet}
+use Rattle.std.specs.Prelude.{◌≡◌, ◌↔◌, ℕ, ◌+◌, ◌-◌, ◌*◌, ◌/◌, ◌%◌, ◌^◌, ◌<◌, ◌≤◌, List, slice_index, IsBitSet, IsTrue}
 use Rattle.grid.specs.Pixels.{side_of, IsInBox}
 use Rattle.grid.specs.Samples.{part_size, sample_position}
 use Rattle.grid.specs.declared.triangle.Tri.{Tri}
@@ -12,6 +12,7 @@ use Rattle.cover.specs.Square.{TestedSquare, CoversIn}
 use Rattle.shade.specs.declared.placed.Placed.{Placed}
 use Rattle.shade.specs.declared.state.State.{State}
 use Rattle.shade.specs.Canvas.{IsCanvasDrawnAt, CanvasDraws}
+use Rattle.raster.specs.declared.lazy.LazyInterpolants.{LazyInterpolants}
 use Rattle.raster.specs.declared.tile.Tile.{Tile}
 use Rattle.raster.specs.Samples.{IsSampleOf, stored}
 
@@ -76,6 +77,10 @@ ArePlanesOf t bx by count from planes = (s : ℕ) → s < part_size count → Is
 abbrev pub CoversNoneOf : TestedSquare → ℕ → Type 0
 CoversNoneOf q from =
     (s row column : ℕ) → s < part_size q.count → row < side_of q.side → column < side_of q.side → ¬ CoversIn q (from + s) row column
+
+-- If they are set up, the interpolants are those of this triangle.
+abbrev pub AreOf : LazyInterpolants → Placed → Type 0
+AreOf lazy t = IsTrue lazy.is_made → lazy.interpolants ≡ t
 
 -- ---- masks
 

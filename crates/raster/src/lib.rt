@@ -3,6 +3,7 @@
 
 mod block;
 mod cleared;
+mod lazy;
 mod pixel_row;
 mod rasterize;
 mod region;
@@ -11,6 +12,7 @@ mod tile;
 
 pub use block::draw_masks;
 pub use cleared::clear;
+pub use lazy::LazyInterpolants;
 pub use pixel_row::{colours, eight_from, first_of_many, interleaved};
 pub use rasterize::{covers_tile, draw_next, draw_triangle};
 pub use scissor::holds_tile;

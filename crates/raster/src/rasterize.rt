@@ -8,15 +8,16 @@ ghost use Rattle.cover.specs.Rasterized.{IsRasterized};
 ghost use Rattle.cover.specs.Square.{CoversAll, CoversInPatch, IsClassOf};
 ghost use Rattle.raster.specs.Samples.{planes_of};
 ghost use Rattle.raster.specs.Region.{HoldsTile};
-ghost use Rattle.raster.specs.Drawing.{DrawsTile, DrawsPart, IsInSquare, IsInSquarePart, ArePlanesOf, CoversNoneOf, LiesIn, square_of};
+ghost use Rattle.raster.specs.Drawing.{AreOf, DrawsTile, DrawsPart, IsInSquare, IsInSquarePart, ArePlanesOf, CoversNoneOf, LiesIn, block_of, square_of};
 
 use crate::block::draw_masks;
+use crate::lazy::LazyInterpolants;
 use crate::region::{Region, patch};
 use crate::scissor::holds_tile;
 use crate::tile::Tile;
 use cover::{Class, Masks, Setup, Square};
 use grid::{PixelBox, SampleCount, TileSide};
-use lanes::{BlockSamples, Interpolants};
+use lanes::BlockSamples;
 use planes::Corrections;
 use shade::Placed;
 
@@ -87,151 +88,107 @@ pub fn covers_tile(setup: &Setup, tile: &Tile) -> bool
     }
 }
 
-/// Makes the triangle ready, if it is not yet, in place of the one before.
-#[inline(always)]
-fn make_once(triangle: &Placed, interpolants: &mut Interpolants, is_made: &mut bool)
-    requires drawn { IsRasterized triangle.now.tri triangle.now.state.cull }
-    requires made { IsTrue is_made.old → interpolants.old ≡ triangle.now }
-    ensures { interpolants.new ≡ triangle.now }
-{
-    if !*is_made {
-        interpolants.make(triangle);
-        *is_made = true;
-    }
-}
-
-/// Makes the triangle ready anew, once, if much of it was corrected: with whole values searched for.
-#[inline]
-fn raise_if_asked(interpolants: &mut Interpolants, corrections: &mut Corrections)
-    requires { IsRasterized interpolants.old.tri interpolants.old.state.cull }
-    ensures { interpolants.new ≡ interpolants.old }
-{
-    if corrections.ask_for_search() {
-        interpolants.raise();
-    }
-}
-
-/// Draws the triangle at the samples of block (bx, by) of the tile, of the part that begins with sample `from`. The
-/// block is of this class. If a patch is given, all samples of it that are covered are in these 4 by 4 pixels. The
-/// triangle is made ready at the first block that is not left out.
-#[inline(always)]
-fn draw_part<const N: u32>(
-    triangle: &Placed,
-    tile: &Tile,
-    block: &Square,
-    class: Class,
+/// A triangle that is drawn at the samples of a tile, and what is known of both.
+#[derive(Drop)]
+struct TileDraw<'a> {
+    /// The triangle.
+    triangle: &'a Placed,
+    /// Its edges.
+    setup: &'a Setup,
+    /// The tile.
+    tile: &'a Tile,
+    /// How many samples a pixel has.
     count: SampleCount,
+    /// Whether all samples of the tile are covered.
+    all: bool,
+    /// Whether all pixels of the tile are in the scissor.
+    whole: bool,
+    ghost edges: { setup.now ≡ triangle.now.tri },
+    ghost rasterized: { IsRasterized triangle.now.tri triangle.now.state.cull },
+    ghost samples: { count ≡ tile.now.count },
+    ghost allows: { IsTrue whole → HoldsTile triangle.now.state.scissor tile.now },
+}
+
+/// Draws the triangle at those samples of block (bx, by) that it covers, of the part that begins with sample `from`. If
+/// there are none, there are no masks. The interpolants are set up at the first block of which something is drawn.
+#[inline(always)]
+fn draw_part(
+    draw: &TileDraw<'_>,
     bx: u32,
     by: u32,
     from: u32,
-    patch: Option<(u32, u32)>,
-    whole: bool,
-    interpolants: &mut Interpolants,
-    is_made: &mut bool,
+    planes: Option<[u64; 4]>,
+    interpolants: &mut LazyInterpolants,
     samples: &mut [BlockSamples],
     corrections: &mut Corrections,
 )
-    requires samples { length samples.old ≡ planes_of tile.now.side tile.now.count }
-    requires count { count ≡ tile.now.count }
-    requires lies { LiesIn tile.now bx by 8 }
-    requires drawn { IsRasterized triangle.now.tri triangle.now.state.cull }
-    requires block { block.now ≡ record { triangle = triangle.now.tri; bx = bx; by = by; side = T8; count = count } }
-    requires class { IsClassOf (record { triangle = triangle.now.tri; bx = bx; by = by; side = T8; count = count })
-        class }
-    requires part { IsPart count from }
-    requires patch { IfSome patch (λ p. CoversInPatch
-        (record { triangle = triangle.now.tri; bx = bx; by = by; side = T8; count = count }) p.0 p.1) }
-    requires whole { IsTrue whole → HoldsTile triangle.now.state.scissor tile.now }
-    requires made { IsTrue is_made.old → interpolants.old ≡ triangle.now }
-    ensures drawn { DrawsPart triangle.now tile.now (IsInSquarePart tile.now bx by 8 from) samples.old samples.new }
-    ensures made { IsTrue is_made.new → interpolants.new ≡ triangle.now }
+    requires samples { length samples.old ≡ planes_of draw.now.tile.now.side draw.now.tile.now.count }
+    requires lies { LiesIn draw.now.tile.now bx by 8 }
+    requires part { IsPart draw.now.count from }
+    requires some { IfSome planes (ArePlanesOf draw.now.triangle.now.tri bx by draw.now.tile.now.count from) }
+    requires none { planes ≡ None → CoversNoneOf (block_of draw.now.triangle.now.tri draw.now.tile.now bx by) from }
+    requires made { AreOf interpolants.old draw.now.triangle.now }
+    ensures drawn { DrawsPart draw.now.triangle.now draw.now.tile.now (IsInSquarePart draw.now.tile.now bx by 8 from)
+        samples.old samples.new }
+    ensures made { AreOf interpolants.new draw.now.triangle.now }
 {
-    if let Some(covered) = planes::<N>(block, class, from, patch) {
-        make_once(triangle, interpolants, is_made);
+    if let Some(covered) = planes {
+        interpolants.make_once(draw.triangle);
         draw_masks(
-            interpolants,
-            tile,
-            count,
+            &interpolants.interpolants,
+            draw.tile,
+            draw.count,
             bx,
             by,
             from,
             &covered,
-            whole,
+            draw.whole,
             samples,
             corrections,
         );
-        raise_if_asked(interpolants, corrections);
+        interpolants.raise_if_asked(corrections);
     }
 }
 
 /// Draws the triangle at the samples of block (bx, by) of the tile, one part of at most four samples of a pixel after
-/// another. A pixel has `N` samples, which is `count`. `bounds` is the box of the triangle's pixels, and `all` says
-/// that all samples of the tile are covered.
+/// another. A pixel has `N` samples, and `bounds` is the box of the triangle's pixels.
 #[inline(always)]
 fn draw_parts<const N: u32>(
-    triangle: &Placed,
-    setup: &Setup,
+    draw: &TileDraw<'_>,
     bounds: &PixelBox,
-    tile: &Tile,
-    count: SampleCount,
     bx: u32,
     by: u32,
-    all: bool,
-    whole: bool,
-    interpolants: &mut Interpolants,
-    is_made: &mut bool,
+    interpolants: &mut LazyInterpolants,
     samples: &mut [BlockSamples],
     corrections: &mut Corrections,
 )
-    requires samples { length samples.old ≡ planes_of tile.now.side tile.now.count }
-    requires setup { setup.now ≡ triangle.now.tri }
-    requires bounds { HoldsCovered triangle.now.tri bounds.now }
-    requires count { count ≡ tile.now.count }
-    requires number { count_of count ≡ N }
-    requires lies { LiesIn tile.now bx by 8 }
-    requires drawn { IsRasterized triangle.now.tri triangle.now.state.cull }
-    requires all { IsTrue all → CoversAll (square_of triangle.now.tri tile.now) }
-    requires whole { IsTrue whole → HoldsTile triangle.now.state.scissor tile.now }
-    requires made { IsTrue is_made.old → interpolants.old ≡ triangle.now }
-    ensures drawn { DrawsPart triangle.now tile.now (IsInSquare tile.now bx by 8) samples.old samples.new }
-    ensures made { IsTrue is_made.new → interpolants.new ≡ triangle.now }
+    requires samples { length samples.old ≡ planes_of draw.now.tile.now.side draw.now.tile.now.count }
+    requires bounds { HoldsCovered draw.now.triangle.now.tri bounds.now }
+    requires number { count_of draw.now.count ≡ N }
+    requires lies { LiesIn draw.now.tile.now bx by 8 }
+    requires covers { IsTrue draw.now.all → CoversAll (square_of draw.now.triangle.now.tri draw.now.tile.now) }
+    requires made { AreOf interpolants.old draw.now.triangle.now }
+    ensures drawn { DrawsPart draw.now.triangle.now draw.now.tile.now (IsInSquare draw.now.tile.now bx by 8) samples.old
+        samples.new }
+    ensures made { AreOf interpolants.new draw.now.triangle.now }
 {
-    let block = setup.square(bx, by, TileSide::T8, count);
-    let class = class_of(&block, all);
+    let block = draw.setup.square(bx, by, TileSide::T8, draw.count);
+    let class = class_of(&block, draw.all);
     // A loop of one turn would try all edges of a block first, whatever its class.
     if N < 8 {
-        draw_part::<N>(
-            triangle,
-            tile,
-            &block,
-            class,
-            count,
-            bx,
-            by,
-            0,
-            None,
-            whole,
-            interpolants,
-            is_made,
-            samples,
-            corrections,
-        );
+        let covered = planes::<N>(&block, class, 0, None);
+        draw_part(draw, bx, by, 0, covered, interpolants, samples, corrections);
     } else {
         let patch = patch(bounds, bx, by);
-        for part in 0..count.parts() {
-            draw_part::<N>(
-                triangle,
-                tile,
-                &block,
-                class,
-                count,
+        for part in 0..draw.count.parts() {
+            let covered = planes::<N>(&block, class, 4 * part, patch);
+            draw_part(
+                draw,
                 bx,
                 by,
                 4 * part,
-                patch,
-                whole,
+                covered,
                 interpolants,
-                is_made,
                 samples,
                 corrections,
             );
@@ -249,37 +206,36 @@ fn draw_blocks<const N: u32>(
     tile: &Tile,
     count: SampleCount,
     samples: &mut [BlockSamples],
-    interpolants: &mut Interpolants,
-    is_made: &mut bool,
+    interpolants: &mut LazyInterpolants,
 )
     requires samples { length samples.old ≡ planes_of tile.now.side tile.now.count }
     requires setup { setup.now ≡ triangle.now.tri }
     requires count { count ≡ tile.now.count }
     requires number { count_of count ≡ N }
     requires drawn { IsRasterized triangle.now.tri triangle.now.state.cull }
-    requires made { IsTrue is_made.old → interpolants.old ≡ triangle.now }
+    requires made { AreOf interpolants.old triangle.now }
     ensures { DrawsTile triangle.now tile.now samples.old samples.new }
 {
     let bounds = setup.bounds();
     let region = Region::of(tile, &bounds, &triangle.state.scissor);
-    // A triangle whose region has not all of the tile's blocks does not cover the tile.
-    let all = region.has_all_of(tile) && covers_tile(setup, tile);
-    let whole = holds_tile(&triangle.state.scissor, tile);
+    let draw = TileDraw {
+        triangle,
+        setup,
+        tile,
+        count,
+        // A triangle whose region has not all of the tile's blocks does not cover the tile.
+        all: region.has_all_of(tile) && covers_tile(setup, tile),
+        whole: holds_tile(&triangle.state.scissor, tile),
+    };
     let mut corrections = Corrections::none();
     for by in region.top..region.bottom {
         for bx in region.left..region.right {
             draw_parts::<N>(
-                triangle,
-                setup,
+                &draw,
                 &bounds,
-                tile,
-                count,
                 bx,
                 by,
-                all,
-                whole,
                 interpolants,
-                is_made,
                 samples,
                 &mut corrections,
             );
@@ -292,22 +248,23 @@ pub fn draw_triangle(triangle: &Placed, tile: &Tile, samples: &mut [BlockSamples
     requires { length samples.old ≡ planes_of tile.now.side tile.now.count }
     ensures { DrawsTile triangle.now tile.now samples.old samples.new }
 {
-    let mut interpolants = Interpolants::one_by_one(triangle);
+    let mut interpolants = LazyInterpolants::none(triangle);
     draw_next(triangle, tile, samples, &mut interpolants);
 }
 
-/// Draws one triangle of many at the samples of the tile that it meets: it is made ready in the memory of the one before.
+/// Draws one triangle of many at the samples of the tile that it meets, with the memory for interpolants of the one
+/// before.
 pub fn draw_next(
     triangle: &Placed,
     tile: &Tile,
     samples: &mut [BlockSamples],
-    interpolants: &mut Interpolants,
+    interpolants: &mut LazyInterpolants,
 )
     requires { length samples.old ≡ planes_of tile.now.side tile.now.count }
     ensures { DrawsTile triangle.now tile.now samples.old samples.new }
 {
     if let Some(setup) = Setup::new(&triangle.tri, triangle.state.cull) {
-        let mut is_made = false;
+        interpolants.forget();
         match tile.count {
             SampleCount::One => {
                 draw_blocks::<1>(
@@ -317,7 +274,6 @@ pub fn draw_next(
                     SampleCount::One,
                     samples,
                     interpolants,
-                    &mut is_made,
                 );
             }
             SampleCount::Two => {
@@ -328,7 +284,6 @@ pub fn draw_next(
                     SampleCount::Two,
                     samples,
                     interpolants,
-                    &mut is_made,
                 );
             }
             SampleCount::Four => {
@@ -339,7 +294,6 @@ pub fn draw_next(
                     SampleCount::Four,
                     samples,
                     interpolants,
-                    &mut is_made,
                 );
             }
             SampleCount::Eight => {
@@ -350,7 +304,6 @@ pub fn draw_next(
                     SampleCount::Eight,
                     samples,
                     interpolants,
-                    &mut is_made,
                 );
             }
             SampleCount::Sixteen => {
@@ -361,7 +314,6 @@ pub fn draw_next(
                     SampleCount::Sixteen,
                     samples,
                     interpolants,
-                    &mut is_made,
                 );
             }
         }

@@ -13,9 +13,9 @@ use crate::pixels::{SampledTile, colour_run};
 use crate::store::Store;
 use bins::{Bins, Fetched};
 use grid::{OutOfMemory, SampleCount, TileSide};
-use lanes::{BlockSamples, Interpolants};
+use lanes::BlockSamples;
 use model::DrawList;
-use raster::{Tile, clear, draw_next};
+use raster::{LazyInterpolants, Tile, clear, draw_next};
 use std::alloc::Global;
 use tiling::{TilePixels, Tiling};
 
@@ -39,7 +39,7 @@ fn draw_bin(
     let Some(mut fetched) = Fetched::of(list, numbers) else {
         return Some(colour_run(tile, samples, 0, 0));
     };
-    let mut interpolants = Interpolants::one_by_one(fetched.triangle(0));
+    let mut interpolants = LazyInterpolants::none(fetched.triangle(0));
     for place in 0..numbers.len() {
         fetched.go_on(list, numbers, place);
         let triangle = fetched.triangle(place).keeping_alpha();
