@@ -15,8 +15,9 @@ from .common import DRAW_LIST, NUMPY, VERTICES, bytes_of, run
 
 # `interrupted` makes a call, and interrupts it after some milliseconds, and then every 4 ms as long as it runs.
 INTERRUPTS = """
-import signal, struct, trirast
+import json, signal, struct, trirast
 from array import array
+from time import monotonic
 armed = False
 
 def interrupt(*_):
@@ -144,6 +145,21 @@ for draw, wanted in whole.items():
         print(0 < len(others) <= 64, set(others) == {bytes(12288)})
 """,
             4 * "True True\n",
+        )
+
+    def test_come_between_parts_of_a_list_that_takes_long(self) -> None:
+        self.must_end_well(
+            """
+square = [[256 * x, 256 * y, 0, 9, 9, 9, 200] for x, y in ((0, 0), (4096, 0), (4096, 4096), (0, 4096))]
+one = {"blend": "over", "vertices": square, "quads": [[0, 1, 2, 3]] * 2000}
+text = json.dumps({"width": 4096, "height": 4096, "samples": 4, "draws": [one]}, separators=(",", ":"))
+for threads in 1, 3:
+    pixels = bytearray(3 * 4096 * 4096)
+    begun = monotonic()
+    interrupted(lambda: trirast.draw(text, threads=threads, out=pixels), 2)
+    print(monotonic() - begun < 30, set(pixels) == {0, 9})
+""",
+            2 * "True True\n",
         )
 
     def test_come_after_the_threads(self) -> None:

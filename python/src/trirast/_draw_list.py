@@ -1,7 +1,8 @@
 """Draw lists, which are JSON texts, and their pictures."""
 
 import json
-from typing import Any, Dict, List, Optional, SupportsIndex, Tuple, Union
+from time import perf_counter
+from typing import Any, Callable, Dict, List, Optional, SupportsIndex, Tuple, Union
 
 from ._arguments import integer, shown, thread_count
 from ._buffers import Buffer, exact_bytes
@@ -12,6 +13,12 @@ from ._threads import share, with_stack
 
 TILE_SIZES = (8, 16, 32, 64)
 MAX_BYTES = 67108864
+# A triangle takes at least two bytes of a list, as the index of a strip. Where triangles as large as the picture meet
+# more pixels, it is looked how long one tile row takes: they may take some tenths of a second.
+LONG_PIXELS = 1 << 29
+TRIANGLE_BYTES, MAX_TRIANGLES = 2, 65536
+# What takes longer is drawn in parts of so many seconds. Each reads the list, in a tenth of its time at most.
+PART_SECONDS, READINGS = 0.5, 10
 DrawList = Union[bytes, bytearray, memoryview, str, Dict[str, Any], List[Any]]
 
 
@@ -24,12 +31,15 @@ def draw(
     `tile_size` is the width and height of a tile in pixels, 8, 16, 32 or 64. `threads` is how many threads draw, each
     its own part of the picture; it is what the program calls workers. Neither changes a byte. Each thread reads the
     whole list, so several pay if drawing takes longer than reading. `out` is a buffer for the pixels, as a numpy array
-    or a bytearray, of exactly their size and shape. An interrupt is raised when the threads have ended. Raises an
+    or a bytearray, of exactly their size and shape. An interrupt is raised when the threads have ended. What takes more
+    than half a second or so is drawn in parts, of which an interrupt leaves out those that have not begun. Raises an
     Error, and ValueError if `threads` is less than 1 or `out` does not fit.
     """
     count = thread_count(threads)
     size, data = tile_size_of(tile_size), as_bytes(draw_list)
+    begun = perf_counter()
     info = read_image_info(data)
+    reading = perf_counter() - begun
     rows, row_bytes = -(-info.height // size), info.width * info.pixel_bytes
     with memory_for(info, out) as pixels, Buffer(pixels) as memory:
         start = memory.address
@@ -38,8 +48,20 @@ def draw(
             begin, stop = (min(row * size, info.height) * row_bytes for row in (first, end))
             library().trirast_list_draw_rows(data, len(data), size, first, end, start + begin, stop - begin, CError())
 
-        share(draw_range, lambda parts: tile_row_ranges(rows, parts), count, [memory])
+        triangles = min(len(data) // TRIANGLE_BYTES, MAX_TRIANGLES)
+        is_long = triangles * info.width * info.height > LONG_PIXELS
+        least = parts_of_long(draw_range, rows, reading) if is_long else 1
+        share(draw_range, lambda parts: tile_row_ranges(rows, max(parts, least)), count, [memory])
         return Picture(info.width, info.height, info.is_depth, pixels)
+
+
+def parts_of_long(draw_range: Callable[[int, int], None], rows: int, reading: float) -> int:
+    """In how many parts to draw, so that none takes long: about, from one tile row in the middle. `reading` is the
+    seconds in which the list is read."""
+    begun = perf_counter()
+    draw_range(rows // 2, rows // 2 + 1)
+    drawing = rows * (perf_counter() - begun - reading)
+    return int(drawing / max(PART_SECONDS, READINGS * reading))
 
 
 @with_stack
