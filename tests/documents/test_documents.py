@@ -133,7 +133,7 @@ class Names(unittest.TestCase):
         texts = {path.split(os.sep)[1]: "" for path in sources("src/**/*.rt")}
         for path, text in sources("src/**/*.rt").items():
             texts[path.split(os.sep)[1]] += text
-        lines = {line.rstrip() for line in re.findall(r'"(trirast: [a-z ]+)', texts["program_input"])}
+        lines = {line.rstrip() for line in re.findall(r'"(trirast: [a-z ]+)', texts["engine"] + texts["program_input"])}
         self.assertLessEqual({"trirast: list fault", "trirast: out of memory"}, lines)
         # What workers report is drawn again by the calling thread, so the program never prints it.
         for line in lines - {"trirast: pool fault"}:
@@ -154,6 +154,13 @@ class Names(unittest.TestCase):
             self.assertRegex(one.does, r"^[A-Z`].*\.$", one.name)
             self.assertLessEqual(set(one.uses), before | set(re.findall(r"`(\w+)`", trusted)), one.name)
             before.add(one.name)
+
+    def test_what_c_libraries_carry(self) -> None:
+        # No reader of JSON is below the library for canvases, and no reader of arguments below the other one.
+        self.assertNotIn("serde_json", layers.reached("canvas_c"))
+        self.assertNotIn("clap", layers.reached("trirast_c"))
+        # Programs that read both stand on both, by crates between.
+        self.assertLessEqual({"serde_json", "clap"}, layers.reached("trirast_cli"))
 
     def test_number_of_mutants(self) -> None:
         self.assertIn(f"that {len(mutants.MUTANTS)} wrong rules", text_of("docs/tested.md"))

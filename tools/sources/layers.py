@@ -63,6 +63,18 @@ def product() -> list[str]:
     return [one.name for layer in layers() if layer.is_product for one in layer.crates]
 
 
+def reached(name: str) -> set[str]:
+    """All crates, the toolchain's too, that a crate stands on, directly or by others."""
+    uses = {one.name: one.uses for layer in layers() for one in layer.crates}
+    found: set[str] = set()
+    waiting = [name]
+    while waiting:
+        more = set(uses.get(waiting.pop(), ())) - found
+        found |= more
+        waiting += more
+    return found
+
+
 def listing() -> str:
     """The text of crates/README.md."""
     parts = [HEAD]

@@ -16,7 +16,7 @@ class Group(NamedTuple):
 
 
 # The contract that the page is of, and those of the calls that alone change what it counts.
-THEOREM = ("crates/trirast/src/engine.rt", "run")
+THEOREM = ("crates/engine/src/runs.rt", "run")
 COUNTING = tuple(("crates/picture_file/src/counted.rt", call) for call in ("new", "read", "write", "flush"))
 
 BEGINNING = """\
@@ -45,7 +45,7 @@ HOW_TO_READ = """\
 - `requires` is what the caller promises. `ensures` is what holds when the call returns. `x.old` is the value behind a
   reference as the call begins, `x.new` the value at the return, and `result` what is returned.
 - `f a b` is `f` of `a` and `b`. A definition with arguments that ends in `Type 0` is a statement, and one without them,
-  as `Checks`, is a type. A definition by cases has a line for each case.
+  as `KindChecks`, is a type. A definition by cases has a line for each case.
 - A record of values, as `Covers` of four positions, is a statement too: all its fields hold. A field that is a
   value, as `pub file : List ℕ`, says that there is one, and later fields speak of it. Any other record, as
   `Position`, is data.
@@ -219,7 +219,7 @@ GROUPS = (
         "string, boolean or array that it is. "
         "Which bytes are JSON, and of which value, is what `serde_json` says.",
         "RFC 8259 for JSON; the keys and words are this project's format.",
-        ("crates/model/specs/Json.antt", "crates/model/specs/Keys.antt"),
+        ("crates/list_json/specs/Json.antt", "crates/list_json/specs/Keys.antt"),
     ),
     Group(
         "Primitives and their triangles",
@@ -240,14 +240,20 @@ GROUPS = (
         "its limits and the defaults of "
         "absent keys. `Denotes` says which scene the bytes stand for.",
         "this project's format, in words in `docs/draw-list.md`.",
-        ("crates/model/specs/Denotes.antt",),
+        ("crates/list_json/specs/Denotes.antt",),
     ),
     Group(
         "The first error",
         "All checks of an input stand in one list, in a fixed order. An input that fails one has the "
         "error of the first that fails.",
         "this project's format, in words in `docs/draw-list.md`.",
-        ("crates/model/src/fault.rt", "crates/model/specs/FirstFault.antt", "crates/model/specs/Checks.antt"),
+        (
+            "crates/model/src/fault.rt",
+            "crates/model/specs/Fault.antt#outside",
+            "crates/model/specs/Fault.antt#fault_in_draw",
+            "crates/checks/specs/FirstFault.antt",
+            "crates/list_json/specs/Checks.antt",
+        ),
     ),
     Group(
         "Readers and writers",
@@ -269,11 +275,11 @@ GROUPS = (
         (
             "crates/grid/src/pixels.rt#TileSide",
             "crates/grid/specs/Pixels.antt#side_of",
-            "crates/program_input/src/drawing_options.rt",
+            "crates/engine/src/options.rt",
             "crates/pool/src/fault.rt",
-            "crates/program_input/src/fault.rt",
-            "crates/program_input/specs/Input.antt",
-            "crates/trirast/specs/Runs.antt",
+            "crates/engine/src/fault.rt",
+            "crates/engine/specs/Input.antt",
+            "crates/engine/specs/Runs.antt",
         ),
     ),
 )

@@ -3,9 +3,9 @@ use Rattle.std.specs.Prelude.{⊤}
 use Rattle.std.proofs.Common.{Result, Ok, Err, inl, inr, ap, subst, ℕ, ℤ, zero, suc, ◌+◌, ◌<◌, ◌≡◌, List, [], ◌∷◌, length, take, get_or, arith}
 use Rattle.std.specs.List.{All}
 use Rattle.std.proofs.lemmas.List.Elements.{All-nil, All-cons, All-head, All-tail}
-use Rattle.model.specs.Checking.{Checks, Pass, FirstIs, IsJudged, followed_by}
+use Rattle.checks.specs.Checking.{Checks, Pass, FirstIs, IsJudged, followed_by}
 use Rattle.model.specs.Primitives.{PrimitiveListing, triangle_list, triangle_strip, quad_list}
-use Rattle.model.proofs.Checking.{Allocates, allocates_both, pass_both, pass_each, fails_later}
+use Rattle.checks.proofs.Checking.{Allocates, allocates_both, pass_both, pass_each, fails_later}
 use Rattle.batch.specs.declared.fault.DrawFault.{DrawFault}
 use Rattle.batch.specs.declared.vertex.BatchVertex.{BatchVertex}
 use Rattle.batch.specs.Listed.{primitives_listed}

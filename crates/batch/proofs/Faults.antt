@@ -1,7 +1,7 @@
 -- The checks of a batch allocate nothing.
 use Rattle.std.specs.Prelude.{ℕ, ℤ, ◌+◌, Option, List, [], ◌∷◌, take, drop}
-use Rattle.model.specs.Checking.{reported_as}
-use Rattle.model.proofs.Checking.{Allocates, allocates_both, allocates_as}
+use Rattle.checks.specs.Checking.{reported_as}
+use Rattle.checks.proofs.Checking.{Allocates, allocates_both, allocates_as}
 use Rattle.batch.specs.declared.draw.BatchDraw.{BatchDraw}
 use Rattle.batch.specs.declared.vertex.BatchVertex.{BatchVertex}
 use Rattle.batch.specs.declared.fault.BatchFault.{BatchFault}

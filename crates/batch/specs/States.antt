@@ -1,6 +1,6 @@
 -- The checks of a draw's state.
 use Rattle.std.specs.Prelude.{◌≤◌}
-use Rattle.model.specs.Checking.{Checks, done, check}
+use Rattle.checks.specs.Checking.{Checks, done, check}
 use Rattle.batch.specs.Equations.{HasKnownFactors, HasKnownOperations}
 use Rattle.batch.specs.declared.draw.BatchDraw.{BatchDraw}
 use Rattle.batch.specs.declared.fault.BatchCause.{BatchCause}

@@ -1,6 +1,6 @@
 //! The checks of a batch, before anything is drawn.
 ghost use Rattle.std.specs.Prelude.{◌≡◌, ◌<◌, ◌≤◌, ◌/◌, [], length, slice_index_or, ⊤};
-ghost use Rattle.model.specs.Checking.{IsJudged};
+ghost use Rattle.checks.specs.Checking.{IsJudged};
 ghost use Rattle.model.specs.Primitives.{quad_list};
 ghost use Rattle.batch.specs.Listed.{quads_of};
 ghost use Rattle.batch.specs.OwnIndices.{indices_given};

@@ -1,5 +1,5 @@
 ghost use Rattle.std.specs.Prelude.{◌≡◌, ⊤};
-ghost use Rattle.model.specs.Checking.{IsJudged};
+ghost use Rattle.checks.specs.Checking.{IsJudged};
 ghost use Rattle.batch.specs.Listed.{cull_listed, depth_test_listed, scissor_listed, state_listed, whole_draw};
 ghost use Rattle.batch.specs.States.{state_checks};
 

@@ -6,7 +6,7 @@ ghost use Rattle.batch.specs.Listed.{state_listed, draw_listed, whole_draw, draw
 ghost use Rattle.batch.specs.OwnIndices.{indices_given, count_of_indices};
 ghost use Rattle.batch.specs.Vertices.{vertices_given};
 ghost use Rattle.batch.specs.Parts.{all_seen};
-ghost use Rattle.model.specs.Checking.{IsJudged, Pass};
+ghost use Rattle.checks.specs.Checking.{IsJudged, Pass};
 ghost use Rattle.canvas.specs.Window.{moved, moved_state};
 ghost use Rattle.canvas.specs.Drawing.{HaveEnds};
 ghost use Rattle.batch.specs.Seen.{triangles_seen};

@@ -21,9 +21,6 @@
 --   IsReported: The status and the error that the caller gets of a call that ended so.
 --   IsReport: The status and the error are those of the first check that fails, and none if each holds.
 --   IsStatus: The status is that of the first check that fails, and none if each holds: for a call that has no error beside its status.
---   list_checks: The checks of a list that the caller gives: that there is one, for which memory is allocated, and then those of the list.
---   text_checks: The checks of a list that the caller gives as bytes: their number, and then the list.
---   IsFirstOfText: What the first error is of a list that the caller gives as bytes.
 --
 -- Sizes.antt
 --   IsOwnSize: The size of a struct, as the caller has it, is the library's own, or 0 for just that.

@@ -6,8 +6,8 @@ use Rattle.readout.specs.declared.misfit.Misfit.{Misfit}
 use Rattle.canvas.specs.declared.tile_rows.TileRows.{TileRows as Rows}
 use Rattle.readout.specs.Pixels.{IsLargeEnough}
 use Rattle.grid.specs.Samples.{count_of, pattern_of}
-use Rattle.model.specs.Checking.{Checks, done as checked, check, followed_by, Pass, FirstIs, IsJudged}
-use Rattle.model.proofs.Checking.{pass_both, fails_later}
+use Rattle.checks.specs.Checking.{Checks, done as checked, check, followed_by, Pass, FirstIs, IsJudged}
+use Rattle.checks.proofs.Checking.{pass_both, fails_later}
 use Rattle.batch.specs.declared.draw.BatchDraw.{BatchDraw}
 use Rattle.batch.specs.declared.fault.BatchFault.{BatchFault}
 use Rattle.batch.specs.declared.vertex.BatchVertex.{BatchVertex}

@@ -7,8 +7,8 @@ use Rattle.canvas.specs.declared.tile_rows.TileRows.{TileRows as Rows}
 use Rattle.canvas.specs.Layout.{HasTile}
 use Rattle.readout.specs.Tiles.{IsTileMisfit, IsIdCount, AreTileIds}
 use Rattle.readout.proofs.TileEntries.{many_entries}
-use Rattle.model.specs.Checking.{done, check, followed_by, Pass, FirstIs}
-use Rattle.model.proofs.Checking.{pass_both, fails_later}
+use Rattle.checks.specs.Checking.{done, check, followed_by, Pass, FirstIs}
+use Rattle.checks.proofs.Checking.{pass_both, fails_later}
 use Rattle.c_abi.specs.declared.status.Status.TheVariants.{BufferTooSmall, BadTile}
 use Rattle.canvas_c.specs.declared.piece.CanvasHead.{CanvasHead}
 use Rattle.canvas_c.specs.Pieces.{AreRowsOf, piece_checks}

@@ -1,6 +1,6 @@
 -- The checks of a call that draws a batch.
 use Rattle.std.specs.Prelude.{◌≡◌, ℕ, Option}
-use Rattle.model.specs.Checking.{Checks, done, check, followed_by, Pass, FirstIs}
+use Rattle.checks.specs.Checking.{Checks, done, check, followed_by, Pass, FirstIs}
 use Rattle.batch.specs.Causes.{number_of, left_over}
 use Rattle.batch.specs.Checks.{batch_checks}
 use Rattle.batch.specs.declared.fault.BatchFault.{BatchFault}

@@ -1,6 +1,6 @@
 -- Tile rows of a canvas, as the caller names them, and the checks of the calls.
 use Rattle.std.specs.Prelude.{◌≡◌, ◌⊎◌, ℕ, Bool, ◌==◌, ◌+◌, ◌-◌, ◌*◌, ◌/◌, ◌%◌, ◌<◌, ◌≤◌, min, max, if◌then◌else◌}
-use Rattle.model.specs.Checking.{Checks, done, check, followed_by}
+use Rattle.checks.specs.Checking.{Checks, done, check, followed_by}
 use Rattle.grid.specs.Samples.{IsPattern, pattern_of}
 use Rattle.canvas.specs.declared.canvas.Canvas.{Canvas}
 use Rattle.readout.specs.declared.format.Format.{Format}

@@ -5,7 +5,7 @@ use Rattle.grid.specs.Samples.{parts_of, pattern_of}
 use Rattle.batch.specs.Listed.{state_listed}
 use Rattle.batch.specs.Causes.{number_of}
 use Rattle.batch.specs.States.{state_checks}
-use Rattle.model.specs.Checking.{Checks, done, check, followed_by, reported_as, Pass, FirstIs}
+use Rattle.checks.specs.Checking.{Checks, done, check, followed_by, reported_as, Pass, FirstIs}
 use Rattle.polygons.specs.Arrays.{ArePolygons, BoxesFit, IsWrong}
 use Rattle.polygons.specs.Cells.{flags_by}
 use Rattle.polygons.specs.declared.arrays.ArraysError.{ArraysError}

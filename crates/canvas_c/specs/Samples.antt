@@ -1,6 +1,6 @@
 -- The checks of calls that read or store the colours of one sample index, and the samples of one tile.
 use Rattle.std.specs.Prelude.{◌≡◌, ◌⊎◌, ℕ, ◌+◌, ◌*◌, ◌/◌, ◌<◌, ◌≤◌, ◌==◌, if◌then◌else◌, List, take, slice_index}
-use Rattle.model.specs.Checking.{Checks, done, check, followed_by}
+use Rattle.checks.specs.Checking.{Checks, done, check, followed_by}
 use Rattle.grid.specs.Samples.{count_of, pattern_of}
 use Rattle.lanes.specs.declared.block_samples.BlockSamples.{BlockSamples}
 use Rattle.canvas.specs.declared.canvas.Canvas.{Canvas}

@@ -4,7 +4,7 @@ use Rattle.grid.specs.Position.{Position, IsInBand}
 use Rattle.grid.specs.Edge.{side}
 use Rattle.grid.specs.Triangle.{Covers, doubled_area}
 use Rattle.grid.specs.declared.triangle.Tri.{Tri}
-use Rattle.model.specs.Checking.{Checks, done, check}
+use Rattle.checks.specs.Checking.{Checks, done, check}
 use Rattle.c_abi.specs.declared.status.Status.{Status}
 use Rattle.c_abi.specs.declared.status.Status.TheVariants.{BadPosition}
 use Rattle.canvas_c.specs.declared.weights.Corners.{Corners}

@@ -2,7 +2,7 @@
 ghost use Rattle.std.specs.Prelude.{◌≡◌, ◌≢◌, length, OnOk, OnErr, ⊤};
 ghost use Rattle.canvas.specs.Drawing.{AreCleared};
 ghost use Rattle.canvas.specs.Tiles.{AreUniform};
-ghost use Rattle.model.specs.Checking.{IsJudged};
+ghost use Rattle.checks.specs.Checking.{IsJudged};
 ghost use Rattle.c_abi.specs.Calls.{IsStatus};
 ghost use Rattle.canvas_c.specs.Pieces.{OnRows, piece_checks};
 ghost use Rattle.canvas_c.specs.Clearing.{cleared_to};

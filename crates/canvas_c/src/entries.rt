@@ -1,7 +1,7 @@
 //! Depths and ids, written to the caller's memory.
 ghost use Rattle.std.specs.Prelude.{◌≡◌, ◌≢◌, ◌<◌, length, map, OnOk, OnErr, ⊤};
 ghost use Rattle.readout.specs.Colours.{AreEntries, AreDepths, AreIds};
-ghost use Rattle.model.specs.Checking.{IsJudged};
+ghost use Rattle.checks.specs.Checking.{IsJudged};
 ghost use Rattle.c_abi.specs.Calls.{IsStatus};
 ghost use Rattle.canvas_c.specs.Pieces.{OnRows, entries_of as row_entries, entries_checks};
 

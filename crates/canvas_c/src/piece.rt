@@ -1,6 +1,6 @@
 //! Tile rows of a canvas, as the caller names them.
 ghost use Rattle.std.specs.Prelude.{◌≡◌, ◌↔◌, ◌⊎◌, ◌+◌, ◌*◌, ◌/◌, ◌≤◌, length, IsTrue, IsSome, IfSome, IsOk, IfOk, IfErr};
-ghost use Rattle.model.specs.Checking.{IsJudged};
+ghost use Rattle.checks.specs.Checking.{IsJudged};
 ghost use Rattle.canvas.specs.Layout.{planes_of_rows};
 ghost use Rattle.grid.specs.Samples.{pattern_of};
 ghost use Rattle.canvas_c.specs.Pieces.{IsCount, AreChannels, IsCanvas, IsWhole, has_alpha, planes_listed, tile_rows_of, AreRowsOf, piece_checks};

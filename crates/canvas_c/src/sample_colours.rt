@@ -5,7 +5,7 @@ ghost use Rattle.canvas.specs.Layout.{planes_of_rows};
 ghost use Rattle.readout.specs.Pixels.{pixel_bytes};
 ghost use Rattle.readout.specs.Colours.{AreColours};
 ghost use Rattle.readout.specs.Loaded.{AreStored};
-ghost use Rattle.model.specs.Checking.{IsJudged, check, followed_by, done as checked};
+ghost use Rattle.checks.specs.Checking.{IsJudged, check, followed_by, done as checked};
 ghost use Rattle.c_abi.specs.Calls.{IsStatus};
 ghost use Rattle.c_abi.specs.declared.status.Status.TheVariants as failed;
 ghost use Rattle.canvas_c.specs.Pieces.{has_alpha, AreRowsOf, OnRows, IsFormat, format_of as format_named, stride_of as row_stride, piece_checks};

@@ -1,7 +1,7 @@
 //! The samples of one tile, in the caller's memory.
 ghost use Rattle.std.specs.Prelude.{◌≡◌, ◌≢◌, length, OnOk, OnErr, ⊤};
 ghost use Rattle.readout.specs.Tiles.{AreTileColours};
-ghost use Rattle.model.specs.Checking.{IsJudged};
+ghost use Rattle.checks.specs.Checking.{IsJudged};
 ghost use Rattle.c_abi.specs.Calls.{IsStatus};
 ghost use Rattle.canvas_c.specs.Pieces.{OnRows};
 ghost use Rattle.canvas_c.specs.Samples.{tile_ids_checks, tile_store_checks, status_for, AreIdsOfTile};

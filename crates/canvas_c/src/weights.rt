@@ -1,6 +1,6 @@
 //! The edge functions of a triangle at a point.
 ghost use Rattle.std.specs.Prelude.{◌≡◌, ◌≢◌, ◌↔◌, IsSome, IfSome};
-ghost use Rattle.model.specs.Checking.{IsJudged};
+ghost use Rattle.checks.specs.Checking.{IsJudged};
 ghost use Rattle.c_abi.specs.Calls.{IsStatus};
 ghost use Rattle.canvas_c.specs.Weights.{a_of, b_of, c_of, AreInBand, weights_checks, AreEdgesOf, AreEdges};
 

@@ -8,10 +8,10 @@ use Rattle.serde_json.specs.View.{view, items_view}
 use Rattle.serde_json.specs.declared.value.Value.{Value}
 use Rattle.serde_json.proofs.Views.{items_len-items_view}
 use Rattle.model.specs.declared.fault.ReadKind.{ReadKind}
-use Rattle.model.specs.FirstFault.{first_fault}
-use Rattle.model.specs.Checks.{Checks, each}
-use Rattle.model.specs.Denotes.{Each}
-use Rattle.model.proofs.Faults.{first_fault_of_both}
+use Rattle.checks.specs.FirstFault.{first_fault}
+use Rattle.list_json.specs.Checks.{KindChecks, each}
+use Rattle.list_json.specs.Denotes.{Each}
+use Rattle.checks.proofs.Faults.{first_fault_of_both}
 
 pub items_len_view : (vs : List Value) → items_len (items_view vs) ≡ length vs
 items_len_view vs = items_len-items_view vs
@@ -20,7 +20,7 @@ pub from_here : (vs : List Value) (i : ℕ) (v : Value) → i < length vs → v 
 from_here vs i v lt is = rw (drop-cons vs i v lt, ← is, add-one) refl
 
 -- the first fault from an element on
-pub first_fault_here : (checks : Data → Checks) (vs : List Value) (i : ℕ) (v : Value) → i < length vs → v ≡ get_or vs i v
+pub first_fault_here : (checks : Data → KindChecks) (vs : List Value) (i : ℕ) (v : Value) → i < length vs → v ≡ get_or vs i v
     → first_fault (each checks (items_view (drop i vs))) ≡ option_or (first_fault (checks (view v))) (first_fault (each checks (items_view (drop (i + 1) vs))))
 first_fault_here checks vs i v lt is = ap (λ ds. first_fault (each checks ds)) (from_here vs i v lt is) ∙ first_fault_of_both (checks (view v)) _
 
@@ -36,21 +36,21 @@ one_more {X} Is vs i v found x lt is here so_far rest later =
     subst P (sym (append_assoc found (x ∷ []) rest)) (so_far (x ∷ rest) from)
 
 -- no element before i fails: the first fault from i on is that of all
-abbrev pub PassedTo : (Data → Checks) → List Value → ℕ → Type 0
+abbrev pub PassedTo : (Data → KindChecks) → List Value → ℕ → Type 0
 PassedTo checks vs i = first_fault (each checks (items_view (drop i vs))) ≡ first_fault (each checks (items_view vs))
 
-pub fails_here : (checks : Data → Checks) (vs : List Value) (i : ℕ) (v : Value) (k : ReadKind) → i < length vs → v ≡ get_or vs i v → PassedTo checks vs i
+pub fails_here : (checks : Data → KindChecks) (vs : List Value) (i : ℕ) (v : Value) (k : ReadKind) → i < length vs → v ≡ get_or vs i v → PassedTo checks vs i
     → first_fault (checks (view v)) ≡ Some k → first_fault (each checks (items_view vs)) ≡ Some k
 fails_here checks vs i v k lt is passed fault = sym passed ∙ (first_fault_here checks vs i v lt is ∙ ap (λ o. option_or o (first_fault (each checks (items_view (drop (i + 1) vs))))) fault)
 
-pub passes_here : (checks : Data → Checks) (vs : List Value) (i : ℕ) (v : Value) → i < length vs → v ≡ get_or vs i v → PassedTo checks vs i
+pub passes_here : (checks : Data → KindChecks) (vs : List Value) (i : ℕ) (v : Value) → i < length vs → v ≡ get_or vs i v → PassedTo checks vs i
     → first_fault (checks (view v)) ≡ None → PassedTo checks vs (i + 1)
 passes_here checks vs i v lt is passed none = sym (first_fault_here checks vs i v lt is ∙ ap (λ o. option_or o (first_fault (each checks (items_view (drop (i + 1) vs))))) none) ∙ passed
 
 nothing_left : (vs : List Value) (i : ℕ) → length vs ≤ i → drop i vs ≡ []
 nothing_left vs i past = drop_all i vs past
 
-pub all_passed : (checks : Data → Checks) (vs : List Value) (i : ℕ) → length vs ≤ i → PassedTo checks vs i → first_fault (each checks (items_view vs)) ≡ None
+pub all_passed : (checks : Data → KindChecks) (vs : List Value) (i : ℕ) → length vs ≤ i → PassedTo checks vs i → first_fault (each checks (items_view vs)) ≡ None
 all_passed checks vs i past passed = sym passed ∙ ap (λ xs. first_fault (each checks (items_view xs))) (nothing_left vs i past)
 
 pub all_read : {X : Type 0} (Is : Data → X → Type 0) (vs : List Value) (i : ℕ) (found : List X) → length vs ≤ i → Continues Is vs i found → Each Is (items_view vs) found

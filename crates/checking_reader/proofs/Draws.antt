@@ -4,10 +4,11 @@ use Rattle.std.specs.Option.{option_or, option_map}
 use Rattle.serde_json.specs.View.{view, items_view}
 use Rattle.serde_json.specs.declared.value.Value.{Value}
 use Rattle.model.specs.declared.fault.ReadKind.{ReadKind}
-use Rattle.model.specs.FirstFault.{first_fault, reported_as}
-use Rattle.model.specs.Checks.{draw_value_checks, numbered_draw_checks, triangles_counted, fault_in_draw}
+use Rattle.checks.specs.FirstFault.{first_fault, reported_as}
+use Rattle.list_json.specs.Checks.{draw_value_checks, numbered_draw_checks, triangles_counted}
+use Rattle.model.specs.Fault.{fault_in_draw}
 use Rattle.checking_reader.proofs.ArrayElements.{from_here}
-use Rattle.model.proofs.Faults.{first_fault_of_both, first_fault_reported_as}
+use Rattle.checks.proofs.Faults.{first_fault_of_both, first_fault_reported_as}
 
 -- no draw before i fails, and those draws have `earlier` triangles
 abbrev pub DrawsPassed : List Value → ℕ → ℕ → Type 0

@@ -3,16 +3,16 @@ use Rattle.std.proofs.Common.{◌≡◌, ◌≢◌, ◌≤◌, ℕ, List, [], �
 use Rattle.serde_json.specs.Data.{Data}
 use Rattle.model.specs.declared.fault.ReadKind.TheVariants.{OutOfMemory}
 use Rattle.model.specs.declared.fault.ReadFault.{ReadFault}
-use Rattle.model.specs.Json.{json_of}
+use Rattle.list_json.specs.Json.{json_of}
 use Rattle.model.specs.Scene.{Scene}
-use Rattle.model.specs.FirstFault.{Check, first_fault, IsFirstFault}
+use Rattle.checks.specs.FirstFault.{Check, first_fault, IsFirstFault}
 use Rattle.checking_reader.specs.Answer.{ReadsAll}
-use Rattle.model.specs.Checks.{all_checks, value_checks}
-use Rattle.model.specs.Denotes.{IsDrawList, Denotes}
-use Rattle.model.proofs.Passes.{listing_passes}
-use Rattle.model.proofs.OneValue.{same_some}
+use Rattle.list_json.specs.Checks.{all_checks, value_checks}
+use Rattle.list_json.specs.Denotes.{IsDrawList, Denotes}
+use Rattle.list_json.proofs.Passes.{listing_passes}
+use Rattle.list_json.proofs.OneValue.{same_some}
 use Rattle.model.proofs.FaultKinds.{no_other}
-use Rattle.model.proofs.OneList.{denotes-unique}
+use Rattle.list_json.proofs.OneList.{denotes-unique}
 
 is_first-cons : {T : Type 0} (p : Check T) (ps : List (Check T)) (fault : T) (b : Bool) → p.fails ≡ b → (first_fault ps ≡ Some fault → IsFirstFault ps fault)
     → cond b (Some p.reported) (first_fault ps) ≡ Some fault → IsFirstFault (p ∷ ps) fault

@@ -4,8 +4,9 @@ use Rattle.serde_json.specs.Data.{Data}
 use Rattle.serde_json.specs.View.{items_view}
 use Rattle.model.specs.Primitives.{count_of_triangles}
 use Rattle.model.specs.Listing.{DrawListing}
-use Rattle.model.specs.Denotes.{Each, picture_box, IsDraw, IsListing}
-use Rattle.model.proofs.Counts.{items_len_each}
+use Rattle.list_json.specs.Denotes.{Each, IsDraw, IsListing}
+use Rattle.model.specs.Picture.{picture_box}
+use Rattle.list_json.proofs.Counts.{items_len_each}
 use Rattle.checking_reader.specs.declared.header.Header.{Header}
 use Rattle.checking_reader.specs.Header.{IsHeader}
 use Rattle.checking_reader.proofs.ArrayElements.{items_len_view}

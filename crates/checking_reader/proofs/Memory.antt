@@ -6,25 +6,25 @@ use Rattle.serde_json.specs.Data.{Data}
 use Rattle.serde_json.specs.Find.{get}
 use Rattle.model.specs.declared.fault.ReadKind.{ReadKind}
 use Rattle.model.specs.declared.fault.ReadKind.TheVariants.{WrongKind, OutOfRange, OutOfMemory}
-use Rattle.model.specs.Json.{elements, count}
-use Rattle.model.specs.Keys.{output_words, cull_words, depth_test_words, blend_words}
-use Rattle.model.specs.FirstFault.{first_fault}
-use Rattle.model.specs.Checks.{Checks, where_there, word_checks, truth_checks, write_mask_checks, sample_mask_checks, scissor_checks, sample_count_checks, colour_checks, depth_checks, clear_checks, top_checks, array_checks, each, vertex_checks, positions_written, merge_checks, state_value_checks, vertices_checks, primitive_checks, part_checks, draw_opening_checks, has_no_list, is_absent, draw_value_checks, checks_before_vertices}
-use Rattle.model.proofs.Faults.{all_pass, both_pass, both_passed}
+use Rattle.list_json.specs.Json.{elements, count}
+use Rattle.list_json.specs.Keys.{output_words, cull_words, depth_test_words, blend_words}
+use Rattle.checks.specs.FirstFault.{first_fault}
+use Rattle.list_json.specs.Checks.{KindChecks, where_there, word_checks, truth_checks, write_mask_checks, sample_mask_checks, scissor_checks, sample_count_checks, colour_checks, depth_checks, clear_checks, top_checks, array_checks, each, vertex_checks, positions_written, merge_checks, state_value_checks, vertices_checks, primitive_checks, part_checks, draw_opening_checks, has_no_list, is_absent, draw_value_checks, checks_before_vertices}
+use Rattle.checks.proofs.Faults.{all_pass, both_pass, both_passed}
 
 -- no check reports out of memory
-abbrev NoneReportsMemory : Checks → Type 0
+abbrev NoneReportsMemory : KindChecks → Type 0
 NoneReportsMemory checks = AllByRecursion (λ p. p.reported ≢ OutOfMemory) checks
 
 not_reported : (b : Bool) (kind : ReadKind) (rest : Option ReadKind) → kind ≢ OutOfMemory → (rest ≡ Some OutOfMemory → ⊥) → cond b (Some kind) rest ≡ Some OutOfMemory → ⊥
 not_reported true kind rest other later e = other (cc)
 not_reported false kind rest other later e = later e
 
-never : (ps : Checks) → NoneReportsMemory ps → first_fault ps ≡ Some OutOfMemory → ⊥
+never : (ps : KindChecks) → NoneReportsMemory ps → first_fault ps ≡ Some OutOfMemory → ⊥
 never [] none e = cc
 never (p ∷ ps) none e = not_reported p.fails p.reported (first_fault ps) none.0 (never ps none.1) e
 
-both_report : (ps qs : Checks) → NoneReportsMemory ps → NoneReportsMemory qs → NoneReportsMemory (ps ++ qs)
+both_report : (ps qs : KindChecks) → NoneReportsMemory ps → NoneReportsMemory qs → NoneReportsMemory (ps ++ qs)
 both_report [] qs p q = q
 both_report (x ∷ ps) qs p q = (p.0, both_report ps qs p.1 q)
 
@@ -34,7 +34,7 @@ wrong_kind e = cc
 out_of_range : OutOfRange ≢ OutOfMemory
 out_of_range e = cc
 
-there_reports : (checks : Option Data → Checks) (value : Option Data) → ((v : Data) → NoneReportsMemory (checks (Some v))) → NoneReportsMemory (where_there checks value)
+there_reports : (checks : Option Data → KindChecks) (value : Option Data) → ((v : Data) → NoneReportsMemory (checks (Some v))) → NoneReportsMemory (where_there checks value)
 there_reports checks None each = tt
 there_reports checks (Some v) each = each v
 
@@ -43,10 +43,10 @@ there_reports checks (Some v) each = each v
 merge_reports : (d : Data) → NoneReportsMemory (merge_checks d)
 unfolding merge_checks
 merge_reports d =
-    let tests : Checks = where_there (word_checks depth_test_words) (get (codes "depth_test") d) in
-    let depths : Checks = where_there truth_checks (get (codes "depth_write") d) in
-    let blends : Checks = where_there (word_checks blend_words) (get (codes "blend") d) in
-    let masks : Checks = where_there write_mask_checks (get (codes "write") d) in
+    let tests : KindChecks = where_there (word_checks depth_test_words) (get (codes "depth_test") d) in
+    let depths : KindChecks = where_there truth_checks (get (codes "depth_write") d) in
+    let blends : KindChecks = where_there (word_checks blend_words) (get (codes "blend") d) in
+    let masks : KindChecks = where_there write_mask_checks (get (codes "write") d) in
     let test = there_reports (word_checks depth_test_words) (get (codes "depth_test") d) (λ v. (wrong_kind, (out_of_range, tt))) in
     let depth = there_reports truth_checks (get (codes "depth_write") d) (λ v. (wrong_kind, tt)) in
     let blend = there_reports (word_checks blend_words) (get (codes "blend") d) (λ v. (wrong_kind, (out_of_range, tt))) in
@@ -56,9 +56,9 @@ merge_reports d =
 state_reports : (d : Data) → NoneReportsMemory (state_value_checks d)
 unfolding state_value_checks
 state_reports d =
-    let culls : Checks = where_there (word_checks cull_words) (get (codes "cull") d) in
-    let masks : Checks = where_there sample_mask_checks (get (codes "sample_mask") d) in
-    let scissors : Checks = where_there scissor_checks (get (codes "scissor") d) in
+    let culls : KindChecks = where_there (word_checks cull_words) (get (codes "cull") d) in
+    let masks : KindChecks = where_there sample_mask_checks (get (codes "sample_mask") d) in
+    let scissors : KindChecks = where_there scissor_checks (get (codes "scissor") d) in
     let sides : (v : Data) → NoneReportsMemory (scissor_checks (Some v)) = λ v. (wrong_kind, (wrong_kind, (out_of_range, (wrong_kind, (out_of_range, (wrong_kind, (out_of_range, (wrong_kind, (out_of_range, tt))))))))) in
     let scissor = there_reports scissor_checks (get (codes "scissor") d) sides in
     let mask = there_reports sample_mask_checks (get (codes "sample_mask") d) (λ v. (wrong_kind, (out_of_range, tt))) in
@@ -74,10 +74,10 @@ state_never d = never (state_value_checks d) (state_reports d)
 clear_reports : (d : Data) → NoneReportsMemory (clear_checks d)
 unfolding clear_checks
 clear_reports d =
-    let counts : Checks = where_there sample_count_checks (get (codes "samples") d) in
-    let colours : Checks = where_there colour_checks (get (codes "clear") d) in
-    let depths : Checks = where_there depth_checks (get (codes "clear_depth") d) in
-    let outputs : Checks = where_there (word_checks output_words) (get (codes "output") d) in
+    let counts : KindChecks = where_there sample_count_checks (get (codes "samples") d) in
+    let colours : KindChecks = where_there colour_checks (get (codes "clear") d) in
+    let depths : KindChecks = where_there depth_checks (get (codes "clear_depth") d) in
+    let outputs : KindChecks = where_there (word_checks output_words) (get (codes "output") d) in
     let channels : (v : Data) → NoneReportsMemory (colour_checks (Some v)) = λ v. (wrong_kind, (wrong_kind, (out_of_range, (wrong_kind, (out_of_range, (wrong_kind, (out_of_range, tt))))))) in
     let count = there_reports sample_count_checks (get (codes "samples") d) (λ v. (wrong_kind, (out_of_range, tt))) in
     let colour = there_reports colour_checks (get (codes "clear") d) channels in
@@ -117,7 +117,7 @@ passed_to_vertices earlier d none =
     let triangles = get (codes "triangles") d in
     let strip = get (codes "strip") d in
     let quads = get (codes "quads") d in
-    let primitives : Checks = primitive_checks earlier (count vertices) (positions_written (elements vertices)) triangles strip quads in
+    let primitives : KindChecks = primitive_checks earlier (count vertices) (positions_written (elements vertices)) triangles strip quads in
     let both = both_passed (draw_opening_checks d) (part_checks earlier vertices triangles strip quads) none in
     let opened = all_pass (draw_opening_checks d) both.0 in
     let parts = both_passed (where_there vertices_checks vertices) primitives both.1 in

@@ -4,13 +4,13 @@ use Rattle.std.specs.Option.{option_or}
 use Rattle.serde_json.specs.Data.{Data}
 use Rattle.model.specs.declared.draw.Vertex.{Vertex}
 use Rattle.model.specs.declared.fault.ReadKind.{ReadKind}
-use Rattle.model.specs.Json.{elements, count}
-use Rattle.model.specs.FirstFault.{first_fault}
-use Rattle.model.specs.Checks.{Checks, where_there, vertices_checks, primitive_checks, part_checks, positions_written}
-use Rattle.model.specs.Denotes.{IsArrayOf, IsVertex}
-use Rattle.model.proofs.Corners.{same_places}
-use Rattle.model.proofs.Counts.{items_len_each}
-use Rattle.model.proofs.Faults.{first_fault_of_both}
+use Rattle.list_json.specs.Json.{elements, count}
+use Rattle.checks.specs.FirstFault.{first_fault}
+use Rattle.list_json.specs.Checks.{KindChecks, where_there, vertices_checks, primitive_checks, part_checks, positions_written}
+use Rattle.list_json.specs.Denotes.{IsArrayOf, IsVertex}
+use Rattle.list_json.proofs.Corners.{same_places}
+use Rattle.list_json.proofs.Counts.{items_len_each}
+use Rattle.checks.proofs.Faults.{first_fault_of_both}
 
 -- the first fault of the primitives is that of the vertices and primitives, if the vertices pass
 pub parts_answer : (earlier : ℕ) (v t s q : Option Data) (vs : List Vertex) (answer : Option ReadKind) → first_fault (where_there vertices_checks v) ≡ None → IsArrayOf 65536 IsVertex v vs
@@ -18,6 +18,6 @@ pub parts_answer : (earlier : ℕ) (v t s q : Option Data) (vs : List Vertex) (a
 parts_answer earlier v t s q vs answer passed is reported =
     let many = items_len_each IsVertex (elements v) vs is.parts in
     let places = same_places (elements v) vs is.parts in
-    let lists : Checks = primitive_checks earlier (count v) (positions_written (elements v)) t s q in
+    let lists : KindChecks = primitive_checks earlier (count v) (positions_written (elements v)) t s q in
     let first : first_fault lists ≡ answer = rw (many, places) reported in
     first_fault_of_both (where_there vertices_checks v) lists ∙ (ap (λ o. option_or o (first_fault lists)) passed ∙ first)

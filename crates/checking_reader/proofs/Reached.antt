@@ -9,11 +9,13 @@ use Rattle.serde_json.proofs.Views.{get_item_within}
 use Rattle.model.specs.declared.fault.ReadKind.{ReadKind}
 use Rattle.model.specs.declared.fault.ReadKind.TheVariants.{OutOfMemory}
 use Rattle.model.specs.declared.fault.ReadFault.{ReadFault}
-use Rattle.model.specs.Json.{elements}
-use Rattle.model.specs.FirstFault.{Check, first_fault, reported_as, PassesBefore}
-use Rattle.model.specs.Checks.{draw_value_checks, checks_before_vertices, numbered_draw_checks, triangles_counted, fault_in_draw, top_checks, IsDrawReached, Reaches}
+use Rattle.list_json.specs.Json.{elements}
+use Rattle.checks.specs.FirstFault.{Check, first_fault, reported_as}
+use Rattle.list_json.specs.Checks.{PassesBefore}
+use Rattle.list_json.specs.Checks.{draw_value_checks, checks_before_vertices, numbered_draw_checks, triangles_counted, top_checks, IsDrawReached, Reaches}
+use Rattle.model.specs.Fault.{fault_in_draw}
 use Rattle.checking_reader.proofs.ArrayElements.{from_here}
-use Rattle.model.proofs.Faults.{passed_here, all_pass}
+use Rattle.checks.proofs.Faults.{passed_here, all_pass}
 
 pub both_before : (n : ℕ) (ps qs : List (Check ReadFault)) → PassesBefore n ps → PassesBefore n qs → PassesBefore n (ps ++ qs)
 both_before n [] qs p q = q

@@ -3,7 +3,7 @@ use Rattle.std.specs.Prelude.{◌≡◌, ◌≢◌, List, Some, None, Result, Ma
 use Rattle.model.specs.declared.fault.ReadKind.{ReadKind}
 use Rattle.model.specs.declared.fault.ReadFault.{ReadFault}
 use Rattle.model.specs.declared.fault.ReadKind.TheVariants.{OutOfMemory}
-use Rattle.model.specs.FirstFault.{Check, first_fault}
+use Rattle.checks.specs.FirstFault.{Check, first_fault}
 
 -- The result is right: no check fails, or the first that fails has this kind.
 abbrev pub Answers : {X : Type 0} → List (Check ReadKind) → (X → Type 0) → Result X ReadKind → Type 0

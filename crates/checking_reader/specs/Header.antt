@@ -3,10 +3,10 @@ use Rattle.std.specs.Prelude.{◌≡◌, ◌≤◌, length, false, codes, IsSome
 use Rattle.serde_json.specs.Data.{Data}
 use Rattle.serde_json.specs.Find.{get, as_object}
 use Rattle.serde_json.specs.View.{items_view}
-use Rattle.model.specs.Json.{array_of, elements, has_other_key}
-use Rattle.model.specs.Keys.{top_keys}
-use Rattle.model.specs.Beginning.{IsBeginning}
-use Rattle.model.specs.Denotes.{IsSize}
+use Rattle.list_json.specs.Json.{array_of, elements, has_other_key}
+use Rattle.list_json.specs.Keys.{top_keys}
+use Rattle.list_json.specs.Beginning.{IsBeginning}
+use Rattle.list_json.specs.Denotes.{IsSize}
 use Rattle.checking_reader.specs.declared.header.Header.{Header}
 
 -- The value is a top object with this size, these samples, clear values and output, and these draws as JSON values.

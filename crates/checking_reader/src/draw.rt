@@ -2,12 +2,12 @@ ghost use Rattle.std.specs.Prelude.{◌≡◌, ◌≤◌, ◌+◌, Some, None, I
 ghost use Rattle.serde_json.specs.View.{view};
 ghost use Rattle.model.specs.declared.fault.ReadKind.TheVariants.{OutOfMemory};
 ghost use Rattle.checking_reader.specs.Answer.{Reads};
-ghost use Rattle.model.specs.FirstFault.{first_fault};
+ghost use Rattle.checks.specs.FirstFault.{first_fault};
 ghost use Rattle.model.specs.Primitives.{primitive_listing, count_of_triangles};
 ghost use Rattle.model.specs.Listing.{draw_listing};
 ghost use Rattle.checking_reader.specs.Given.{given_triangles, given_strip, given_quads};
-ghost use Rattle.model.specs.Checks.{array_checks, part_checks, draw_value_checks, checks_before_vertices};
-ghost use Rattle.model.specs.Denotes.{IsVertex, IsPrimitives, IsArrayOf, IsDraw};
+ghost use Rattle.list_json.specs.Checks.{array_checks, part_checks, draw_value_checks, checks_before_vertices};
+ghost use Rattle.list_json.specs.Denotes.{IsVertex, IsPrimitives, IsArrayOf, IsDraw};
 
 use crate::keys::check_keys;
 use crate::primitives::{PrimitiveArray, primitive_array, read_primitives};
@@ -19,7 +19,7 @@ use serde_json::Value;
 use std::alloc::Global;
 
 /// The vertices and the primitives of a draw, before which the draws have `earlier` triangles.
-#[tactic(auto, using(model::proofs::Faults::first_fault_of_both))]
+#[tactic(auto, using(checks::proofs::Faults::first_fault_of_both))]
 fn parts(
     alloc: Global,
     vertex_array: &Value,
@@ -43,7 +43,7 @@ fn parts(
 }
 
 /// A draw on a picture of these pixels, before which the draws have `earlier` triangles.
-#[tactic(auto, using(model::proofs::Faults::first_fault_of_both))]
+#[tactic(auto, using(checks::proofs::Faults::first_fault_of_both))]
 pub(crate) fn read_draw(
     alloc: Global,
     value: &Value,

@@ -2,8 +2,8 @@
 ghost use Rattle.std.specs.Prelude.{◌≡◌};
 ghost use Rattle.serde_json.specs.View.{items_view};
 ghost use Rattle.checking_reader.specs.Answer.{Reads};
-ghost use Rattle.model.specs.Checks.{each};
-ghost use Rattle.model.specs.Denotes.{Each};
+ghost use Rattle.list_json.specs.Checks.{each};
+ghost use Rattle.list_json.specs.Denotes.{Each};
 
 use model::ReadKind;
 use serde_json::Value;
@@ -14,13 +14,13 @@ pub(crate) trait ElementReader {
     ghost use Rattle.serde_json.specs.Data.{Data};
     ghost use Rattle.serde_json.specs.View.{view};
     ghost use Rattle.checking_reader.specs.Answer.{Answers};
-    ghost use Rattle.model.specs.Checks.{Checks};
+    ghost use Rattle.list_json.specs.Checks.{KindChecks};
 
     /// What an element is read as.
     type Element: Drop;
 
     /// The checks of an element.
-    ghost checks: { Self → Data → Checks };
+    ghost checks: { Self → Data → KindChecks };
 
     /// What the JSON value of an element denotes.
     ghost denotes: { Self → Data → Self.Element → Type 0 };

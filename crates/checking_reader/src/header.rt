@@ -1,10 +1,10 @@
 ghost use Rattle.std.specs.Prelude.{◌≡◌, ◌≤◌, pos, Some, length, option_map, [], ◌∷◌};
 ghost use Rattle.serde_json.specs.View.{view, items_view};
 ghost use Rattle.grid.specs.declared.sample_count.SampleCount.TheVariants as count_of;
-ghost use Rattle.model.specs.Beginning.{IsBeginning};
+ghost use Rattle.list_json.specs.Beginning.{IsBeginning};
 ghost use Rattle.checking_reader.specs.Answer.{Answers};
-ghost use Rattle.model.specs.Checks.{where_there, size_checks, sample_count_checks, colour_checks, depth_checks, clear_checks, top_checks};
-ghost use Rattle.model.specs.Denotes.{OrDefault, IsSize, IsSampleCount, IsClearColour, IsDepthNumber};
+ghost use Rattle.list_json.specs.Checks.{where_there, size_checks, sample_count_checks, colour_checks, depth_checks, clear_checks, top_checks};
+ghost use Rattle.list_json.specs.Denotes.{OrDefault, IsSize, IsSampleCount, IsClearColour, IsDepthNumber};
 
 use crate::array::{array_of, check_length};
 use crate::keys::check_keys;
@@ -77,7 +77,7 @@ fn clear_depth(value: Option<&Value>) -> Result<u16, ReadKind>
 }
 
 /// The number of samples of a pixel, what each begins with, and what the picture shows.
-#[tactic(auto, using(model::proofs::Faults::first_fault_of_both), unfolding(model::specs::Checks::clear_checks))]
+#[tactic(auto, using(checks::proofs::Faults::first_fault_of_both), unfolding(list_json::specs::Checks::clear_checks))]
 fn beginning(value: &Value) -> Result<(SampleCount, Sample, Output), ReadKind>
     ensures { Answers (clear_checks (view value.now)) (λ found. IsBeginning (view value.now) found.0 found.1 found.2)
         result }
@@ -94,7 +94,7 @@ impl<'v> Header<'v> {
     ghost use Rattle.checking_reader.specs.Header.{IsHeader};
 
     /// The parts of the top object, or the first fault of it outside of its draws.
-    #[tactic(auto, using(model::proofs::Faults::first_fault_of_both), unfolding(model::specs::Checks::top_checks))]
+    #[tactic(auto, using(checks::proofs::Faults::first_fault_of_both), unfolding(list_json::specs::Checks::top_checks))]
     pub(crate) fn read(value: &'v Value) -> Result<Header<'v>, ReadKind>
         ensures { Answers (top_checks (view value.now)) (IsHeader (view value.now)) result }
     {

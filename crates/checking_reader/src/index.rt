@@ -1,8 +1,8 @@
 ghost use Rattle.std.specs.Prelude.{◌≤◌, option_map};
 ghost use Rattle.serde_json.specs.View.{view};
 ghost use Rattle.checking_reader.specs.Answer.{Answers};
-ghost use Rattle.model.specs.Checks.{vertex_index_checks};
-ghost use Rattle.model.specs.Denotes.{IsIndex};
+ghost use Rattle.list_json.specs.Checks.{vertex_index_checks};
+ghost use Rattle.list_json.specs.Denotes.{IsIndex};
 
 use crate::number::whole_number;
 use model::{MOST_VERTICES, ReadKind};

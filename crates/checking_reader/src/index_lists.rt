@@ -3,8 +3,8 @@ ghost use Rattle.std.specs.Prelude.{◌≤◌, ◌+◌, Some, IfOk, length, vec_
 ghost use Rattle.serde_json.specs.View.{view};
 ghost use Rattle.checking_reader.specs.Answer.{Reads};
 ghost use Rattle.model.specs.Primitives.{strip_count as count_of_strip, quads_count as count_of_quads};
-ghost use Rattle.model.specs.Checks.{triangle_checks, triangles_checks, strip_index_checks, strip_checks, quad_checks_over, quads_checks};
-ghost use Rattle.model.specs.Denotes.{IsTriangle, IsStripIndex, IsQuad, IsArrayOf};
+ghost use Rattle.list_json.specs.Checks.{triangle_checks, triangles_checks, strip_index_checks, strip_checks, quad_checks_over, quads_checks};
+ghost use Rattle.list_json.specs.Denotes.{IsTriangle, IsStripIndex, IsQuad, IsArrayOf};
 
 use crate::array::{array_of, check_length};
 use crate::elements::{ElementReader, elements_of};
@@ -41,7 +41,7 @@ impl ElementReader for TriangleReader {
 }
 
 /// The triangles of a draw of `count` vertices, before which the draws have `earlier` triangles.
-#[tactic(auto, using(model::proofs::Counts::items_len_each), unfolding(model::specs::Checks::triangles_checks))]
+#[tactic(auto, using(list_json::proofs::Counts::items_len_each), unfolding(list_json::specs::Checks::triangles_checks))]
 pub(crate) fn read_triangles(
     alloc: Global,
     value: &Value,
@@ -83,7 +83,7 @@ impl ElementReader for StripReader {
 }
 
 /// The strip of a draw of `count` vertices, before which the draws have `earlier` triangles.
-#[tactic(auto, using(model::proofs::Counts::items_len_each), unfolding(model::specs::Checks::strip_checks))]
+#[tactic(auto, using(list_json::proofs::Counts::items_len_each), unfolding(list_json::specs::Checks::strip_checks))]
 pub(crate) fn read_strip(
     alloc: Global,
     value: &Value,
@@ -135,7 +135,7 @@ impl ElementReader for QuadReader<'_> {
 }
 
 /// The quads of a draw of these vertices, before which the draws have `earlier` triangles.
-#[tactic(auto, using(model::proofs::Counts::items_len_each), unfolding(model::specs::Checks::quads_checks))]
+#[tactic(auto, using(list_json::proofs::Counts::items_len_each), unfolding(list_json::specs::Checks::quads_checks))]
 pub(crate) fn read_quads(
     alloc: Global,
     value: &Value,

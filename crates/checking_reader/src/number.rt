@@ -1,8 +1,8 @@
 ghost use Rattle.std.specs.Prelude.{◌≡◌, pos, ◌≤ℤ◌, option_map};
 ghost use Rattle.serde_json.specs.View.{view};
 ghost use Rattle.checking_reader.specs.Answer.{Answers};
-ghost use Rattle.model.specs.Checks.{number_checks, coordinate_checks, depth_checks, channel_checks, is_from_to};
-ghost use Rattle.model.specs.Denotes.{IsIntegerWithin, IsCoordinate, IsDepthNumber, IsChannel};
+ghost use Rattle.list_json.specs.Checks.{number_checks, coordinate_checks, depth_checks, channel_checks, is_from_to};
+ghost use Rattle.list_json.specs.Denotes.{IsIntegerWithin, IsCoordinate, IsDepthNumber, IsChannel};
 
 use grid::Point;
 use model::ReadKind;

@@ -2,11 +2,11 @@ ghost use Rattle.std.specs.Prelude.{◌≤◌, ◌+◌, [], ◌∷◌, IfOk, len
 ghost use Rattle.serde_json.specs.View.{view};
 ghost use Rattle.model.specs.declared.fault.ReadKind.TheVariants.{MissingKey, TwoLists};
 ghost use Rattle.checking_reader.specs.Answer.{Answers, Reads};
-ghost use Rattle.model.specs.FirstFault.{check};
+ghost use Rattle.checks.specs.FirstFault.{check};
 ghost use Rattle.model.specs.Primitives.{primitive_listing, count_of_triangles};
 ghost use Rattle.checking_reader.specs.Given.{given_triangles, given_strip, given_quads, IsGiven};
-ghost use Rattle.model.specs.Checks.{primitive_checks, has_no_list, has_two_lists};
-ghost use Rattle.model.specs.Denotes.{IsPrimitives};
+ghost use Rattle.list_json.specs.Checks.{primitive_checks, has_no_list, has_two_lists};
+ghost use Rattle.list_json.specs.Denotes.{IsPrimitives};
 
 use crate::index_lists::{read_quads, read_strip, read_triangles};
 use model::{MOST_TRIANGLES, MOST_VERTICES, Primitives, ReadKind, Vertex};
@@ -40,7 +40,7 @@ pub(crate) fn primitive_array(value: &Value) -> Result<PrimitiveArray<'_>, ReadK
 }
 
 /// The primitives of a draw of these vertices, before which the draws have `earlier` triangles.
-#[tactic(auto, using(model::proofs::Faults::first_fault_of_both))]
+#[tactic(auto, using(checks::proofs::Faults::first_fault_of_both))]
 pub(crate) fn read_primitives(
     alloc: Global,
     given: PrimitiveArray<'_>,

@@ -2,14 +2,15 @@ ghost use Rattle.std.specs.Prelude.{◌≡◌, ◌≢◌, ◌≤◌, ◌⊎◌, 
 ghost use Rattle.serde_json.specs.View.{view, items_view};
 ghost use Rattle.model.specs.declared.fault.ReadKind.TheVariants.{NotJson, OutOfMemory};
 ghost use Rattle.serde_json.specs.Errors.{IsMemory};
-ghost use Rattle.model.specs.Json.{json_of};
+ghost use Rattle.list_json.specs.Json.{json_of};
 ghost use Rattle.checking_reader.specs.Answer.{ReadsAll};
-ghost use Rattle.model.specs.FirstFault.{IsFirstFault, first_fault};
+ghost use Rattle.checks.specs.FirstFault.{IsFirstFault, first_fault};
 ghost use Rattle.model.specs.Primitives.{primitive_listing, count_of_triangles};
 ghost use Rattle.model.specs.Listing.{draw_listing};
 ghost use Rattle.model.specs.Scene.{Scene};
-ghost use Rattle.model.specs.Checks.{outside, draw_value_checks, checks_before_vertices, numbered_draw_checks, value_checks, all_checks, IsDrawReached, Reaches};
-ghost use Rattle.model.specs.Denotes.{Each, IsDraw, IsDrawList, Denotes};
+ghost use Rattle.model.specs.Fault.{outside};
+ghost use Rattle.list_json.specs.Checks.{draw_value_checks, checks_before_vertices, numbered_draw_checks, value_checks, all_checks, IsDrawReached, Reaches};
+ghost use Rattle.list_json.specs.Denotes.{Each, IsDraw, IsDrawList, Denotes};
 
 use crate::draw::read_draw;
 use crate::header::Header;
@@ -61,7 +62,7 @@ fn draws_of(alloc: Global, list: &[Value], picture: PixelBox) -> Result<Vec<Draw
 }
 
 /// The draw list that a value denotes, or the first fault of it.
-#[tactic(auto, using(model::proofs::Faults::first_fault_of_both, model::proofs::Faults::first_fault_reported_as, crate::proofs::Memory::top_never))]
+#[tactic(auto, using(checks::proofs::Faults::first_fault_of_both, checks::proofs::Faults::first_fault_reported_as, crate::proofs::Memory::top_never))]
 fn read_value(alloc: Global, value: &Value) -> Result<DrawList, ReadFault>
     ensures reported { ReadsAll (value_checks (view value.now)) (IsDrawList (view value.now)) result }
     ensures reached { IfErr result (Reaches (Some (view value.now))) }

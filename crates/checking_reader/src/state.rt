@@ -1,8 +1,8 @@
 ghost use Rattle.std.specs.Prelude.{◌≡◌, pos, option_map, true, false, [], ◌∷◌};
 ghost use Rattle.serde_json.specs.View.{view};
 ghost use Rattle.checking_reader.specs.Answer.{Answers};
-ghost use Rattle.model.specs.Checks.{where_there, truth_checks, write_mask_checks, sample_mask_checks, scissor_side_checks, scissor_checks, merge_checks, state_value_checks};
-ghost use Rattle.model.specs.Denotes.{OrDefault, IsTruth, IsWriteMask, IsSampleMaskNumber, IsScissorSide, IsScissor, IsMerge, IsState};
+ghost use Rattle.list_json.specs.Checks.{where_there, truth_checks, write_mask_checks, sample_mask_checks, scissor_side_checks, scissor_checks, merge_checks, state_value_checks};
+ghost use Rattle.list_json.specs.Denotes.{OrDefault, IsTruth, IsWriteMask, IsSampleMaskNumber, IsScissorSide, IsScissor, IsMerge, IsState};
 
 use crate::array::check_length;
 use crate::number::whole_number;
@@ -87,7 +87,7 @@ fn scissor(value: Option<&Value>, picture: PixelBox) -> Result<PixelBox, ReadKin
 }
 
 /// How a draw's fragments are merged with what is stored.
-#[tactic(auto, using(model::proofs::Faults::first_fault_of_both), unfolding(model::specs::Checks::merge_checks))]
+#[tactic(auto, using(checks::proofs::Faults::first_fault_of_both), unfolding(list_json::specs::Checks::merge_checks))]
 fn merge(value: &Value) -> Result<Merge, ReadKind>
     ensures { Answers (merge_checks (view value.now)) (IsMerge (view value.now)) result }
 {
@@ -104,7 +104,7 @@ fn merge(value: &Value) -> Result<Merge, ReadKind>
 }
 
 /// The state of a draw on a picture of these pixels.
-#[tactic(auto, using(model::proofs::Faults::first_fault_of_both), unfolding(model::specs::Checks::state_value_checks))]
+#[tactic(auto, using(checks::proofs::Faults::first_fault_of_both), unfolding(list_json::specs::Checks::state_value_checks))]
 pub(crate) fn read_state(value: &Value, picture: PixelBox) -> Result<State, ReadKind>
     ensures { Answers (state_value_checks (view value.now)) (IsState picture (view value.now)) result }
 {

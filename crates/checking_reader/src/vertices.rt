@@ -3,9 +3,9 @@ ghost use Rattle.serde_json.specs.View.{view};
 ghost use Rattle.serde_json.specs.Find.{at};
 ghost use Rattle.model.specs.declared.fault.ReadKind.TheVariants.{OutOfMemory};
 ghost use Rattle.checking_reader.specs.Answer.{Answers, Reads};
-ghost use Rattle.model.specs.FirstFault.{first_fault};
-ghost use Rattle.model.specs.Checks.{array_checks, rgba_checks, vertex_checks, vertices_checks};
-ghost use Rattle.model.specs.Denotes.{IsChannel, IsVertex, IsArrayOf};
+ghost use Rattle.checks.specs.FirstFault.{first_fault};
+ghost use Rattle.list_json.specs.Checks.{array_checks, rgba_checks, vertex_checks, vertices_checks};
+ghost use Rattle.list_json.specs.Denotes.{IsChannel, IsVertex, IsArrayOf};
 
 use crate::array::{array_of, check_length};
 use crate::elements::{ElementReader, elements_of};
@@ -53,7 +53,7 @@ impl ElementReader for VertexReader {
 }
 
 /// The vertices of a draw.
-#[tactic(auto, using(model::proofs::Counts::items_len_each), unfolding(model::specs::Checks::vertices_checks))]
+#[tactic(auto, using(list_json::proofs::Counts::items_len_each), unfolding(list_json::specs::Checks::vertices_checks))]
 pub(crate) fn read_vertices(alloc: Global, value: &Value) -> Result<Vec<Vertex>, ReadKind>
     ensures reported { let seen = Some (view value.now) in
         Reads (vertices_checks seen) (λ found. IsArrayOf MOST_VERTICES IsVertex seen found.items) result }

@@ -5,17 +5,15 @@ ghost use Rattle.shade.specs.declared.depth.DepthTest.TheVariants as test_of;
 ghost use Rattle.shade.specs.Presets.{none_blend};
 ghost use Rattle.model.specs.declared.fault.ReadKind.TheVariants.{WrongKind};
 ghost use Rattle.model.specs.declared.output.Output.TheVariants as output_of;
-ghost use Rattle.model.specs.Json.{text};
-ghost use Rattle.model.specs.Keys.{output_words, cull_words, depth_test_words, blend_words};
+ghost use Rattle.list_json.specs.Json.{text};
+ghost use Rattle.list_json.specs.Keys.{output_words, cull_words, depth_test_words, blend_words};
 ghost use Rattle.checking_reader.specs.Answer.{Answers};
-ghost use Rattle.model.specs.Checks.{where_there, word_checks};
-ghost use Rattle.model.specs.Denotes.{OrDefault, IsOutput, IsCull, IsDepthTest, IsBlend};
+ghost use Rattle.list_json.specs.Checks.{where_there, word_checks};
+ghost use Rattle.list_json.specs.Denotes.{OrDefault, IsOutput, IsCull, IsDepthTest, IsBlend};
 
 use grid::Cull;
-use model::{
-    DEFAULT_OUTPUT, DEFAULT_STATE, Output, ReadKind, blend_named, cull_named, depth_test_named,
-    output_named,
-};
+use list_json::{blend_named, cull_named, depth_test_named, output_named};
+use model::{DEFAULT_OUTPUT, DEFAULT_STATE, Output, ReadKind};
 use serde_json::Value;
 use shade::{Blend, DepthTest};
 

@@ -5,9 +5,9 @@ use Rattle.json.specs.Token.{Token}
 use Rattle.json.specs.Json.{value}
 use Rattle.json.proofs.Grammar.{value_is}
 use Rattle.serde_json.specs.Data.{Data, Num, number, string, boolean}
-use Rattle.model.specs.Json.{text, truth}
+use Rattle.list_json.specs.Json.{text, truth}
 use Rattle.cursor.specs.Lexed.{TookInteger}
-use Rattle.model.specs.Denotes.{IsIntegerWithin, IsIndex}
+use Rattle.list_json.specs.Denotes.{IsIntegerWithin, IsIndex}
 use Rattle.serde_json.specs.Find.{as_integer}
 use Rattle.serde_json.specs.Read.{number_of, of_json, converted}
 use Rattle.fast_reader.specs.Took.{Took, IsNumber}

@@ -1,7 +1,7 @@
 ghost use Rattle.std.specs.Prelude.{◌≡◌, ◌∷◌, IfSome, IsTrue, Some, option_map};
 ghost use Rattle.json.specs.Token.{begin_array, begin_object};
 ghost use Rattle.json.specs.Json.{read_key};
-ghost use Rattle.model.specs.Denotes.{IsClearColour, IsWriteMask, IsScissorSide, IsScissor};
+ghost use Rattle.list_json.specs.Denotes.{IsClearColour, IsWriteMask, IsScissorSide, IsScissor};
 ghost use Rattle.fast_reader.specs.Took.{Took};
 
 use crate::number::{channel, take_between};

@@ -1,6 +1,6 @@
 //! The arrays of a draw, each element taken as what its array is of.
 ghost use Rattle.std.specs.Prelude.{suc, IfSome, Some};
-ghost use Rattle.model.specs.Denotes.{IsArrayOf};
+ghost use Rattle.list_json.specs.Denotes.{IsArrayOf};
 ghost use Rattle.fast_reader.specs.Took.{Took};
 
 use crate::array::take_begin_array;

@@ -1,6 +1,6 @@
 //! The lists of primitives of a draw: triangles, the indices of a strip, or quads.
 ghost use Rattle.std.specs.Prelude.{IfSome, Some};
-ghost use Rattle.model.specs.Denotes.{IsTriangle, IsStripIndex, IsQuad, IsArrayOf};
+ghost use Rattle.list_json.specs.Denotes.{IsTriangle, IsStripIndex, IsQuad, IsArrayOf};
 ghost use Rattle.fast_reader.specs.Took.{Took};
 
 use crate::array::take_begin_array;

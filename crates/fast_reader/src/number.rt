@@ -1,5 +1,5 @@
 ghost use Rattle.std.specs.Prelude.{◌≡◌, ◌≤◌, ◌<◌, IfSome, Some};
-ghost use Rattle.model.specs.Denotes.{IsIntegerWithin, IsDepthNumber, IsIndex, IsSize, IsSampleMaskNumber, IsSampleCount};
+ghost use Rattle.list_json.specs.Denotes.{IsIntegerWithin, IsDepthNumber, IsIndex, IsSize, IsSampleMaskNumber, IsSampleCount};
 ghost use Rattle.fast_reader.specs.Took.{Took, IsNumber};
 
 use cursor::Cursor;

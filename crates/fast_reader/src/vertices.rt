@@ -1,5 +1,5 @@
 ghost use Rattle.std.specs.Prelude.{IfSome, Some};
-ghost use Rattle.model.specs.Denotes.{IsVertex, IsArrayOf};
+ghost use Rattle.list_json.specs.Denotes.{IsVertex, IsArrayOf};
 ghost use Rattle.fast_reader.specs.Took.{Took};
 
 use crate::elements::{ElementReader, take_array};

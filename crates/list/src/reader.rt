@@ -1,10 +1,10 @@
 ghost use Rattle.std.specs.Prelude.{◌≡◌, ◌≢◌, ◌≤◌, length, IfOk, IfErr, MatchResult};
 ghost use Rattle.model.specs.declared.fault.ReadKind.TheVariants.{OutOfMemory};
-ghost use Rattle.model.specs.Json.{json_of};
-ghost use Rattle.model.specs.FirstFault.{IsFirstFault, AllPass};
+ghost use Rattle.list_json.specs.Json.{json_of};
+ghost use Rattle.checks.specs.FirstFault.{IsFirstFault, AllPass};
 ghost use Rattle.model.specs.Scene.{Scene};
-ghost use Rattle.model.specs.Checks.{all_checks, Reaches};
-ghost use Rattle.model.specs.Denotes.{Denotes};
+ghost use Rattle.list_json.specs.Checks.{all_checks, Reaches};
+ghost use Rattle.list_json.specs.Denotes.{Denotes};
 
 use checking_reader::read_by_value;
 use fast_reader::read_in_one_pass;

@@ -1,6 +1,4 @@
 pub mod Triangulated
-pub mod Convex
-pub mod Corners
 pub mod Numbering
 pub mod Unique
 pub mod Pixels
@@ -10,16 +8,4 @@ pub mod Starting
 pub mod PixelPrefix
 pub mod Exists
 pub mod Colours
-pub mod Faults
-pub mod Counts
-pub mod Passes
-pub mod Bytes
-pub mod Accepted
-pub mod OneValue
-pub mod OneState
-pub mod OneDraw
-pub mod OneList
 pub mod FaultKinds
-pub mod Denoted
-pub mod UnknownWord
-pub mod Checking

@@ -1,5 +1,6 @@
--- The numbers and names of the errors of a draw list.
-use Rattle.std.specs.Prelude.{ℕ, List, codes}
+-- The numbers and names of the errors of a draw list, and where an error is.
+use Rattle.std.specs.Prelude.{ℕ, List, codes, Some, None}
+use Rattle.model.specs.declared.fault.ReadFault.{ReadFault}
 use Rattle.model.specs.declared.fault.ReadKind.{ReadKind}
 use Rattle.model.specs.declared.fault.ReadKind.TheVariants.{NotJson, UnknownKey, MissingKey, WrongKind, OutOfRange, BadIndex, TooMany, OutOfMemory, TwoLists, NotConvex}
 
@@ -28,3 +29,11 @@ name_of TooMany = codes "TooMany"
 name_of OutOfMemory = codes "OutOfMemory"
 name_of TwoLists = codes "TwoLists"
 name_of NotConvex = codes "NotConvex"
+
+-- An error of this kind that is in no draw.
+abbrev pub outside : ReadKind → ReadFault
+outside kind = record { kind = kind; draw = None }
+
+-- An error of this kind in the draw of this number.
+abbrev pub fault_in_draw : ℕ → ReadKind → ReadFault
+fault_in_draw number kind = record { kind = kind; draw = Some number }

@@ -1,12 +1,17 @@
 -- The picture of a draw list, and its bytes.
-use Rattle.std.specs.Prelude.{◌≡◌, ℕ, ◌+◌, ◌*◌, ◌<◌, List, [], ◌∷◌, length, take, drop}
+use Rattle.std.specs.Prelude.{◌≡◌, ℕ, ◌+◌, ◌*◌, ◌<◌, pos, List, [], ◌∷◌, length, take, drop}
 use Rattle.grid.specs.Samples.{count_of}
+use Rattle.grid.specs.declared.pixels.PixelBox.{PixelBox}
 use Rattle.shade.specs.declared.sample.Sample.{Sample}
 use Rattle.shade.specs.Ending.{Ends}
 use Rattle.shade.specs.Resolve.{IsResolved}
 use Rattle.model.specs.declared.output.Output.{Output}
 use Rattle.model.specs.declared.output.Output.TheVariants.{Color, Depth}
 use Rattle.model.specs.Scene.{Scene}
+
+-- All pixels of a picture of this size.
+abbrev pub picture_box : ℕ → ℕ → PixelBox
+picture_box width height = record { x0 = pos 0; y0 = pos 0; x1 = pos width; y1 = pos height }
 
 -- The final value of sample s of pixel (i, j): what all triangles make of the clear colour and depth.
 abbrev pub IsEnd : Scene → ℕ → ℕ → ℕ → Sample → Type 0

@@ -89,7 +89,7 @@ impl From<AllocError> for ReadKind {
 
 impl From<ReadKind> for ReadFault {
     ghost use Rattle.std.specs.Prelude.{◌≡◌};
-    ghost use Rattle.model.specs.Checks.{outside as fault_outside};
+    ghost use Rattle.model.specs.Fault.{outside as fault_outside};
 
     ghost from_gives = { λ kind fault. fault ≡ fault_outside kind };
 
@@ -100,7 +100,7 @@ impl From<ReadKind> for ReadFault {
 
 impl From<OutOfMemory> for ReadFault {
     ghost use Rattle.std.specs.Prelude.{◌≡◌};
-    ghost use Rattle.model.specs.Checks.{outside as fault_outside};
+    ghost use Rattle.model.specs.Fault.{outside as fault_outside};
     ghost use Rattle.model.specs.declared.fault.ReadKind.TheVariants.{OutOfMemory};
 
     ghost from_gives = { λ _ fault. fault ≡ fault_outside OutOfMemory };
@@ -112,7 +112,7 @@ impl From<OutOfMemory> for ReadFault {
 
 impl ReadFault {
     ghost use Rattle.std.specs.Prelude.{◌≡◌};
-    ghost use Rattle.model.specs.Checks.{outside as fault_outside, fault_in_draw};
+    ghost use Rattle.model.specs.Fault.{outside as fault_outside, fault_in_draw};
 
     /// A fault of the list, outside of its draws.
     pub fn outside(kind: ReadKind) -> ReadFault

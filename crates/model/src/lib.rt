@@ -12,7 +12,6 @@ mod primitives;
 mod rows;
 mod starts;
 mod target;
-mod words;
 
 pub use defaults::{
     DEFAULT_CLEAR, DEFAULT_OUTPUT, DEFAULT_SAMPLE_COUNT, DEFAULT_STATE, default_state,
@@ -32,4 +31,3 @@ pub use primitives::{
 pub use rows::RowSpan;
 pub use shade::{Placed, State};
 pub use target::{Target, picture_box};
-pub use words::{blend_named, cull_named, depth_test_named, output_named};

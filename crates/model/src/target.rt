@@ -1,6 +1,6 @@
 //! What a picture is before anything is drawn on it.
 ghost use Rattle.std.specs.Prelude.{◌≡◌, ◌<◌, ◌^◌};
-ghost use Rattle.model.specs.Denotes.{picture_box as box_of_picture};
+ghost use Rattle.model.specs.Picture.{picture_box as box_of_picture};
 
 use crate::output::Output;
 use grid::{PixelBox, SampleCount};

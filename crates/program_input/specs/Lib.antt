@@ -10,22 +10,10 @@
 --   AsksForHelp: The arguments ask for help: clap returns it for them.
 --   status_of: The program's status for arguments that give no options.
 --
--- Faults.antt
---   IsOfList: The error of a run for an error of its list.
---   of_pool: The error of a run for an error of its workers.
---
--- Input.antt
---   GivesAll: A reader with the bytes `left` gave these bytes, and then was at its end.
---   TakesOver: What the reader gave stands behind the old bytes.
---   Gives: The input gave exactly `count` bytes.
---   HasFault: The input's bytes, up to its end, have this first error.
---
 -- Refusal.antt
 --   refusal_line: The line that the program writes if its arguments are refused.
 --   WritesLine: What was written is the line, or a beginning of it if the writer failed.
 --   WritesSomeLine: What was written is a line that ends in a line feed, or a beginning of it if the writer failed.
 
 pub mod Args
-pub mod Faults
-pub mod Input
 pub mod Refusal

@@ -3,10 +3,10 @@ ghost use Rattle.std.specs.Prelude.{◌≡◌, ◌≤◌, [], map, codes, option
 ghost use Rattle.clap.specs.Words.{fault_of};
 ghost use Rattle.program_input.specs.Args.{AsksForHelp, trirast_app, matched, tile_text, IsNumberText};
 
-use crate::drawing_options::Options;
 use crate::line_fault::LineFault;
 use clap::error::ErrorKind;
 use clap::{Arg, Command, Error};
+use engine::Options;
 use grid::TileSide;
 use std::alloc::Global;
 

@@ -1,11 +1,7 @@
-//! What both programs do: give a command its arguments and streams, read options and all input, refuse arguments, report
-//! errors.
+//! What both programs do: give a command its arguments and streams, read options, refuse arguments, report errors.
 #![tactic(auto)]
 
 mod args;
-mod drawing_options;
-mod fault;
-mod input;
 mod line_fault;
 mod messages;
 mod process;
@@ -13,9 +9,6 @@ mod process_args;
 mod refusal;
 
 pub use args::options;
-pub use drawing_options::Options;
-pub use fault::Fault;
-pub use input::read_input;
 pub use line_fault::LineFault;
 pub use messages::{FaultLine, LINE_BYTES, fault_line};
 pub use process::run_program;

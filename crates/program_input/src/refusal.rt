@@ -3,9 +3,9 @@ ghost use Rattle.std.specs.Prelude.{◌≡◌, ◌<◌};
 ghost use Rattle.program_input.specs.Args.{status_of};
 ghost use Rattle.program_input.specs.Refusal.{WritesLine, WritesSomeLine, refusal_line};
 
-use crate::fault::Fault;
 use crate::line_fault::LineFault;
 use crate::messages::fault_line;
+use engine::Fault;
 use picture_file::Counted;
 use std::io::Write;
 

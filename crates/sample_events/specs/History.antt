@@ -1,23 +1,17 @@
--- The history of a sample in the caller's memory.
-use Rattle.std.specs.Prelude.{◌≡◌, ◌≢◌, ◌↔◌, ℕ, ◌<◌, List, Bool, IsTrue}
+-- The sample whose history is asked for, and what is said of it beside its events.
+use Rattle.std.specs.Prelude.{◌≡◌, ℕ, ◌<◌}
 use Rattle.grid.specs.Samples.{count_of, sample_position}
 use Rattle.shade.specs.declared.sample.Sample.{Sample as Stored}
-use Rattle.model.specs.Checking.{Checks, check, done}
-use Rattle.model.specs.Denotes.{Denotes}
-use Rattle.model.specs.Picture.{IsEnd}
+use Rattle.checks.specs.Checking.{Checks, check, done}
 use Rattle.model.specs.Scene.{Scene}
 use Rattle.model.specs.declared.output.Output.{Output}
 use Rattle.model.specs.declared.output.Output.TheVariants.{Color, Depth}
 use Rattle.c_abi.specs.Sizes.{IsOwnSize}
-use Rattle.c_abi.specs.Calls.{text_checks}
 use Rattle.c_abi.specs.declared.status.Status.{Status}
-use Rattle.c_abi.specs.declared.status.Status.TheVariants.{BadStructSize, BadSample, BadPixel}
-use Rattle.sample_events.specs.declared.event.SampleEvent.{SampleEvent}
+use Rattle.c_abi.specs.declared.status.Status.TheVariants.{BadSample, BadPixel}
 use Rattle.sample_events.specs.declared.request.HistoryRequest.{HistoryRequest}
 use Rattle.sample_events.specs.declared.sample_info.SampleInfo.{SampleInfo}
 use Rattle.sample_events.specs.Events.{stored_of}
-use Rattle.list_history.specs.Walk.{history_start}
-use Rattle.sample_events.specs.Walk.{AreEventsWritten}
 
 -- The structs have the sizes, in bytes, that this library knows, or 0 for just these.
 pub record HasSizes (request : HistoryRequest) : Type 0 where
@@ -49,30 +43,6 @@ pub record IsSampleInfo (l : Scene) (request : HistoryRequest) (event_count : �
   pub begins : info.begin ≡ stored_of l.clear
   pub ends : info.end ≡ stored_of end
 
--- The caller's memory holds the history of the sample that is asked for, of the list that the text denotes. Its end is what the picture
--- is made of.
-pub record HoldsHistory (json : List ℕ) (request : HistoryRequest) (old new : List SampleEvent) (info : SampleInfo) : Type 0 where
-  pub list : Scene
-  pub means : Denotes json list
-  pub pixel : HasRequestedPixel list request
-  pub sample : HasRequestedSample list request
-  pub all : Bool
-  pub is_all : IsTrue all ↔ (request.all ≢ 0)
-  pub event_count : ℕ
-  pub end : Stored
-  pub written : AreEventsWritten all (history_start list request.x request.y request.sample) old new event_count end
-  pub is_end : IsEnd list request.x request.y request.sample end
-  pub is_info : IsSampleInfo list request event_count end info
-
 -- The checks of a list that was read: its picture has the pixel, and the pixel has the sample.
 abbrev pub place_checks : Scene → HistoryRequest → Checks Status
 place_checks l request = check (HasRequestedPixel l request) BadPixel (check (HasRequestedSample l request) BadSample done)
-
--- The checks of a call that writes a history. Those of the pixel and the sample are of each list that the text denotes.
-abbrev pub history_checks : List ℕ → HistoryRequest → Checks Status
-history_checks json request =
-    check (HasSizes request) BadStructSize (
-    text_checks json (
-    check ((l : Scene) → Denotes json l → HasRequestedPixel l request) BadPixel (
-    check ((l : Scene) → Denotes json l → HasRequestedSample l request) BadSample
-    done)))

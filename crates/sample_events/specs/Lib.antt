@@ -24,16 +24,8 @@
 --   HasRequestedSample: A pixel has the sample that is asked for.
 --   output_number: What a picture shows, by its number in C.
 --   IsSampleInfo: The sample beside its events: their number, what the picture is, where it lies, and what it begins and ends with.
---   HoldsHistory: The caller's memory holds the history of the sample that is asked for, of the list that the text denotes.
 --   place_checks: The checks of a list that was read: its picture has the pixel, and the pixel has the sample.
---   history_checks: The checks of a call that writes a history.
---
--- Triangles.antt
---   HoldsCounts: The caller's memory holds the counts of the triangle in this place, of the list that the text denotes.
---   HasTriangle: The list has a triangle in this place.
---   samples_checks: The checks of a call that counts the samples of a triangle.
 
 pub mod Events
 pub mod Walk
 pub mod History
-pub mod Triangles

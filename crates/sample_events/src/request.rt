@@ -1,6 +1,6 @@
 ghost use Rattle.std.specs.Prelude.{◌≡◌, ◌≢◌, ◌<◌, ◌↔◌, IsTrue, OnOk, ⊤};
 ghost use Rattle.grid.specs.Samples.{count_of};
-ghost use Rattle.model.specs.Checking.{IsJudged};
+ghost use Rattle.checks.specs.Checking.{IsJudged};
 ghost use Rattle.sample_events.specs.History.{HasSizes, HasRequestedPixel, HasRequestedSample, place_checks};
 
 use crate::event::SampleEvent;
@@ -37,7 +37,7 @@ pub struct HistoryRequest {
 
 impl HistoryRequest {
     /// Whether the structs have the sizes that this library knows.
-    pub(crate) fn has_sizes(&self) -> bool
+    pub fn has_sizes(&self) -> bool
         ensures { IsTrue result ↔ HasSizes self.now }
     {
         is_own_size(self.struct_size, REQUEST_SIZE)
@@ -46,7 +46,7 @@ impl HistoryRequest {
     }
 
     /// Whether events of all triangles are asked for.
-    pub(crate) fn is_all(&self) -> bool
+    pub fn is_all(&self) -> bool
         ensures { IsTrue result ↔ (self.now.all ≢ 0) }
     {
         self.all != 0
@@ -61,7 +61,7 @@ impl HistoryRequest {
     }
 
     /// Fails with `BadPixel` if the picture has no such pixel, else with `BadSample` if the pixel has no such sample.
-    pub(crate) fn check(&self, list: &DrawList) -> Result<(), Status>
+    pub fn check(&self, list: &DrawList) -> Result<(), Status>
         ensures judged { IsJudged (place_checks list.now self.now) (λ done. ⊤) result }
         ensures screen { OnOk result ((self.now.x < 4096) × (self.now.y < 4096)) }
     {

@@ -29,7 +29,7 @@ pub struct SampleInfo {
 
 impl SampleInfo {
     /// The sample whose history has this number of events, and which ends as `end`.
-    pub(crate) fn of(
+    pub fn of(
         list: &DrawList,
         request: &HistoryRequest,
         event_count: usize,

@@ -27,7 +27,7 @@ fn next_event(history: &mut ListHistory<'_>, all: bool) -> Option<ListEvent>
 
 /// Writes the events of sample `s` of the pixel in column `px` and row `py` at the beginning of the array, in draw
 /// order, as many as it holds. Returns how many there are in all, and the sample after all triangles.
-pub(crate) fn write_events(
+pub fn write_events(
     list: &DrawList,
     px: u32,
     py: u32,

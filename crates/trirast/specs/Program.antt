@@ -1,9 +1,9 @@
 -- What the program writes, by its status.
 use Rattle.std.specs.Prelude.{◌≡◌, ◌↔◌, ℕ, List, Option, codes}
 use Rattle.grid.specs.declared.pixels.TileSide.{TileSide}
-use Rattle.program_input.specs.declared.fault.Fault.{Fault}
-use Rattle.program_input.specs.declared.fault.Fault.TheVariants.{InputFailed, WriteFailed}
-use Rattle.trirast.specs.Runs.{Explains}
+use Rattle.engine.specs.declared.fault.Fault.{Fault}
+use Rattle.engine.specs.declared.fault.Fault.TheVariants.{InputFailed, WriteFailed}
+use Rattle.engine.specs.Runs.{Explains}
 
 -- The line that the program writes if its arguments ask for help.
 abbrev pub usage_line : List ℕ

@@ -3,9 +3,9 @@ ghost use Rattle.std.specs.Prelude.{◌≡◌, ◌<◌, ◌⊎◌, map};
 ghost use Rattle.program_input.specs.Args.{AsksForHelp};
 ghost use Rattle.program_input.specs.Refusal.{WritesLine, WritesSomeLine, refusal_line};
 ghost use Rattle.trirast.specs.Program.{EndsByFault, usage_line};
-ghost use Rattle.trirast.specs.Runs.{WritesPicture};
+ghost use Rattle.engine.specs.Runs.{WritesPicture};
 
-use crate::engine::run;
+use engine::run;
 use picture_file::Counted;
 use program_input::{fail_with, options, refuse_with};
 use std::alloc::Global;

@@ -3,16 +3,16 @@
 use Rattle.std.specs.Prelude.{◌≡◌, ℕ, ◌+◌, ◌-◌, ◌*◌, ◌<◌, ◌≤◌, List, ◌++◌, length, drop, min}
 use Rattle.grid.specs.Pixels.{side_of}
 use Rattle.grid.specs.declared.pixels.TileSide.{TileSide}
-use Rattle.model.specs.Checking.{Checks, done, check, allocate}
-use Rattle.model.specs.Denotes.{Denotes}
+use Rattle.checks.specs.Checking.{Checks, done, check, allocate}
+use Rattle.list_json.specs.Denotes.{Denotes}
 use Rattle.model.specs.Picture.{output_pixel_bytes}
 use Rattle.model.specs.Scene.{Scene}
 use Rattle.tiling.specs.Grid.{tiles_over}
 use Rattle.tiling.specs.TileRow.{AreTileRows}
 use Rattle.picture_file.specs.File.{header_of, IsPictureFile}
-use Rattle.c_abi.specs.Calls.{text_checks}
 use Rattle.c_abi.specs.declared.status.Status.{Status}
 use Rattle.c_abi.specs.declared.status.Status.TheVariants.{OutOfMemory, BufferTooSmall, BadTileSize, BadTileRows}
+use Rattle.trirast_c.specs.Texts.{text_checks}
 use Rattle.trirast_c.specs.declared.image_info.ImageInfo.{ImageInfo}
 
 -- ---- the picture's bytes in the caller's buffer

@@ -1,14 +1,14 @@
 //! Bytes at the beginning of the caller's buffer.
 ghost use Rattle.std.specs.Prelude.{◌≡◌, ◌≤◌, length, OnOk, OnErr, ⊤};
-ghost use Rattle.model.specs.Checking.{IsJudged};
+ghost use Rattle.checks.specs.Checking.{IsJudged};
 ghost use Rattle.trirast_c.specs.Library.{HoldsFile, IsPut, file_checks};
 
 use crate::image_info::ImageInfo;
 use c_abi::Status;
+use engine::draw;
 use grid::TileSide;
 use list::DrawList;
 use std::alloc::Global;
-use trirast::draw;
 
 /// Writes bytes at the beginning of a buffer.
 pub(crate) fn put(bytes: &[u8], buffer: &mut [u8])

@@ -1,15 +1,16 @@
 //! The size of a picture and of its file.
 ghost use Rattle.std.specs.Prelude.{◌≡◌, ◌≢◌, length, OnOk, OnErr, ⊤};
-ghost use Rattle.model.specs.Checking.{done as checked};
-ghost use Rattle.model.specs.Denotes.{Denotes};
-ghost use Rattle.c_abi.specs.Calls.{IsCall, IsFirstOfText, IsReport, text_checks};
+ghost use Rattle.checks.specs.Checking.{done as checked};
+ghost use Rattle.list_json.specs.Denotes.{Denotes};
+ghost use Rattle.c_abi.specs.Calls.{IsCall, IsReport};
+ghost use Rattle.trirast_c.specs.Texts.{IsFirstOfText, text_checks};
 ghost use Rattle.trirast_c.specs.Library.{HoldsInfo, IsImageInfo};
 
+use crate::text::list_of;
 use c_abi::{CallError, Error, report};
 use list::DrawList;
-use sample_events::list_of;
+use picture_file::file_header;
 use std::alloc::Global;
-use trirast::file_header;
 
 /// The size of a picture and of its file, laid out as in C.
 #[repr(C)]

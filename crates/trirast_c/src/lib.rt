@@ -9,15 +9,18 @@ mod messages;
 mod picture;
 mod picture_rows;
 mod sample_history;
+mod text;
 mod tile_size;
+mod triangle;
 
 pub use c_abi::{CallError, Error};
 pub use image_info::{ImageInfo, trirast_proved_list_info};
 pub use messages::trirast_error_message;
 pub use picture::trirast_proved_list_draw;
 pub use picture_rows::trirast_proved_list_draw_rows;
-pub use sample_events::{HistoryRequest, SampleEvent, SampleInfo, TriangleSamples};
-pub use sample_history::{trirast_proved_list_history, trirast_proved_list_triangle_samples};
+pub use sample_events::{HistoryRequest, SampleEvent, SampleInfo};
+pub use sample_history::trirast_proved_list_history;
+pub use triangle::{TriangleSamples, trirast_proved_list_triangle_samples};
 
 /// The number of these calls and structs. A greater one has all that a smaller one has, in the same form.
 pub const INTERFACE: u32 = 2;

@@ -1,13 +1,14 @@
 //! The picture of a list, as a file in the caller's buffer.
 ghost use Rattle.std.specs.Prelude.{◌≡◌, ◌≢◌, length, OnOk, OnErr, ⊤};
-ghost use Rattle.model.specs.Denotes.{Denotes};
-ghost use Rattle.c_abi.specs.Calls.{IsCall, IsFirstOfText, IsReport};
+ghost use Rattle.list_json.specs.Denotes.{Denotes};
+ghost use Rattle.c_abi.specs.Calls.{IsCall, IsReport};
+ghost use Rattle.trirast_c.specs.Texts.{IsFirstOfText};
 ghost use Rattle.trirast_c.specs.Library.{DrawsFile, picture_checks};
 
 use crate::buffer::file_into;
+use crate::text::list_of;
 use crate::tile_size::side_of;
 use c_abi::{CallError, Error, report};
-use sample_events::list_of;
 use std::alloc::Global;
 
 /// Draws the file of the picture of the list that the bytes denote into the buffer.

@@ -1,21 +1,22 @@
 //! Tile rows of a list's picture, as bytes in the caller's buffer.
 ghost use Rattle.std.specs.Prelude.{◌≡◌, ◌≢◌, ◌<◌, ◌≤◌, ℕ, List, length, OnOk, OnErr, ⊤};
-ghost use Rattle.model.specs.Denotes.{Denotes};
+ghost use Rattle.list_json.specs.Denotes.{Denotes};
 ghost use Rattle.tiling.specs.Grid.{tiles_over};
 ghost use Rattle.tiling.specs.TileRow.{AreTileRows};
-ghost use Rattle.c_abi.specs.Calls.{IsCall, IsFirstOfText, IsReport};
+ghost use Rattle.c_abi.specs.Calls.{IsCall, IsReport};
+ghost use Rattle.trirast_c.specs.Texts.{IsFirstOfText};
 ghost use Rattle.trirast_c.specs.Library.{DrawsRows, rows_checks, rows_length};
 
 use crate::buffer::put;
+use crate::text::list_of;
 use crate::tile_size::side_of;
 use c_abi::{CallError, Error, Status, report};
+use engine::draw_rows;
 use grid::TileSide;
 use list::DrawList;
-use sample_events::list_of;
 use std::alloc::Global;
 use std::ops::Range;
 use tiling::Tiling;
-use trirast::draw_rows;
 
 /// The number of bytes of the rows of pixels in these tile rows.
 fn bytes_of_rows(list: &DrawList, side: TileSide, first: u32, end: u32) -> u64

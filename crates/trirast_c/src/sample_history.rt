@@ -1,15 +1,39 @@
-//! The history of a sample, and how many samples a triangle has, in the caller's memory.
-ghost use Rattle.std.specs.Prelude.{◌≡◌, ◌≢◌};
-ghost use Rattle.c_abi.specs.Calls.{IsFirstOfText, IsReport};
-ghost use Rattle.sample_events.specs.History.{HoldsHistory, history_checks};
-ghost use Rattle.sample_events.specs.Triangles.{HoldsCounts, samples_checks};
+//! The history of a sample, in the caller's memory.
+ghost use Rattle.std.specs.Prelude.{◌≡◌, ◌≢◌, OnOk, OnErr, ⊤};
+ghost use Rattle.c_abi.specs.Calls.{IsCall, IsReport};
+ghost use Rattle.trirast_c.specs.Texts.{IsFirstOfText};
+ghost use Rattle.trirast_c.specs.History.{HoldsHistory, history_checks};
 
-use c_abi::{Error, report};
-use model::TrianglePlace;
-use sample_events::{
-    HistoryRequest, SampleEvent, SampleInfo, TriangleSamples, write_history, write_triangle_samples,
-};
+use crate::text::list_of;
+use c_abi::{CallError, Error, Status, report};
+use sample_events::{HistoryRequest, SampleEvent, SampleInfo, write_events};
 use std::alloc::Global;
+
+/// Writes the events of a sample's history at the beginning of the array, in draw order, as many as it holds, and into
+/// `info` how many there are in all, and what the sample begins and ends with. The array is unchanged behind the
+/// events. After an error the array and `info` are unchanged.
+fn write_history(
+    alloc: Global,
+    json: &[u8],
+    request: &HistoryRequest,
+    events: &mut [SampleEvent],
+    info: &mut SampleInfo,
+) -> Result<(), CallError>
+    ensures written { OnOk result (HoldsHistory json.now request.now events.old events.new info.new) }
+    ensures events { OnErr result (events.new ≡ events.old) }
+    ensures info { OnErr result (info.new ≡ info.old) }
+    ensures judged { IsCall (history_checks json.now request.now) (IsFirstOfText json.now) (λ done. ⊤) result }
+{
+    if !request.has_sizes() {
+        return Err(CallError::from(Status::BadStructSize));
+    }
+    let list = list_of(alloc, json)?;
+    request.check(&list)?;
+    let (x, y, sample) = (request.x, request.y, request.sample);
+    let (event_count, end) = write_events(&list, x, y, sample, request.is_all(), events);
+    *info = SampleInfo::of(&list, request, event_count, end);
+    Ok(())
+}
 
 /// Writes the events of a sample's history at the beginning of the array, in draw order, as many as it holds, and into
 /// `info` how many there are in all, and what the sample begins and ends with. The array is unchanged behind the
@@ -29,25 +53,4 @@ pub extern "C" fn trirast_proved_list_history(
     ensures report { IsReport (history_checks json.now request.now) (IsFirstOfText json.now) result error.new }
 {
     report(write_history(alloc, json, request, events, info), error)
-}
-
-/// Writes into `samples` how many samples of the picture triangle `triangle` of draw `draw` covers, how many it
-/// changes, and how many still show it in the end. Returns the status, and writes the error. If the status is not 0,
-/// `samples` is unchanged.
-#[unsafe(no_mangle)]
-pub extern "C" fn trirast_proved_list_triangle_samples(
-    alloc: Global,
-    json: &[u8],
-    draw: usize,
-    triangle: usize,
-    samples: &mut TriangleSamples,
-    error: &mut Error,
-) -> u32
-    ensures written { result ≡ 0 → HoldsCounts json.now (record { draw = draw; triangle = triangle }) samples.new }
-    ensures kept { result ≢ 0 → samples.new ≡ samples.old }
-    ensures report { IsReport (samples_checks json.now (record { draw = draw; triangle = triangle }))
-        (IsFirstOfText json.now) result error.new }
-{
-    let place = TrianglePlace { draw, triangle };
-    report(write_triangle_samples(alloc, json, place, samples), error)
 }

@@ -1,7 +1,7 @@
 //! A tile size that the caller gives.
 ghost use Rattle.std.specs.Prelude.{◌≡◌};
 ghost use Rattle.grid.specs.Pixels.{side_of as pixels_of};
-ghost use Rattle.model.specs.Checking.{check, done, IsJudged};
+ghost use Rattle.checks.specs.Checking.{check, done, IsJudged};
 ghost use Rattle.c_abi.specs.declared.status.Status.TheVariants as status;
 ghost use Rattle.trirast_c.specs.Library.{IsTileSize};
 

@@ -1,12 +1,12 @@
 -- What the program does with a draw list and a question.
 use Rattle.std.specs.Prelude.{◌≡◌, ◌↔◌, ℕ, ◌<◌, ◌≤◌, List, length, take, Option, Result, OnOk, IfErr, codes}
 use Rattle.std.specs.Io.KnownBytes.{Keeps, Appends}
-use Rattle.model.specs.Denotes.{Denotes}
+use Rattle.list_json.specs.Denotes.{Denotes}
 use Rattle.model.specs.Scene.{Scene}
 use Rattle.list_history.specs.declared.sample_counts.SampleCounts.{SampleCounts}
-use Rattle.program_input.specs.declared.fault.Fault.{Fault}
-use Rattle.program_input.specs.declared.fault.Fault.TheVariants.{List as BadList, Pool, InputFailed, InputTooLong, WriteFailed, OutOfMemory}
-use Rattle.program_input.specs.Input.{GivesAll, Gives, HasFault}
+use Rattle.engine.specs.declared.fault.Fault.{Fault}
+use Rattle.engine.specs.declared.fault.Fault.TheVariants.{List as BadList, Pool, InputFailed, InputTooLong, WriteFailed, OutOfMemory}
+use Rattle.engine.specs.Input.{GivesAll, Gives, HasFault}
 use Rattle.why.specs.declared.arguments.Asked.{Asked}
 use Rattle.why.specs.declared.arguments.AskedTriangle.{AskedTriangle}
 use Rattle.clap.specs.Words.{Text}

@@ -8,10 +8,11 @@ ghost use Rattle.why.specs.declared.program.Failure.TheVariants.{Run};
 use crate::arguments::{Question, read_arguments};
 use crate::counts::report_triangle;
 use crate::text::{ReportFault, report};
+use engine::{Fault, read_input};
 use list::read;
 use model::{DrawList, ReadFault};
 use picture_file::Counted;
-use program_input::{Fault, LineFault, fail_with, read_input, refuse_with};
+use program_input::{LineFault, fail_with, refuse_with};
 use std::alloc::Global;
 use std::io::{Read, Write};
 
@@ -37,8 +38,8 @@ impl From<Fault> for Failure {
 
 impl From<ReadFault> for Failure {
     ghost use Rattle.std.specs.Prelude.{◌≡◌};
-    ghost use Rattle.program_input.specs.declared.fault.Fault.{Fault as RunFault};
-    ghost use Rattle.program_input.specs.Faults.{IsOfList};
+    ghost use Rattle.engine.specs.declared.fault.Fault.{Fault as RunFault};
+    ghost use Rattle.engine.specs.Faults.{IsOfList};
 
     ghost from_gives = { λ fault failure. (whole : RunFault) × IsOfList fault whole × (failure ≡ Run whole) };
 

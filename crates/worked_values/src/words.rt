@@ -1,6 +1,6 @@
 //! The words of a line.
 use grid::{Cull, PixelBox, Point, Quad, SampleCount, TileSide, Tri};
-use model::{cull_named, depth_test_named};
+use list_json::{cull_named, depth_test_named};
 use shade::{BlendFactor, BlendOperation, Channel, DepthTest, Equation, Operands, Sample, Shaded};
 use std::str::SplitWhitespace;
 

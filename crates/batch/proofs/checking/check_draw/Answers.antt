@@ -1,7 +1,7 @@
 use Rattle.std.proofs.Common.{◌≡◌, subst, inr, ℕ, ℤ, ◌≤◌, List, Option, Result, length, arith}
 use Rattle.std.specs.Prelude.{⊤, take}
-use Rattle.model.specs.Checking.{IsJudged, Pass, reported_as}
-use Rattle.model.proofs.Checking.{passes_as, fails_as, fails_before}
+use Rattle.checks.specs.Checking.{IsJudged, Pass, reported_as}
+use Rattle.checks.proofs.Checking.{passes_as, fails_as, fails_before}
 use Rattle.batch.specs.declared.draw.BatchDraw.{BatchDraw}
 use Rattle.batch.specs.declared.fault.DrawFault.{DrawFault}
 use Rattle.batch.specs.declared.vertex.BatchVertex.{BatchVertex}

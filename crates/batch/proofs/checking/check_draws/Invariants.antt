@@ -1,6 +1,6 @@
 use Rattle.std.proofs.Common.{drop}
 use Rattle.batch.specs.declared.fault.BatchFault.{BatchFault}
-use Rattle.model.specs.Checking.{Pass, FirstIs}
+use Rattle.checks.specs.Checking.{Pass, FirstIs}
 use Rattle.batch.specs.OwnIndices.{indices_given}
 use Rattle.batch.specs.Checks.{draws_checks}
 use Rattle.batch.proofs.checking.check_draws.Given as goal

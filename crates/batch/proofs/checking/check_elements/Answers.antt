@@ -1,7 +1,7 @@
 use Rattle.std.proofs.Common.{rules, ℕ, ℤ, List, Result, Ok, length}
 use Rattle.std.specs.Prelude.{⊤}
-use Rattle.model.specs.Checking.{Checks, IsJudged, Pass, followed_by}
-use Rattle.model.proofs.Checking.{fails_before, fails_later}
+use Rattle.checks.specs.Checking.{Checks, IsJudged, Pass, followed_by}
+use Rattle.checks.proofs.Checking.{fails_before, fails_later}
 use Rattle.batch.specs.declared.fault.DrawFault.{DrawFault}
 use Rattle.batch.specs.declared.vertex.BatchVertex.{BatchVertex}
 use Rattle.batch.specs.Listed.{primitives_listed}

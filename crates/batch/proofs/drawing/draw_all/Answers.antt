@@ -1,6 +1,6 @@
 use Rattle.std.proofs.Common.{◌≡◌, ◌∙◌, ap, subst, ◌<◌, ◌≤◌, [], ◌∷◌, length, arith}
 use Rattle.std.proofs.lemmas.Result.{err_from_is_err_and}
-use Rattle.model.specs.Checking.{Pass, FirstIs}
+use Rattle.checks.specs.Checking.{Pass, FirstIs}
 use Rattle.canvas.specs.Drawing.{HaveEnds}
 use Rattle.batch.specs.Checks.{draws_checks}
 use Rattle.batch.specs.Ids.{drawn_as}

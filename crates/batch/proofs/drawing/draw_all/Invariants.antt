@@ -1,5 +1,5 @@
 use Rattle.std.proofs.Common.{◌≡◌, List, drop}
-use Rattle.model.specs.Checking.{Pass}
+use Rattle.checks.specs.Checking.{Pass}
 use Rattle.lanes.specs.declared.block_samples.BlockSamples.{BlockSamples}
 use Rattle.canvas.specs.Drawing.{HaveEnds}
 use Rattle.batch.specs.Ids.{drawn_as}

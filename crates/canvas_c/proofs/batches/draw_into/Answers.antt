@@ -1,8 +1,8 @@
 use Rattle.std.proofs.Common.{rules, inl, inr, refl, subst, ℕ, Option, length, FitsSigned, w32}
 use Rattle.std.proofs.lemmas.Int.{to_z-of_z}
 use Rattle.std.proofs.lemmas.Result.{err_from_is_err_and}
-use Rattle.model.specs.Checking.{Checks, done, check, Pass, FirstIs}
-use Rattle.model.proofs.Checking.{pass_both, fails_before, fails_later, only_allocation}
+use Rattle.checks.specs.Checking.{Checks, done, check, Pass, FirstIs}
+use Rattle.checks.proofs.Checking.{pass_both, fails_before, fails_later, only_allocation}
 use Rattle.canvas.specs.Drawing.{HaveEnds}
 use Rattle.batch.specs.Causes.{left_over}
 use Rattle.batch.specs.Ids.{drawn_as}

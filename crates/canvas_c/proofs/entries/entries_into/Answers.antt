@@ -2,8 +2,8 @@ use Rattle.std.proofs.Common.{rules, inl, inr, refl, ◌≡◌, ◌∙◌, ◌�
 use Rattle.std.proofs.lemmas.Result.{err_from_is_err_and}
 use Rattle.grid.specs.Samples.{count_of}
 use Rattle.readout.specs.Entries.{FitEntries}
-use Rattle.model.specs.Checking.{Checks, done, check, followed_by}
-use Rattle.model.proofs.Checking.{pass_both, fails_before, fails_later}
+use Rattle.checks.specs.Checking.{Checks, done, check, followed_by}
+use Rattle.checks.proofs.Checking.{pass_both, fails_before, fails_later}
 use Rattle.c_abi.specs.declared.status.Status.{Status}
 use Rattle.c_abi.specs.declared.status.Status.TheVariants.{BadSample, BadStride, BufferTooSmall}
 use Rattle.canvas_c.specs.Pieces.{HasRoom, entries_of, piece_checks}

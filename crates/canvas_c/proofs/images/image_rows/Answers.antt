@@ -1,7 +1,7 @@
 use Rattle.std.proofs.Common.{rules, length, inl, refl}
 use Rattle.std.proofs.lemmas.Result.{err_from_is_err_and}
-use Rattle.model.specs.Checking.{done, check}
-use Rattle.model.proofs.Checking.{fails_before, fails_later}
+use Rattle.checks.specs.Checking.{done, check}
+use Rattle.checks.proofs.Checking.{fails_before, fails_later}
 use Rattle.c_abi.specs.declared.status.Status.TheVariants.{BadFormat}
 use Rattle.canvas_c.specs.Pieces.{piece_checks, IsFormat}
 use Rattle.canvas_c.proofs.images.image_rows.Goals as goal

@@ -2,8 +2,8 @@ use Rattle.std.proofs.Common.{rules, ◌↔◌, IsOk, subst, ℕ, ◌*◌, lengt
 use Rattle.std.proofs.lemmas.Result.{err_from_is_err_and}
 use Rattle.readout.specs.Pixels.{pixel_bytes, IsLargeEnough}
 use Rattle.readout.specs.Loaded.{AreLoaded}
-use Rattle.model.specs.Checking.{done, check, followed_by}
-use Rattle.model.proofs.Checking.{fails_before}
+use Rattle.checks.specs.Checking.{done, check, followed_by}
+use Rattle.checks.proofs.Checking.{fails_before}
 use Rattle.c_abi.specs.declared.status.Status.TheVariants.{BufferTooSmall, BadFormat}
 use Rattle.canvas_c.specs.Pieces.{has_alpha, HasRoom, format_of, stride_of, piece_checks, IsFormat}
 use Rattle.canvas_c.proofs.Ended.{room_of, large_of, on_done, fitted_is}

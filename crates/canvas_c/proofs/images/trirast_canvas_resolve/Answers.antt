@@ -1,7 +1,7 @@
 use Rattle.std.proofs.Common.{◌↔◌, IsOk, ℕ, ◌*◌, length, inr}
 use Rattle.readout.specs.Pixels.{pixel_bytes, IsLargeEnough}
-use Rattle.model.specs.Checking.{done, check, followed_by}
-use Rattle.model.proofs.Checking.{fails_before}
+use Rattle.checks.specs.Checking.{done, check, followed_by}
+use Rattle.checks.proofs.Checking.{fails_before}
 use Rattle.c_abi.specs.declared.status.Status.TheVariants.{BufferTooSmall, BadFormat}
 use Rattle.canvas_c.specs.Pieces.{HasRoom, format_of, stride_of, piece_checks, image_checks, IsFormat}
 use Rattle.canvas_c.proofs.Ended.{room_of, large_of, done_if, on_done, status_is, fitted_is}

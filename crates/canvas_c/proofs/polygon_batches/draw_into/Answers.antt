@@ -3,8 +3,8 @@ use Rattle.std.proofs.Math.Seq.{take-append_seam}
 use Rattle.std.proofs.lemmas.Int.{to_z-of_z}
 use Rattle.std.proofs.lemmas.List.{length-take}
 use Rattle.std.proofs.lemmas.Result.{err_from_is_err_and}
-use Rattle.model.specs.Checking.{Checks, done, check}
-use Rattle.model.proofs.Checking.{pass_both, fails_before, fails_later}
+use Rattle.checks.specs.Checking.{Checks, done, check}
+use Rattle.checks.proofs.Checking.{pass_both, fails_before, fails_later}
 use Rattle.polygons.specs.declared.rule.Rule.{Rule}
 use Rattle.polygons.specs.declared.rule.Rule.TheVariants.{EvenOdd, NonZero}
 use Rattle.polygons.specs.Cells.{flags_by}

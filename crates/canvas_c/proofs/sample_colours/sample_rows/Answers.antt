@@ -1,7 +1,7 @@
 use Rattle.std.proofs.Common.{◌≡◌, inl, refl, ap, ℕ, ◌<◌, length, arith}
 use Rattle.grid.specs.Samples.{count_of, pattern_of}
-use Rattle.model.specs.Checking.{done, check, followed_by}
-use Rattle.model.proofs.Checking.{fails_before, fails_later}
+use Rattle.checks.specs.Checking.{done, check, followed_by}
+use Rattle.checks.proofs.Checking.{fails_before, fails_later}
 use Rattle.c_abi.specs.declared.status.Status.TheVariants.{BadFormat, BadSample}
 use Rattle.canvas_c.specs.Pieces.{piece_checks, IsFormat}
 use Rattle.canvas_c.proofs.sample_colours.sample_rows.Goals as goal

@@ -2,8 +2,8 @@ use Rattle.std.proofs.Common.{◌↔◌, inr, ℕ, ◌*◌, ◌<◌, length, IsO
 use Rattle.grid.specs.Samples.{count_of, pattern_of}
 use Rattle.readout.specs.Pixels.{pixel_bytes}
 use Rattle.readout.specs.Entries.{FitEntries}
-use Rattle.model.specs.Checking.{done, check, followed_by}
-use Rattle.model.proofs.Checking.{fails_before}
+use Rattle.checks.specs.Checking.{done, check, followed_by}
+use Rattle.checks.proofs.Checking.{fails_before}
 use Rattle.c_abi.specs.declared.status.Status.TheVariants.{BufferTooSmall, BadFormat, BadSample}
 use Rattle.canvas_c.specs.Pieces.{HasRoom, format_of, stride_of, piece_checks, IsFormat}
 use Rattle.canvas_c.specs.Samples.{colours_checks}

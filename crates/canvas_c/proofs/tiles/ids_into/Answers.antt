@@ -1,8 +1,8 @@
 use Rattle.std.proofs.Common.{refl, ℕ, ◌≤◌, length}
 use Rattle.std.proofs.lemmas.Result.{err_from_is_err_and}
 use Rattle.readout.specs.Tiles.{tile_entries, FitTile, IsTileMisfit}
-use Rattle.model.specs.Checking.{done, check}
-use Rattle.model.proofs.Checking.{fails_before}
+use Rattle.checks.specs.Checking.{done, check}
+use Rattle.checks.proofs.Checking.{fails_before}
 use Rattle.c_abi.specs.declared.status.Status.TheVariants.{BufferTooSmall, BadTile}
 use Rattle.canvas_c.specs.Pieces.{piece_checks}
 use Rattle.canvas_c.specs.Samples.{NamesTile, entries_in_tile}

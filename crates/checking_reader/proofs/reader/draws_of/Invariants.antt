@@ -1,5 +1,5 @@
 use Rattle.std.proofs.Common.{◌≡◌, ◌≤◌, map, sum_by}
-use Rattle.model.specs.Denotes.{IsDraw}
+use Rattle.list_json.specs.Denotes.{IsDraw}
 use Rattle.model.specs.Primitives.{count_of_triangles}
 use Rattle.model.specs.Listing.{draw_listing}
 use Rattle.checking_reader.proofs.Draws.{DrawsPassed}

@@ -1,9 +1,9 @@
 use Rattle.std.proofs.Common.{inl, inr, ap, refl, ◌∙◌}
 use Rattle.serde_json.specs.View.{view}
 use Rattle.model.specs.declared.fault.ReadFault.{ReadFault}
-use Rattle.model.specs.Json.{json_of}
-use Rattle.model.specs.Checks.{all_checks}
-use Rattle.model.proofs.Bytes.{json_value, no_json}
+use Rattle.list_json.specs.Json.{json_of}
+use Rattle.list_json.specs.Checks.{all_checks}
+use Rattle.list_json.proofs.Bytes.{json_value, no_json}
 use Rattle.checking_reader.proofs.Finish.{read_ok, read_only, read_first, is_first, not_denoted}
 use Rattle.checking_reader.proofs.reader.read_by_value.Goals as goal
 

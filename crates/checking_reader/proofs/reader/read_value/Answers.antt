@@ -3,8 +3,8 @@ use Rattle.std.proofs.lemmas.Result.{err_from_is_err_and}
 use Rattle.serde_json.specs.View.{view, items_view}
 use Rattle.model.specs.Listing.{draw_listing}
 use Rattle.checking_reader.proofs.Headed.{headed}
-use Rattle.model.proofs.Accepted.{listing_within}
-use Rattle.model.proofs.Passes.{value_passes}
+use Rattle.list_json.proofs.Accepted.{listing_within}
+use Rattle.list_json.proofs.Passes.{value_passes}
 use Rattle.checking_reader.proofs.Reached.{reaches}
 use Rattle.checking_reader.proofs.reader.read_value.Goals as goal
 

@@ -1,5 +1,5 @@
-use Rattle.model.proofs.Denoted.{denoted_passes}
-use Rattle.model.proofs.OneList.{denotes-unique}
+use Rattle.list_json.proofs.Denoted.{denoted_passes}
+use Rattle.list_json.proofs.OneList.{denotes-unique}
 use Rattle.list.proofs.reader.read.Goals as goal
 
 pub returns-in-Some-clause-only : goal.returns-in-Some-clause-only

@@ -1,7 +1,7 @@
 use Rattle.std.proofs.Common.{◌≡◌, ◌≤◌, ◌+◌, ◌-◌, ◌/◌, ◌∙◌, sym, subst, inl, inr, refl, length, rules, arith}
 use Rattle.grid.specs.Pixels.{side_of}
 use Rattle.grid.specs.declared.pixels.TileSide.{TileSide}
-use Rattle.model.specs.Denotes.{Denotes}
+use Rattle.list_json.specs.Denotes.{Denotes}
 use Rattle.model.specs.Scene.{Scene}
 use Rattle.trirast_c.specs.Library.{HasTileRows, rows_length}
 use Rattle.trirast_c.proofs.picture_rows.draw_rows_into.Goals as goal

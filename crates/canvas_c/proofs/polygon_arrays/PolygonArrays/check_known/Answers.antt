@@ -1,5 +1,5 @@
 use Rattle.std.proofs.Common.{inr, ◌≤◌, arith}
-use Rattle.model.proofs.Checking.{passes_as, fails_as}
+use Rattle.checks.proofs.Checking.{passes_as, fails_as}
 use Rattle.batch.specs.Causes.{number_of}
 use Rattle.batch.specs.States.{state_checks}
 use Rattle.canvas_c.proofs.polygon_arrays.PolygonArrays.check_known.Goals as goal

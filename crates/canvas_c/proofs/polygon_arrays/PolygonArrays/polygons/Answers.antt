@@ -1,6 +1,6 @@
 use Rattle.std.proofs.Common.{inl, refl}
-use Rattle.model.specs.Checking.{FirstIs}
-use Rattle.model.proofs.Checking.{only_allocation}
+use Rattle.checks.specs.Checking.{FirstIs}
+use Rattle.checks.proofs.Checking.{only_allocation}
 use Rattle.canvas_c.specs.PolygonChecks.{known_checks}
 use Rattle.canvas_c.proofs.polygon_arrays.PolygonArrays.polygons.Goals as goal
 

@@ -1,0 +1,12 @@
+pub mod Convex
+pub mod Corners
+pub mod Counts
+pub mod Passes
+pub mod Bytes
+pub mod Accepted
+pub mod OneValue
+pub mod OneState
+pub mod OneDraw
+pub mod OneList
+pub mod Denoted
+pub mod UnknownWord

@@ -1,0 +1,132 @@
+-- The definitions of this crate, each file behind those that it uses; `python3 -m tools.definitions` writes these lines.
+--
+-- Json.antt
+--   json_of: The JSON value (RFC 8259) that serde_json reads from the bytes: `None` if they are no UTF-8 or no JSON text.
+--   whole: The integer that the value is: signed or unsigned, of 64 bits.
+--   text: The string that the value is, and `None` for another value.
+--   truth: The boolean that the value is, and `None` for another value.
+--   array_of: The elements of the array that the value is, and `None` for another value.
+--   length_of: How many elements the array has that the value is, and `None` for another value.
+--   element: Element k of an array, and `None` past its end and of another value.
+--   elements: The elements of an array, and none of another value.
+--   count: How many elements an array has, and 0 for another value.
+--   is_among: Whether one of the names is this one.
+--   has_other_member: Whether one of the members has a key that is not among the names.
+--   has_other_key: Whether the object has a key that is not among the names.
+--
+-- Keys.antt
+--   top_keys: The keys of the top object.
+--   draw_keys: The keys of a draw.
+--   output_word: The word for what a picture shows.
+--   output_words: The words for all that a picture can show.
+--   cull_word: The word for each culling.
+--   cull_words: The words for all cullings.
+--   depth_test_word: The word for each depth test.
+--   depth_test_words: The words for all depth tests.
+--   NamesBlend: The word names this blending: in place of what is stored, or over it.
+--   blend_words: The words for both blendings.
+--
+-- Checks.antt
+--   KindChecks: Checks of a draw list, each with the kind of error that it reports.
+--   is_from_to: Whether z lies from low to high, both included.
+--   number_checks: The value is an integer, else `WrongKind` is reported, and it is in its range, else `outside` is.
+--   coordinate_checks: A coordinate of the guard band in 1/256 pixel, else `OutOfRange` is reported.
+--   depth_checks: A depth from 0 to 65535, else `OutOfRange` is reported.
+--   channel_checks: A colour channel or an alpha from 0 to 255, else `OutOfRange` is reported.
+--   size_checks: The width or height of a picture from 1 to 4096 pixels, else `OutOfRange` is reported.
+--   is_sample_count: Whether a pixel may have z samples: 1 or 4.
+--   sample_count_checks: The samples of a pixel, 1 or 4, else `OutOfRange` is reported.
+--   sample_mask_checks: A sample mask from 0 to 15, else `OutOfRange` is reported.
+--   scissor_side_checks: A side of a scissor from 0 to 4096 pixels, else `OutOfRange` is reported.
+--   vertex_index_checks: The index of one of n vertices, else `BadIndex` is reported.
+--   word_checks: A string, else `WrongKind` is reported, and one of the words, else `OutOfRange` is.
+--   truth_checks: A boolean, else `WrongKind` is reported.
+--   where_there: The checks of a key that may be absent: none if it is.
+--   is_absent: Whether the value has no key of this name.
+--   has_length: Whether the value is an array of exactly n elements.
+--   length_check: An array of exactly n elements, else `WrongKind` is reported.
+--   array_checks: An array, and of at most `most` elements, else `TooMany` is reported.
+--   each: The checks of each element in turn.
+--   rgba_checks: The red, green, blue and alpha of a vertex, which are its elements 3 to 6.
+--   vertex_checks: A vertex: [x, y, z, red, green, blue, alpha].
+--   triangle_checks: A triangle: [a, b, c], the indices of three of n vertices.
+--   position_written: The position of a vertex as it is written, in 1/256 pixel.
+--   positions_written: The positions of vertices as they are written, in their order.
+--   corner_written: The position that an index names; the origin past the end.
+--   each_turn: Whether all four turns of the quad abcd pass the test.
+--   is_strictly_convex: Whether the quad abcd is strictly convex.
+--   quad_checks_at: A quad: [a, b, c, d], the indices of four of n vertices, else `NotConvex` is reported if it is not strictly convex.
+--   quad_checks_over: A quad over vertices that were read.
+--   strip_index_checks: An index in a strip over n vertices.
+--   colour_checks: A clear colour: [red, green, blue], each from 0 to 255.
+--   write_mask_checks: A write mask: [red, green, blue], each a boolean.
+--   scissor_checks: A scissor: [left, top, right, bottom], in pixels.
+--   merge_checks: How a draw's fragments are merged: the depth test, depth writes, the blending and the write mask.
+--   state_value_checks: The state of a draw: culling, how its fragments are merged, the sample mask and the scissor.
+--   vertices_checks: The vertices of a draw: an array of at most 65536, and each of them.
+--   sum_check: A draw's triangles and the `earlier` ones of the draws before are at most 65536, else `TooMany` is reported.
+--   triangles_checks: The triangle list of a draw of n vertices, before which the draws have `earlier` triangles.
+--   strip_checks: The triangle strip of a draw of n vertices, before which the draws have `earlier` triangles.
+--   quads_checks: The quads of a draw of n vertices at these positions, before which the draws have `earlier` triangles.
+--   primitive_checks: The primitives of a draw of n vertices at these positions: the one of the three lists that is there.
+--   part_checks: The vertices of a draw and its primitives over them, before which the draws have `earlier` triangles.
+--   triangles_given: How many triangles the values of `triangles`, `strip` and `quads` have, of which one is there.
+--   triangles_counted: How many triangles a draw has, by its values.
+--   is_none_there: Whether none of the three lists of primitives is there.
+--   are_two_there: Whether more than one of the three lists of primitives is there.
+--   has_no_list: Whether a draw has no list of primitives.
+--   has_two_lists: Whether a draw has more than one list of primitives.
+--   draw_opening_checks: The checks of a draw that come before its vertices and primitives: its keys, its lists and its state.
+--   draw_value_checks: The checks of a draw before which the draws have `earlier` triangles.
+--   checks_before_vertices: The checks of a draw that come before those of its single vertices.
+--   clear_checks: The keys of the top object that may be absent: samples, clear colour, clear depth and output.
+--   top_checks: The checks of the top object, without those of the draws themselves.
+--   numbered_draw_checks: The checks of the draws from this number on, before which the draws have `earlier` triangles.
+--   value_checks: All checks of a JSON value: those of the top object, and then those of the draws in their order.
+--   all_checks: All checks of an input, in their order: first whether its bytes are JSON.
+--   is_before: Whether an error is in no draw, or in a draw before draw n.
+--   PassesBefore: No check fails that reports an error in no draw or in a draw before draw n.
+--   IsDrawReached: Draw n is one of these, and no check of a draw before it fails.
+--   Reaches: The draw that an error names was reached, and no check of the top object fails.
+--
+-- Denotes.antt
+--   IsIntegerWithin: The value is this integer, which lies from low to high.
+--   IsCoordinate: The value is a coordinate of the guard band, in 1/256 pixel.
+--   IsDepthNumber: The value is a depth, from 0 to 65535.
+--   IsChannel: The value is a colour channel or an alpha, from 0 to 255.
+--   IsIndex: The value is the index of one of n vertices.
+--   IsSize: The value is a picture's width or height, from 1 to 4096 pixels.
+--   IsTruth: The value is this boolean.
+--   OrDefault: What the value of a key denotes, and the default if the key is absent.
+--   Each: Each element is what the value at its index denotes, and there are as many elements as values.
+--   IsArrayOf: The value is an array of at most `most` elements, each of which denotes its part.
+--   IsVertex: The value is this vertex: [x, y, z, red, green, blue, alpha], with x and y in 1/256 pixel.
+--   IsTriangle: The value is this triangle: [a, b, c], the indices of three of n vertices.
+--   IsStripIndex: The value is the index of one of n vertices in a strip.
+--   IsQuad: The value is this quad: [a, b, c, d], the indices of four of the vertices, which are the corners of a strictly convex quad.
+--   IsPrimitives: The values of a draw's keys `triangles`, `strip` and `quads` are these primitives, and one of the three is there.
+--   IsCull: The value is the word for this culling.
+--   IsDepthTest: The value is the word for this depth test.
+--   IsBlend: The value is the word for this blending.
+--   IsWriteMask: The value is this write mask: [red, green, blue], each a boolean that says whether the channel is written.
+--   IsSampleMaskNumber: The value is this sample mask, a number of four bits: bit s is that of sample s.
+--   IsScissorSide: The value is a side of a scissor, in pixels.
+--   IsScissor: The value is this scissor: [left, top, right, bottom], in pixels.
+--   IsMerge: The value says how its fragments are merged with what is stored.
+--   IsState: The state of the draw that the value is, on a picture of these pixels.
+--   IsDraw: The value is this draw, on a picture of these pixels.
+--   IsOutput: The value is the word for what the picture shows.
+--   IsSampleCount: The value is this number of samples of a pixel: 1 or 4.
+--   IsClearColour: The value is this clear colour: [red, green, blue], each from 0 to 255.
+--   IsListing: The value is this draw list, draw by draw.
+--   IsDrawList: The value is the draw list of this scene.
+--   Denotes: The bytes are at most 64 MiB, and serde_json reads them as a value that denotes this draw list.
+--
+-- Beginning.antt
+--   IsBeginning: What a value says of the picture: the samples of a pixel, what each sample begins with, and what the picture shows.
+
+pub mod Json
+pub mod Keys
+pub mod Checks
+pub mod Denotes
+pub mod Beginning
