@@ -30,8 +30,8 @@ function checkState(name, state) {
     throw new TypeError(`${name}: an object, and not ${state === null ? 'null' : typeof state}`);
   }
   for (const [key, value] of Object.entries(state)) {
-    if (key in STATE) integer(`${name}.${key}`, value, STATE[key]);
-    else if (key in ARRAYS) integers(`${name}.${key}`, value, ...ARRAYS[key]);
+    if (Object.hasOwn(STATE, key)) integer(`${name}.${key}`, value, STATE[key]);
+    else if (Object.hasOwn(ARRAYS, key)) integers(`${name}.${key}`, value, ...ARRAYS[key]);
     else throw new RangeError(`${name}.${key}: no such member`);
   }
 }
@@ -52,8 +52,9 @@ function checkDraw(draw, k) {
   integers(`draws[${k}].indices`, indices, UINT32);
 }
 
-/** The members of a draw in C. */
-function membersOf({ state: { scissor, blend, ...numbers }, vertices, indices }) {
+/** The members of a draw in C. Of its state these are the own ones, which were checked. */
+function membersOf({ state, vertices, indices }) {
+  const { scissor, blend, ...numbers } = { ...state };
   const [scissor_left, scissor_top, scissor_right, scissor_bottom] = scissor ?? [0, 0, 0, 0];
   const members = {
     ...numbers, scissor_enable: Number(Boolean(scissor)), scissor_left, scissor_top, scissor_right, scissor_bottom,
@@ -90,11 +91,12 @@ export class Canvas {
     integer('height', height, [1, MAX_SIDE]);
     integer('samples', samples, [1, UINT32[1]]);
     Object.assign(this, { core, width, height, samples });
-    this.address = CANVAS.put(core, { width, height, samples });
-    const bytes = Number(core.calls.trirast_canvas_size(BigInt(this.address)));
+    const bytes = Number(core.within(() => core.calls.trirast_canvas_size(
+      BigInt(CANVAS.put(core, { width, height, samples })),
+    )));
     if (bytes === 0) throw new RangeError(`there is no canvas of ${width} by ${height} with ${samples} samples`);
     const memory = core.take(bytes);
-    CANVAS.set(core, this.address, {
+    this.address = CANVAS.put(core, {
       width, height, samples, end: Math.ceil(height / TILE_SIZE), initialized: 1, memory,
       plane_count: bytes / PLANE_BYTES,
     });

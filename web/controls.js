@@ -27,8 +27,14 @@ function choice(name, title, values, call) {
 /** A field for an integer. Returns it, and a function that shows a value. */
 function field(label, call) {
   const input = make('input', { type: 'number', step: 1, ariaLabel: label });
-  input.addEventListener('change', () => call(Number(input.value)));
-  return [input, (value) => { if (Number(input.value) !== value || input.value === '') input.value = value; }];
+  let shown = '';
+  const show = (value) => {
+    shown = value;
+    if (Number(input.value) !== value || input.value === '') input.value = value;
+  };
+  // A field that was emptied, or has a text that is no number, gets its number back.
+  input.addEventListener('change', () => (input.value === '' ? show(shown) : call(Number(input.value))));
+  return [input, show];
 }
 
 /** The switches above the grid. */
@@ -62,6 +68,8 @@ function addVertices(state) {
 function addScissor(state) {
   const shows = EDGES.map((name, k) => {
     const [input, show] = field(`${name} edge of the scissor`, (value) => {
+      // A link may have taken it away while somebody typed.
+      if (!state.figure.scissor) return;
       const scissor = [...state.figure.scissor];
       scissor[k] = Math.min(Math.max(Math.round(value) || 0, 0), [COLUMNS, ROWS][k % 2]);
       state.change({ scissor });

@@ -33,13 +33,23 @@ export class Core {
     this.top = Number(calls.__heap_base.value);
   }
 
-  /** The address of this many bytes. The module never grows its memory itself, so that is done here. */
+  /** The address of this many bytes. Throws an Error if there is no memory for them. */
   take(bytes) {
     const address = Math.ceil(this.top / ALIGNMENT) * ALIGNMENT;
     const lacking = Math.ceil((address + bytes - this.memory.buffer.byteLength) / PAGE_BYTES);
-    if (lacking > 0) this.memory.grow(BigInt(lacking));
+    if (lacking > 0) this.#grow(lacking);
     this.top = address + bytes;
     return address;
+  }
+
+  /** Adds pages to the memory. The module never does so itself. */
+  #grow(pages) {
+    try {
+      this.memory.grow(BigInt(pages));
+    } catch (error) {
+      // The browser's RangeError would be taken for that of a number.
+      throw error instanceof RangeError ? new Error(`no memory for ${PAGE_BYTES * pages} more bytes`) : error;
+    }
   }
 
   /** Does some work, and gives back all memory that it took. */
@@ -76,6 +86,9 @@ export class EdgeFunctions {
   /** Sets the triangle of the next calls: three corners, of two integers each. */
   of(corners) {
     integers('corners', corners?.flat?.(), INT32, 6);
+    if (corners.length !== 3 || corners.some((corner) => corner.length !== 2)) {
+      throw new RangeError('corners: three pairs of integers');
+    }
     this.core.view(Int32Array, this.corners, 6).set(corners.flat());
     return this;
   }

@@ -4,6 +4,9 @@ const SVG = 'http://www.w3.org/2000/svg';
 
 export const find = (id) => document.getElementById(id);
 
+/** Whether a key is pressed with one that makes it the browser's: Alt and an arrow key go back, for example. */
+export const isForBrowser = ({ altKey, ctrlKey, metaKey }) => altKey || ctrlKey || metaKey;
+
 /** A new element of HTML with these properties and children. */
 export function make(name, properties = {}, ...children) {
   const element = Object.assign(document.createElement(name), properties);

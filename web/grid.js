@@ -1,6 +1,6 @@
 // The magnified pixels with their samples, the triangles over them, and the handles.
 
-import { draw, update } from './elements.js';
+import { draw, isForBrowser, update } from './elements.js';
 import { drawEdges, drawShared } from './edges.js';
 import { COLUMNS, NAMES, PATTERNS, RADII, ROWS, UNIT, positionName, snapped } from './figure.js';
 import { Handle, positionIn } from './handle.js';
@@ -117,7 +117,7 @@ export class Grid {
       ArrowLeft: [column - 1, row, sample], ArrowRight: [column + 1, row, sample], ArrowUp: [column, row - 1, sample],
       ArrowDown: [column, row + 1, sample], ' ': [column, row, (sample + 1) % samples],
     }[event.key];
-    if (!to || event.altKey || event.ctrlKey || event.metaKey || event.target !== this.svg) return;
+    if (!to || isForBrowser(event) || event.target !== this.svg) return;
     event.preventDefault();
     if (to[0] >= 0 && to[0] < COLUMNS && to[1] >= 0 && to[1] < ROWS) this.change({ chosen: to });
   }

@@ -1,6 +1,6 @@
 // A handle in the grid: a point that mouse, finger or arrow keys move.
 
-import { draw, update } from './elements.js';
+import { draw, isForBrowser, update } from './elements.js';
 import { UNIT } from './figure.js';
 
 const WAYS = { ArrowLeft: [-1, 0], ArrowRight: [1, 0], ArrowUp: [0, -1], ArrowDown: [0, 1] };
@@ -15,7 +15,7 @@ export function positionIn(svg, event) {
  * which it is moved. */
 export class Handle {
   constructor(svg, { name, kind, step, onMove }) {
-    Object.assign(this, { svg, step, onMove, name, position: [0, 0], grip: null });
+    Object.assign(this, { svg, step, onMove, name, position: [0, 0], grip: null, pointer: null });
     this.group = draw(svg, 'g', { class: `handle ${kind}`, tabindex: 0, role: 'button', 'data-name': name });
     draw(this.group, 'circle', { class: 'area', r: 0.8 });
     if (kind === 'vertex') {
@@ -38,22 +38,27 @@ export class Handle {
     // A finger here drags and does not scroll. Browsers do not take touch-action from a part of an SVG picture.
     this.group.addEventListener('touchstart', (event) => event.preventDefault(), { passive: false });
     this.group.addEventListener('pointerdown', (event) => {
+      if (event.button !== 0) return;
       this.group.setPointerCapture(event.pointerId);
+      this.pointer = event.pointerId;
       const [x, y] = positionIn(this.svg, event);
       this.grip = [x - this.position[0], y - this.position[1]];
     });
     this.group.addEventListener('pointermove', (event) => {
-      if (!this.grip) return;
+      // Another finger has no grip, and a link may have hidden the handle meanwhile.
+      if (!this.grip || event.pointerId !== this.pointer || this.group.getClientRects().length === 0) return;
       const [x, y] = positionIn(this.svg, event);
       this.onMove([x - this.grip[0], y - this.grip[1]]);
     });
-    for (const end of ['pointerup', 'pointercancel']) this.group.addEventListener(end, () => { this.grip = null; });
+    for (const end of ['pointerup', 'pointercancel']) {
+      this.group.addEventListener(end, (event) => { if (event.pointerId === this.pointer) this.grip = null; });
+    }
     this.group.addEventListener('keydown', (event) => this.#key(event));
   }
 
   #key(event) {
     const way = WAYS[event.key];
-    if (!way || event.altKey || event.ctrlKey || event.metaKey) return;
+    if (!way || isForBrowser(event)) return;
     const step = event.shiftKey ? UNIT : this.step;
     this.onMove(this.position.map((value, axis) => value + step * way[axis]));
     event.preventDefault();

@@ -41,16 +41,17 @@ class Page {
 
   /** The text of a link to what is shown. */
   text() {
-    return textOf(this.figure) + (this.tab === TABS[0] ? '' : `&tab=${this.tab}&example=${this.example}`);
+    // Until the lists are there, the example is any text that a link had.
+    const example = encodeURIComponent(this.example);
+    return textOf(this.figure) + (this.tab === TABS[0] ? '' : `&tab=${this.tab}&example=${example}`);
   }
 
   /** Shows what a link says behind its address. */
   read(hash) {
     const text = hash.slice(1);
     const given = new URLSearchParams(text);
-    this.figure = figureOf(text);
     this.example = given.get('example') ?? '';
-    this.show();
+    this.#take(figureOf(text));
     this.open(TABS.includes(given.get('tab')) ? given.get('tab') : TABS[0]);
   }
 
@@ -64,9 +65,22 @@ class Page {
 
   /** Changes the figure. */
   change(changes) {
-    this.figure = figureOf(textOf({ ...this.figure, ...changes }));
-    this.show();
+    this.#take(figureOf(textOf({ ...this.figure, ...changes })));
     this.#writeLinkSoon();
+  }
+
+  /** Shows another figure. If that fails, the one that is shown stays, with its link and its draw list. */
+  #take(figure) {
+    const before = this.figure;
+    this.figure = figure;
+    try {
+      this.show();
+    } catch (error) {
+      // Of the first figure the page says that it cannot start.
+      if (!this.grid.figure) throw error;
+      this.figure = before;
+      this.#notice(`The figure stays, since ${error.message}.`);
+    }
   }
 
   /** Shows the figure. */
@@ -77,10 +91,13 @@ class Page {
     showReadout(this.figure, coverage);
     this.showControls(this.figure);
     const { error } = coverage;
-    find('refused').hidden = !error;
-    if (error) {
-      find('refused').textContent = `Nothing is drawn, since ${errorLine(error)}. A quad has to be strictly convex.`;
-    }
+    this.#notice(error ? `Nothing is drawn, since ${errorLine(error)}. A quad has to be strictly convex.` : '');
+  }
+
+  /** Says something below the grid, or nothing. */
+  #notice(text) {
+    find('refused').hidden = !text;
+    find('refused').textContent = text;
   }
 
   #writeLinkSoon() {

@@ -1,6 +1,6 @@
 // The two tabs. One is shown, and the arrow keys change between them.
 
-import { find } from './elements.js';
+import { find, isForBrowser } from './elements.js';
 
 export const TABS = ['explorer', 'examples'];
 
@@ -20,7 +20,7 @@ export function onTab(open) {
     const tab = find(`${name}-tab`);
     tab.addEventListener('click', () => open(name));
     tab.addEventListener('keydown', (event) => {
-      if (event.key !== 'ArrowLeft' && event.key !== 'ArrowRight') return;
+      if ((event.key !== 'ArrowLeft' && event.key !== 'ArrowRight') || isForBrowser(event)) return;
       const other = TABS[1 - k];
       open(other);
       find(`${other}-tab`).focus();

@@ -12,6 +12,7 @@ A refused list gives the program's line on standard error and status 1.
 from __future__ import annotations
 
 import json
+import math
 import sys
 from dataclasses import dataclass
 from typing import Any, Callable, Container, Sequence
@@ -151,19 +152,26 @@ class Scene:
 
 
 def parse(data: bytes) -> Any:
-    """The JSON value of the bytes. A number is an int only if it is an integer of 64 bits."""
+    """The JSON value of the bytes. A number is an int only if it is an integer of 64 bits. One beyond the floats of 64
+    bits is refused."""
+
+    def real(text: str) -> float:
+        number = float(text)
+        if math.isinf(number):
+            raise ValueError("a number that no float has")
+        return number
 
     def whole(text: str) -> float:
         if text == "-0" or len(text) > 20:
-            return float(text)
+            return real(text)
         number = int(text)
-        return number if -(2**63) <= number < 2**64 else float(text)
+        return number if -(2**63) <= number < 2**64 else real(text)
 
     def refuse(_constant: str) -> None:
         raise ValueError("no JSON number")
 
     try:
-        return json.loads(data.decode("utf-8"), parse_int=whole, parse_constant=refuse)
+        return json.loads(data.decode("utf-8"), parse_float=real, parse_int=whole, parse_constant=refuse)
     except (ValueError, RecursionError):
         raise ListFault(NOT_JSON) from None
 

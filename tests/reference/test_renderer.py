@@ -430,6 +430,9 @@ class Refusals(unittest.TestCase):
         self.assertEqual(error_of({"width": 1, "height": 1}), "3 MissingKey")
         self.assertEqual(error_of(dict(empty, fog=1)), "2 UnknownKey")
         self.assertEqual(error_of('{"width":1.0,"height":1,"draws":[]}'), "4 WrongKind")
+        # As serde_json reads them: a number is no text of JSON if no float of 64 bits is as large.
+        for number, error in (("1e308", "4 WrongKind"), ("-1e309", "1 NotJson"), ("9" * 309, "1 NotJson")):
+            self.assertEqual(error_of(f'{{"width":{number},"height":1,"draws":[]}}'), error)
         for wrong in ({"width": 0}, {"width": 4097}, {"samples": 2}):
             self.assertEqual(error_of(dict(empty, **wrong)), "5 OutOfRange")
         self.assertEqual(error_of(dict(empty, draws=[draw([], [])] * 1024)), None)

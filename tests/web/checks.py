@@ -4,15 +4,16 @@ views, old browsers."""
 from __future__ import annotations
 
 import base64
+import contextlib
 import json
 import os
 import re
 import time
-from typing import Any
+from typing import Any, Iterator
 
 from tools import picture_file, places
 from tests.cases import must
-from tests.web.explorer import FOLDER, HEIGHT, SECONDS, WIDTH, Explorer
+from tests.web.explorer import ALT, FOLDER, HEIGHT, SECONDS, WIDTH, Explorer
 from tests.web.figure import NAMES, figure_in, run_program
 from tests.web.positions import check_shown
 
@@ -28,6 +29,37 @@ ODD_LINKS = (
     "A=1,2", "A=x,y&samples=3&cull=all&scissor=1,2,3&at=99,99,99", "A=99999999,-99999999", "%%%", "a&&=&=,",
     "tab=examples&example=toString",
 )
+CUT_LINK = "A=700,600&B=2500,300&C=200,2600&D=2700,2900&scissor=9,3,13,9&at=5,6,0"
+UNCUT_LINK = CUT_LINK.replace("&scissor=9,3,13,9", "")
+UNREADABLE = ("--12", "e", "9" * 400)
+COPY_TWICE = """(async () => {
+  const button = document.getElementById('link'), before = button.textContent;
+  const soon = (time) => new Promise((done) => { setTimeout(done, time); });
+  button.click();
+  while (button.textContent === before) await soon(10);
+  button.click();
+  await soon(4000);
+  return [before, button.textContent];
+})()"""
+# Lists arrive when a test lets them.
+HELD_LISTS = """globalThis.held = [];
+const whole = fetch;
+globalThis.fetch = async (url) => {
+  if (String(url).startsWith('examples')) await new Promise((go) => { held.push(go); });
+  return whole(url);
+};"""
+NO_LISTS = """const whole = fetch;
+const isOfLists = (url) => String(url).startsWith('examples');
+globalThis.fetch = async (url) => (isOfLists(url) ? new Response('{}', { status: 404 }) : whole(url));"""
+# From now on all that the core takes needs more memory, and there is none.
+NO_MEMORY = """page.core.top = page.core.memory.buffer.byteLength,
+page.core.memory.grow = () => { throw new RangeError('no more'); }, 0"""
+LARGE_EXAMPLE = """(() => {
+  const canvas = document.getElementById('example');
+  const bytes = canvas.getContext('2d').getImageData(0, 0, canvas.width, canvas.height).data;
+  const texts = ['example-name', 'example-size'].map((id) => document.getElementById(id).textContent);
+  return [...texts, bytes.reduce((sum, byte) => sum + byte, 0)];
+})()"""
 # A list is drawn anew here, by the page's own modules, so that all of a depth's bits are seen.
 DRAW = """(async () => {
   const { pixelsOf } = await import('./draw_list.js');
@@ -80,6 +112,8 @@ def check_links(explorer: Explorer, address: str) -> str:
     explorer.page.run("document.getElementById('examples-tab').focus()")
     explorer.key("ArrowLeft")
     must(explorer.page.run("!document.getElementById('explorer').hidden"), "an arrow key does not change the tab")
+    explorer.key("ArrowRight", ALT)
+    must(explorer.page.run("!document.getElementById('explorer').hidden"), "the browser's key changes the tab")
     wait(explorer, "location.hash.length > 1 && !location.hash.includes('tab=')")
     return "a whole link, half ones, nonsense, and the tabs"
 
@@ -101,8 +135,8 @@ def wait_for_cards(explorer: Explorer) -> None:
     wait(explorer, f"page.examples.chosen && {there}")
 
 
-def set_field(explorer: Explorer, label: str, value: int) -> None:
-    """Types a number into a field, and leaves it."""
+def set_field(explorer: Explorer, label: str, value: object) -> None:
+    """Types something into a field, and leaves it."""
     field = f"[...document.querySelectorAll('input')].find((e) => e.ariaLabel === {json.dumps(label)})"
     explorer.page.run(f"{field}.focus(), {field}.select()")
     explorer.page.call("Input.insertText", text=str(value))
@@ -134,6 +168,106 @@ def check_controls(explorer: Explorer, address: str) -> str:
         explorer.page.run(f"{shown}.value = {json.dumps(name)}, {shown}.dispatchEvent(new Event('change'))")
         check_shown(explorer)
     return f"3 fields, {len(switches)} switches, {len(figures)} figures"
+
+
+def check_unreadable_fields(explorer: Explorer, address: str) -> str:
+    """A field with a text that is no number gets its number back, and no vertex moves."""
+    explorer.load(address, LINK)
+    for text in UNREADABLE:
+        set_field(explorer, "x of A", text)
+        must(explorer.page.run("page.text()") == LINK, f"{text[:20]} made {explorer.page.run('page.text()')}")
+    return f"{len(UNREADABLE)} texts"
+
+
+def check_copies(explorer: Explorer, address: str) -> str:
+    """A button that is pressed again while it says how a copy went has its own words in the end."""
+    explorer.load(address)
+    before, after = explorer.page.run(COPY_TWICE)
+    must(after == before, f"{before} became {after}")
+    return str(before)
+
+
+def check_links_between(explorer: Explorer, address: str) -> str:
+    """A link that comes while somebody drags or types takes away what is dragged, or the field."""
+    explorer.load(address, CUT_LINK)
+    right_edge = "[...document.querySelectorAll('#scissor input')][2]"
+    explorer.page.run(f"{right_edge}.focus(), {right_edge}.select()")
+    explorer.page.call("Input.insertText", text="7")
+    explorer.go(UNCUT_LINK)
+    explorer.page.run("document.activeElement.blur()")
+    for link, handle, next_link in (
+        (CUT_LINK, "upper left", UNCUT_LINK), (UNCUT_LINK, "A", f"{UNCUT_LINK}&tab=examples&example=seam")
+    ):
+        explorer.load(address, link)
+        x, y = explorer.handle(handle)["at"]
+        explorer.page.mouse("mouseMoved", x, y)
+        explorer.page.mouse("mousePressed", x, y, button="left", buttons=1, clickCount=1)
+        explorer.go(next_link)
+        explorer.page.mouse("mouseMoved", x + 60, y + 60, button="left", buttons=1)
+        explorer.page.mouse("mouseReleased", x + 60, y + 60, button="left", clickCount=1)
+        explorer.must_be_silent()
+        must(explorer.page.run("page.text()").startswith(UNCUT_LINK), f"dragged to {explorer.page.run('page.text()')}")
+    return "a field and two handles"
+
+
+def check_pointers(explorer: Explorer, address: str) -> str:
+    """Only the left button drags, and only the last finger on a handle."""
+    explorer.load(address, UNCUT_LINK)
+    x, y = explorer.handle("A")["at"]
+    explorer.page.mouse("mouseMoved", x, y)
+    explorer.page.mouse("mousePressed", x, y, button="right", buttons=2, clickCount=1)
+    explorer.page.mouse("mouseMoved", x + 30, y + 30, button="right", buttons=2)
+    explorer.page.mouse("mouseReleased", x + 30, y + 30, button="right", clickCount=1)
+    must(explorer.page.run("page.text()") == UNCUT_LINK, "the right button drags")
+    explorer.page.call("Emulation.setTouchEmulationEnabled", enabled=True)
+    try:
+        for kind, places in (
+            ("touchStart", [(0, x, y)]), ("touchStart", [(0, x, y), (1, x + 15, y + 12)]),
+            ("touchMove", [(0, x + 2, y), (1, x + 15, y + 12)]),
+        ):
+            points = [{"id": finger, "x": left, "y": top} for finger, left, top in places]
+            explorer.page.call("Input.dispatchTouchEvent", type=kind, touchPoints=points)
+        must(explorer.page.run("page.text()") == UNCUT_LINK, "the first finger drags by the second one's grip")
+        explorer.page.call("Input.dispatchTouchEvent", type="touchEnd", touchPoints=[])
+    finally:
+        explorer.page.call("Emulation.setTouchEmulationEnabled", enabled=False)
+    return "a button and two fingers"
+
+
+def check_lists_on_their_way(explorer: Explorer, address: str) -> str:
+    """While the lists are loaded the last example that was asked for counts, and no list is given away. If the server
+    has none, the page says so."""
+    with at_start(explorer, HELD_LISTS):
+        explorer.load(address, "tab=examples&example=seam%26scissor=1,2,3,4")
+        must("&scissor" not in explorer.page.run("page.text()"), "the link has more than the page")
+        explorer.go("tab=examples&example=mesh")
+        explorer.page.run("document.getElementById('example-list').click()")
+        explorer.page.run("held.pop()()")
+        wait(explorer, "page.examples.chosen")
+        explorer.page.run("held.forEach((go) => go()), new Promise((done) => setTimeout(done, 500))")
+        must(explorer.page.run("page.examples.chosen") == "mesh", "an answer that came late is shown")
+    with at_start(explorer, NO_LISTS):
+        explorer.load(address, "tab=examples&example=seam")
+        wait(explorer, "document.getElementById('example-shows').textContent === 'The lists cannot be read.'")
+        explorer.must_be_silent()
+    return "two links, and a server without lists"
+
+
+def check_no_memory(explorer: Explorer, address: str) -> str:
+    """Where the core has no memory, no picture stands under another one's name, and no figure beside another's link."""
+    explorer.load(address, f"{UNCUT_LINK}&tab=examples&example=mesh")
+    wait(explorer, "page.examples.chosen")
+    explorer.page.run(NO_MEMORY)
+    explorer.page.run("document.querySelector('#gallery [data-name=seam]').click()")
+    name, size, sum_of_bytes = explorer.page.run(LARGE_EXAMPLE)
+    must(name == "seam.json" and "not drawn: no memory" in size and sum_of_bytes == 0, f"{name}: {size}")
+    explorer.page.run("page.open('explorer'), page.change({ samples: '16' })")
+    must(explorer.page.run("page.text()") == UNCUT_LINK, "the link is that of a figure that is not shown")
+    notice = explorer.page.run("document.getElementById('refused').textContent")
+    must("no memory" in notice, f"the page says: {notice}")
+    explorer.page.run("delete page.core.memory.grow, page.change({ samples: '16' })")
+    check_shown(explorer)
+    return str(notice)
 
 
 def check_chosen(explorer: Explorer, address: str) -> str:
@@ -198,6 +332,16 @@ def check_example(name: str, picture: picture_file.PictureFile, drawn: dict[str,
     must([byte for k, byte in enumerate(drawn["shown"]) if k % 4 < 3] == shown, f"{name}: other pixels on the screen")
 
 
+@contextlib.contextmanager
+def at_start(explorer: Explorer, script: str) -> Iterator[None]:
+    """Each page that is opened meanwhile runs a script first."""
+    name = explorer.page.call("Page.addScriptToEvaluateOnNewDocument", source=script)["identifier"]
+    try:
+        yield
+    finally:
+        explorer.page.call("Page.removeScriptToEvaluateOnNewDocument", identifier=name)
+
+
 def set_view(explorer: Explorer, size: tuple[int, int], theme: str, is_phone: bool) -> None:
     page = explorer.page
     page.call(
@@ -247,10 +391,7 @@ def check_finger(explorer: Explorer) -> None:
 
 def check_lacking(explorer: Explorer, address: str, folder: str) -> str:
     """Without 64-bit memory the page says what it needs, and shows nothing else."""
-    script = explorer.page.call(
-        "Page.addScriptToEvaluateOnNewDocument", source="WebAssembly.validate = () => false;"
-    )["identifier"]
-    try:
+    with at_start(explorer, "WebAssembly.validate = () => false;"):
         must(explorer.load(address) == "lacking", "the page starts without 64-bit memory")
         text = str(explorer.page.run("document.getElementById('lacking').innerText"))
         must("64-bit memory" in text and "Chrome" in text and "Firefox" in text, f"it says: {text}")
@@ -259,8 +400,6 @@ def check_lacking(explorer: Explorer, address: str, folder: str) -> str:
             "the explorer is still shown",
         )
         explorer.screenshot(os.path.join(folder, "lacking.png"))
-    finally:
-        explorer.page.call("Page.removeScriptToEvaluateOnNewDocument", identifier=script)
     return text.splitlines()[0][:60]
 
 

@@ -19,7 +19,7 @@ from tests.posters.browser import Page, page_of
 FOLDER = os.path.join(TOP, "web", "out")
 WIDTH, HEIGHT = 1280, 900
 SECONDS = 60
-SHIFT = 8
+ALT, SHIFT = 1, 8
 
 # Errors of the page, from its first line on.
 WATCH = """globalThis.errors = [];

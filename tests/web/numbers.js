@@ -54,7 +54,11 @@
     ],
     [
       'draws[0].state', (value) => new Batch(core, [{ ...draw, state: value }]),
-      [{ culls: 1 }, { scissor: [] }, { blend: [1, 2] }, [1]], RangeError,
+      [
+        { culls: 1 }, { scissor: [] }, { blend: [1, 2] }, [1], { toString: 1 }, { constructor: 1 },
+        JSON.parse('{"__proto__": 1}'),
+      ],
+      RangeError,
     ],
     [
       'draws[0].vertices', (value) => new Batch(core, [{ ...draw, vertices: value }]),
@@ -70,7 +74,10 @@
     ],
     ['draws', (value) => new Batch(core, value), [draw, null, 3], TypeError],
     ['draws[0]', (value) => new Batch(core, [value]), [null, 3], TypeError],
-    ['corners', (value) => edges.of(value), [[[0, 0]], []], RangeError],
+    [
+      'corners', (value) => edges.of(value),
+      [[[0, 0]], [], [[1, 2, 3], [4, 5, 6]], [1, 2, 3, 4, 5, 6], [[1, 2, 3, 4, 5], [6], []]], RangeError,
+    ],
     ['corners', (value) => edges.of(value), [3, null], TypeError],
     ['batch', (value) => canvas.draw(value), [{ address: 64 }, null, new Batch(other, [draw])], TypeError],
     ['batch', (value) => canvas.drawIds(value), [undefined, new Batch(other, [])], TypeError],
@@ -90,6 +97,24 @@
     state: {}, vertices: draw.vertices.map((each) => Int32Array.from(each)), indices: new Uint32Array(3),
   };
   if (canvas.draw(new Batch(core, [draw, typed])) !== null) wrong.push('a batch');
+  // What a state inherits is no member of it: nothing would check it.
+  const whole_canvas = [[0, 0], [9999, 0], [0, 9999]].map((point) => [...point, 0, 1, 2, 3, 255]);
+  const heir = Object.create({ scissor: [1.5, 0, NaN, '7'], blend: [1.5, 'x'] });
+  canvas.draw(new Batch(core, [{ state: heir, vertices: whole_canvas, indices: [0, 1, 2] }]));
+  if (canvas.colors().join() !== filled('1,2,3')) wrong.push('an inherited state');
+  // Without memory there is no canvas, and what was taken for it is given back.
+  const large = await Core.load('canvas.wasm.gz');
+  let message = '', before = 0;
+  while (message === '') {
+    before = large.top;
+    try {
+      new Canvas(large, 4096, 4096, 16);
+    } catch (error) {
+      message = error.constructor === Error ? error.message : error.name;
+    }
+  }
+  if (!message.startsWith('no memory for')) wrong.push(`no memory: ${message}`);
+  if (large.top !== before) wrong.push('memory of a canvas for which there is none');
   // What the core refuses of a list is called by the program's words.
   const { pixelsOf } = await import('./draw_list.js');
   for (const draw of [{ depth_write: 2 }, { write: [true, true, true, true, false] }]) {

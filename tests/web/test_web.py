@@ -87,6 +87,30 @@ def test_controls(page: Explorer, address: str) -> None:
     checks.check_controls(page, address)
 
 
+def test_fields_without_a_number(page: Explorer, address: str) -> None:
+    checks.check_unreadable_fields(page, address)
+
+
+def test_a_button_pressed_twice(page: Explorer, address: str) -> None:
+    checks.check_copies(page, address)
+
+
+def test_links_that_come_between(page: Explorer, address: str) -> None:
+    checks.check_links_between(page, address)
+
+
+def test_other_buttons_and_fingers(page: Explorer, address: str) -> None:
+    checks.check_pointers(page, address)
+
+
+def test_lists_on_their_way(page: Explorer, address: str) -> None:
+    checks.check_lists_on_their_way(page, address)
+
+
+def test_without_memory(page: Explorer, address: str) -> None:
+    checks.check_no_memory(page, address)
+
+
 def test_the_chosen_sample(page: Explorer, address: str) -> None:
     checks.check_chosen(page, address)
 
