@@ -12,7 +12,7 @@ do them one after another: setup is clipping, projection and look-up tables; ids
 library for tiles are made once more for each, right behind its shading. `by in place's` is the processor time of a
 frame, divided by what would be left if these two calls took none: at most what a layout in place could save, which
 waits for the same memory. The last column is the share of pixels of which a channel is more than 4 away. Below the
-table stands which of the aims are missed. --write puts all of it into docs/shaded_frames.md.
+table stands which of the aims are missed. --write puts all of it into bench/results/shading.txt.
 
 --probe asks llvmpipe where it takes w when it shades each sample. It needs `make library`, g++, libegl-dev and
 libgl-dev. Exit status 2 if a program cannot be built or ends with an error.
@@ -22,14 +22,13 @@ from __future__ import annotations
 
 import argparse
 import os
-import re
 import subprocess
 import sys
 from typing import Iterator, NamedTuple, Sequence
 
 from bench import report
 from bench.options import add_scenes
-from tools.places import BENCH_OUT, EXAMPLES, INCLUDE, LEVEL, LIB, SHARED_LIBRARY, TOP, is_built, text_of
+from tools.places import BENCH_OUT, EXAMPLES, INCLUDE, LEVEL, LIB, SHARED_LIBRARY, TOP, is_built, write_text
 
 SCENES = ("ring", "back", "front", "dust")
 SOURCES = os.path.join(TOP, "bench")
@@ -40,7 +39,7 @@ COLUMNS = (
 )
 # The aims: of llvmpipe's frame at each rate, of the frame in place, and four threads by one.
 MOST, MOST_BY_CALLS, LEAST_BY_FOUR = {"pixel": 0.5, "sample": 0.4}, 1.06, 3.2
-PAGE = os.path.join(TOP, "docs", "shaded_frames.md")
+RESULTS = os.path.join("bench", "results", "shading.txt")
 
 
 def built(name: str, level: str) -> str:
@@ -143,7 +142,7 @@ def parsed() -> argparse.Namespace:
     parser.add_argument("--frames", type=int, default=9, help="frames of a process (default 9)")
     parser.add_argument("--rounds", type=int, default=4, help="processes of each number of threads (default 4)")
     parser.add_argument("--level", default=LEVEL, help=f"the level for which headers are compiled (default {LEVEL})")
-    parser.add_argument("--write", action="store_true", help="put the table into docs/shaded_frames.md")
+    parser.add_argument("--write", action="store_true", help=f"put the table into {RESULTS}")
     parser.add_argument("--probe", action="store_true", help="ask llvmpipe for w, and time nothing")
     return parser.parse_args()
 
@@ -160,22 +159,13 @@ def lines_of(options: argparse.Namespace) -> Iterator[str]:
     yield f"Missed: {'; '.join(missed) or 'nothing'}.\n"
 
 
-def write(text: str) -> None:
-    """Puts the table into the page, in place of the one that is there."""
-    page = text_of(PAGE)
-    pattern = r"(?<=\n## Times\n)(.*?)^Machine: .*?^Renderer: [^\n]*\n"
-    (_found,) = re.findall(pattern, page, re.DOTALL | re.MULTILINE)
-    with open(PAGE, "w", encoding="utf-8") as file:
-        file.write(re.sub(pattern, lambda found: found[1] + text, page, count=1, flags=re.DOTALL | re.MULTILINE))
-
-
 def print_table(options: argparse.Namespace) -> None:
     text = ""
     for line in lines_of(options):
         print(line, end="", flush=True)
         text += line
     if options.write:
-        write(text)
+        write_text(RESULTS, text)
 
 
 def main() -> int:

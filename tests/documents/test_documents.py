@@ -99,7 +99,8 @@ class Names(unittest.TestCase):
 
     def test_index_has_each_page(self) -> None:
         linked = {page for page, _anchor in LINK.findall(text_of("docs/README.md"))}
-        pages = {os.path.basename(path) for path in places.files("docs", "*.md")} - {"README.md"}
+        every = {os.path.relpath(path, "docs") for path in places.files("docs", "**", "*.md")}
+        pages = {path for path in every if not path.startswith("generated")} - {"README.md"}
         self.assertEqual(pages - linked, set())
 
     def test_commands(self) -> None:

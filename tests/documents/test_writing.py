@@ -14,6 +14,7 @@ from tools.places import text_of
 from tools.writing import Counts
 
 WORD = "word "
+REWRITTEN = sorted(set(writing.pages()) - writing.listed().keys())
 
 
 def test_readme_is_short() -> None:
@@ -29,9 +30,27 @@ def test_each_figure_of_readme_stands_on_a_page() -> None:
     assert [figure for figure in figures if not re.search(rf"(?<![\d.,]){figure}(?!\d)", pages)] == []
 
 
-@pytest.mark.parametrize("page", sorted(set(writing.pages()) - writing.listed().keys()))
+def test_contributing_is_short() -> None:
+    assert text_of("CONTRIBUTING.md").count("\n") <= 150
+
+
+def test_list_of_pages_to_rewrite_only_shrinks() -> None:
+    # Lower this with each page that leaves the list.
+    assert len(writing.listed()) <= 22
+
+
+@pytest.mark.parametrize("page", REWRITTEN)
 def test_rewritten_pages_are_short(page: str) -> None:
     assert text_of(page).count("\n") <= 250
+    lengths = [writing.words(sentence) for sentence in writing.sentences(text_of(page))]
+    assert sum(lengths) <= 17 * len(lengths)
+
+
+@pytest.mark.parametrize("page", REWRITTEN)
+def test_rewritten_pages_name_no_commit(page: str) -> None:
+    # DECISIONS names the one at which the trials can be read.
+    commits = re.findall(r"(?<!\w)(?=[0-9a-f]*[a-f])(?=[a-f]*[0-9])[0-9a-f]{7,8}(?!\w)", text_of(page))
+    assert set(commits) == ({"08a0cee5"} if page == "docs/DECISIONS.md" else set())
 
 
 def test_pages_keep_the_limits() -> None:

@@ -18,7 +18,6 @@ from tools.ci import checks, run_checks, total
 from tools.ci.checks import CHECKS, Check
 from tools.ci.run_checks import Outcome, Task, run_tasks
 from tools.counts import MISSING, Counts
-from tools.markdown import with_table
 from tools.places import TOP, text_of
 
 
@@ -181,9 +180,8 @@ def test_the_list_names_what_is_there() -> None:
             assert first in one.needs, one.name
 
 
-def test_contributing_has_the_table_of_the_list() -> None:
-    page = text_of(checks.PAGE)
-    assert with_table(page, checks.HEADING, checks.table()) == page
+def test_page_has_the_list() -> None:
+    assert text_of(checks.PAGE) == checks.page()
 
 
 @pytest.mark.parametrize(("text", "counts"), [

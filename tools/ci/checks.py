@@ -1,9 +1,9 @@
-"""The checks of what was built: one list, of which make, `make help`, `make test` and the table in CONTRIBUTING are
+"""The checks of what was built: one list, of which make, `make help`, `make test` and docs/generated/checks.md are
 made.
 
     python3 -m tools.ci.checks [--write]
 
-Prints the list as `make help` shows it. With --write it writes the table in CONTRIBUTING.md.
+Prints the list as `make help` shows it. With --write it writes that page.
 """
 
 from __future__ import annotations
@@ -15,8 +15,7 @@ import shutil
 import sys
 from dataclasses import dataclass
 
-from tools.markdown import with_table
-from tools.places import text_of, write_text
+from tools.places import write_text
 
 # What make builds for checks, in the order in which it is built, with the goals that build it.
 BUILDS = {
@@ -26,8 +25,14 @@ BUILDS = {
     "installed": ("lib/stub/trirast", "lib/x86-64-v3/program.so"),
     "readers": ("bin/refused_tiles", "bin/list_bench"),
 }
-# The table stands in CONTRIBUTING between this heading and the next one.
-PAGE, HEADING = "CONTRIBUTING.md", "### The checks"
+PAGE = "docs/generated/checks.md"
+HEAD = """\
+# The checks of `make test`
+
+`make test` runs these side by side, one on each processor. Each is a goal of make, and `LONG=1` takes its longer form.
+`python3 -m tools.ci.checks --write` writes this page from the list in `tools/ci/checks.py`. Seconds are CPU seconds.
+
+"""
 
 
 @dataclass(frozen=True)
@@ -293,21 +298,21 @@ def by_name(name: str) -> Check:
     return next(check for check in CHECKS if check.name == name)
 
 
-def table() -> str:
-    """The table of the checks in CONTRIBUTING."""
+def page() -> str:
+    """The page of the checks."""
     rows = ["| `make ..` | What it looks at | Seconds | Long form | Needs |", "|---|---|---|---|---|"]
     for check in CHECKS:
         long = f"{check.long_seconds}, `{check.long}`" if check.long else ""
         needs = ", ".join(f"`{name.rpartition(':')[2]}`" for name in check.needs)
         rows.append(f"| `{check.name}` | {check.about} | {check.seconds} | {long} | {needs} |")
-    return "\n".join(rows)
+    return HEAD + "\n".join(rows) + "\n"
 
 
 def main() -> int:
     parser = argparse.ArgumentParser(description="The checks of what was built.")
-    parser.add_argument("--write", action="store_true", help="write the table in CONTRIBUTING.md")
+    parser.add_argument("--write", action="store_true", help=f"write {PAGE}")
     if parser.parse_args().write:
-        write_text(PAGE, with_table(text_of(PAGE), HEADING, table()))
+        write_text(PAGE, page())
         return 0
     for check in CHECKS:
         print(f"  make {check.name:24} {check.about}")

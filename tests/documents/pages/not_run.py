@@ -14,7 +14,6 @@ NOT_RUN = (
         "asks the machine's driver, for minutes, or reads what that left",
     ),
     (r"\bpython3 -m bench\.|^make bench$|bench/out/", "measures the machine, for minutes"),
-    (r"^cd crates/", "begins the prover"),
     (r"^cargo run ", "`make check-library` runs the examples in Rust and compares their pictures"),
     (r"^\./spin examples/", "opens a window: `make check-library` does so on a screen of Xvfb"),
     (r"^dask-|tcp://127", "takes a port of the machine: `make check-poster` draws on clusters with ports of its own"),
