@@ -68,97 +68,105 @@ const char *trirast_version_string(void);
 /* Returns the number of the library's interface: 2. */
 uint32_t trirast_interface(void);
 
-/* Bytes of stack that are enough for each call, and for a call that reads a draw list: docs/library.md. */
+/* generated: stack */
+/* Bytes of stack that are enough for each call: docs/library.md. */
 #define TRIRAST_STACK 262144
+
+/* Bytes of stack that are enough for a call that reads a draw list: docs/library.md. */
 #define TRIRAST_STACK_TEXT 196608
+/* end of stack */
 
 /* No index: what the error names is not in a draw, or no element. */
 #define TRIRAST_NONE ((size_t)-1)
 
+/* generated: message_size */
 /* Bytes that are enough for each message of trirast_error_message with its zero byte. */
 #define TRIRAST_ERROR_MESSAGE_SIZE 128
+/* end of message_size */
 
 /* ---- Errors ---- */
 
+/* generated: errors */
 /* What a call returns. */
 typedef enum trirast_status {
     TRIRAST_STATUS_OK = 0,               /* done */
-    TRIRAST_STATUS_BAD_LIST = 1,         /* the text is no draw list: `cause` and `draw` of the error
-                                          * say why and where */
+    TRIRAST_STATUS_BAD_LIST = 1,         /* the text is no draw list: `cause` and `draw` of the error say why and
+                                          * where */
     TRIRAST_STATUS_INPUT_TOO_LONG = 2,   /* the draw list has more than 67,108,864 bytes */
-    TRIRAST_STATUS_OUT_OF_MEMORY = 3,    /* malloc or realloc returned NULL */
-    TRIRAST_STATUS_BUFFER_TOO_SMALL = 4, /* the buffer has fewer bytes than the call would write, or its
-                                          * rows are too short */
+    TRIRAST_STATUS_OUT_OF_MEMORY = 3,    /* `malloc` or `realloc` returned NULL */
+    TRIRAST_STATUS_BUFFER_TOO_SMALL = 4, /* the buffer has fewer bytes than the call would write, or its rows are too
+                                          * short */
     TRIRAST_STATUS_BAD_TILE_SIZE = 5,    /* the tile size is none of 8, 16, 32 and 64 */
-    TRIRAST_STATUS_BAD_TILE_ROWS = 6,    /* the picture or the canvas has no such tile rows: the call
-                                          * says which it takes */
+    TRIRAST_STATUS_BAD_TILE_ROWS = 6,    /* the picture or the canvas has no such tile rows: the call says which it
+                                          * takes */
     TRIRAST_STATUS_BAD_STRUCT_SIZE = 7,  /* a size member is neither 0 nor the library's own */
-    TRIRAST_STATUS_BAD_CANVAS = 8,       /* no such canvas: the members of trirast_canvas say which sides, samples
-                                          * and channels it has */
-    TRIRAST_STATUS_BAD_MEMORY = 9,       /* the memory of the samples is not of the size that the tile rows need,
-                                          * NULL or misaligned, or the canvas was never initialized */
-    TRIRAST_STATUS_BAD_FORMAT = 10,      /* the number is no trirast_format */
+    TRIRAST_STATUS_BAD_CANVAS = 8,       /* no such canvas: the members of `trirast_canvas` say which sides, samples and
+                                          * channels it has */
+    TRIRAST_STATUS_BAD_MEMORY = 9,       /* the memory of the samples is not of the size that the tile rows need, NULL
+                                          * or misaligned, or the canvas was never initialized */
+    TRIRAST_STATUS_BAD_FORMAT = 10,      /* the number is not that of a format */
     TRIRAST_STATUS_BAD_SAMPLE = 11,      /* a pixel has no sample of this index: 0 to its samples less 1 */
-    TRIRAST_STATUS_BAD_POSITION = 12,    /* a position is outside of -8388608 to 8388607 in 1/256 pixel, which is -32768
-                                          * to before 32768 pixels, or an origin outside of -32768 to 28672 pixels */
+    TRIRAST_STATUS_BAD_POSITION = 12,    /* a position is outside of -8388608 to 8388607 in 1/256 pixel, or an origin
+                                          * outside of -32768 to 28672 pixels */
     TRIRAST_STATUS_BAD_PIXEL = 13,       /* the picture has no such pixel */
     TRIRAST_STATUS_BAD_TRIANGLE = 14,    /* the list has no such draw, or the draw no such triangle */
-    TRIRAST_STATUS_BAD_BATCH = 15,       /* the batch cannot be drawn: `cause`, `draw` and `element` of the error
-                                          * say why and where */
-    TRIRAST_STATUS_BAD_STRIDE = 16,      /* a stride of vertices is no multiple of 4 from 16 to TRIRAST_MAX_STRIDE
-                                          * bytes, one of points none from 8 on, or one of entries no multiple of their
-                                          * 2 or 4 bytes; 0 is always right */
+    TRIRAST_STATUS_BAD_BATCH = 15,       /* the batch cannot be drawn: `cause`, `draw` and `element` of the error say
+                                          * why and where */
+    TRIRAST_STATUS_BAD_STRIDE = 16,      /* a stride is too short, too long or no multiple of 4 bytes or of an entry, as
+                                          * the call says; 0 is always right */
     TRIRAST_STATUS_BAD_TILE = 17,        /* the tile rows have no such tile */
     TRIRAST_STATUS_BAD_INDEX_SIZE = 18   /* an index has none of these sizes: 2 or 4 bytes */
 } trirast_status;
 
 /* Why a text is no draw list: the numbers and names of docs/draw-list.md. */
 typedef enum trirast_list_cause {
-    TRIRAST_LIST_NOT_JSON = 1,
-    TRIRAST_LIST_UNKNOWN_KEY = 2,
-    TRIRAST_LIST_MISSING_KEY = 3,
-    TRIRAST_LIST_WRONG_KIND = 4,
-    TRIRAST_LIST_OUT_OF_RANGE = 5,
-    TRIRAST_LIST_BAD_INDEX = 6,
-    TRIRAST_LIST_TOO_MANY = 7,
+    TRIRAST_LIST_NOT_JSON = 1,     /* the bytes are no JSON text */
+    TRIRAST_LIST_UNKNOWN_KEY = 2,  /* a key that a list does not have */
+    TRIRAST_LIST_MISSING_KEY = 3,  /* a key that a list must have is not there */
+    TRIRAST_LIST_WRONG_KIND = 4,   /* a value of another kind, as a string instead of an integer */
+    TRIRAST_LIST_OUT_OF_RANGE = 5, /* a number outside of its range */
+    TRIRAST_LIST_BAD_INDEX = 6,    /* an index that names no vertex of its draw */
+    TRIRAST_LIST_TOO_MANY = 7,     /* more elements than a list may have */
     /* 8 is running out of memory, which is a status here */
-    TRIRAST_LIST_TWO_LISTS = 9,
-    TRIRAST_LIST_NOT_CONVEX = 10
+    TRIRAST_LIST_TWO_LISTS = 9,    /* a draw with two of triangles, strip and quads */
+    TRIRAST_LIST_NOT_CONVEX = 10   /* a quad that is not strictly convex */
 } trirast_list_cause;
 
 /* Why a batch cannot be drawn. */
 typedef enum trirast_batch_cause {
-    TRIRAST_BATCH_TOO_FEW_VERTICES = 1, /* fewer vertices are left than the draw has */
-    TRIRAST_BATCH_TOO_FEW_INDICES = 2,  /* fewer indices are left than the draw has */
-    TRIRAST_BATCH_BAD_STATE = 3,        /* not reported: 15 to 23 say which number is outside of its range */
-    TRIRAST_BATCH_NOT_WHOLE = 4,        /* the indices of the draw, or without any its vertices, make no whole
-                                         * triangles or quads */
-    TRIRAST_BATCH_TOO_MANY_IDS = 5,     /* the id of a triangle would be greater than 16,777,215
-                                         * (trirast_canvas_draw_ids) */
-    TRIRAST_BATCH_BAD_INDEX = 6,        /* an index is not less than the draw's vertex_count; element:
-                                         * its place; value */
-    TRIRAST_BATCH_BAD_POSITION = 7,     /* a vertex that an index names, or a corner, is outside of -8388608 to 8388607
-                                         * in 1/256 pixel, on the screen or as seen from the canvas's origin; element:
-                                         * the vertex or corner */
-    TRIRAST_BATCH_NOT_CONVEX = 8,       /* a quad is not strictly convex; element: the quad */
-    TRIRAST_BATCH_LEFT_OVER = 9,        /* a vertex or an index is in no draw, or a corner or a ring is in no polygon */
-    TRIRAST_BATCH_TOO_MANY_CORNERS = 10, /* polygons have 2^32 corners or more */
-    TRIRAST_BATCH_BAD_RING = 11,        /* a ring ends before it begins, or behind the last corner; element: the ring */
-    TRIRAST_BATCH_BAD_POLYGON = 12,     /* a polygon ends before it begins, or behind the last ring;
-                                         * element: the polygon */
-    TRIRAST_BATCH_TOO_FEW_COLORS = 13,  /* there are fewer colours than polygons */
-    TRIRAST_BATCH_TOO_FEW_DEPTHS = 14,  /* there are depths, but fewer than polygons */
-    TRIRAST_BATCH_BAD_TOPOLOGY = 15,    /* topology is no trirast_topology */
-    TRIRAST_BATCH_BAD_CULL = 16,        /* cull is no trirast_cull */
-    TRIRAST_BATCH_BAD_DEPTH_TEST = 17,  /* depth_test is no trirast_depth_test */
-    TRIRAST_BATCH_BAD_DEPTH_WRITE = 18, /* depth_write is neither 0 nor 1 */
-    TRIRAST_BATCH_BAD_KEEP = 19,        /* a bit of keep is no trirast_keep */
-    TRIRAST_BATCH_BAD_SCISSOR_ENABLE = 20, /* scissor_enable is neither 0 nor 1 */
-    TRIRAST_BATCH_BAD_FACTOR = 21,      /* a factor of the blend is no trirast_factor */
-    TRIRAST_BATCH_BAD_OPERATION = 22,   /* an operation of the blend is no trirast_operation */
-    TRIRAST_BATCH_BAD_FILL_RULE = 23,   /* the polygons' fill_rule is no trirast_fill_rule */
-    TRIRAST_BATCH_TOO_FEW_BOXES = 24    /* there are boxes, but fewer than polygons */
+    TRIRAST_BATCH_TOO_FEW_VERTICES = 1,    /* fewer vertices are left than the draw has */
+    TRIRAST_BATCH_TOO_FEW_INDICES = 2,     /* fewer indices are left than the draw has */
+    TRIRAST_BATCH_BAD_STATE = 3,           /* not reported: 15 to 23 say which number is outside of its range */
+    TRIRAST_BATCH_NOT_WHOLE = 4,           /* the indices of the draw, or without any its vertices, make no whole
+                                            * triangles or quads */
+    TRIRAST_BATCH_TOO_MANY_IDS = 5,        /* the id of a triangle or a polygon would be greater than 16,777,215 */
+    TRIRAST_BATCH_BAD_INDEX = 6,           /* an index, which is the error's value, is not less than the draw's
+                                            * `vertex_count`; element: the index */
+    TRIRAST_BATCH_BAD_POSITION = 7,        /* a vertex that an index names, or a corner, is outside of -8388608 to
+                                            * 8388607 in 1/256 pixel, on the screen or as seen from the canvas's origin;
+                                            * element: the vertex or corner */
+    TRIRAST_BATCH_NOT_CONVEX = 8,          /* a quad is not strictly convex; element: the quad */
+    TRIRAST_BATCH_LEFT_OVER = 9,           /* a vertex or an index is in no draw, or a corner or a ring is in no
+                                            * polygon */
+    TRIRAST_BATCH_TOO_MANY_CORNERS = 10,   /* polygons have 2^32 corners or more */
+    TRIRAST_BATCH_BAD_RING = 11,           /* a ring ends before it begins, or behind the last corner; element: the
+                                            * ring */
+    TRIRAST_BATCH_BAD_POLYGON = 12,        /* a polygon ends before it begins, or behind the last ring; element: the
+                                            * polygon */
+    TRIRAST_BATCH_TOO_FEW_COLORS = 13,     /* there are fewer colours than polygons */
+    TRIRAST_BATCH_TOO_FEW_DEPTHS = 14,     /* there are depths, but fewer than polygons */
+    TRIRAST_BATCH_BAD_TOPOLOGY = 15,       /* `topology` is not the number of a topology */
+    TRIRAST_BATCH_BAD_CULL = 16,           /* `cull` is not the number of a culling */
+    TRIRAST_BATCH_BAD_DEPTH_TEST = 17,     /* `depth_test` is not the number of a depth test */
+    TRIRAST_BATCH_BAD_DEPTH_WRITE = 18,    /* `depth_write` is neither 0 nor 1 */
+    TRIRAST_BATCH_BAD_KEEP = 19,           /* a bit of `keep` is not that of a channel */
+    TRIRAST_BATCH_BAD_SCISSOR_ENABLE = 20, /* `scissor_enable` is neither 0 nor 1 */
+    TRIRAST_BATCH_BAD_FACTOR = 21,         /* a factor of `blend` is not the number of a factor */
+    TRIRAST_BATCH_BAD_OPERATION = 22,      /* an operation of `blend` is not the number of an operation */
+    TRIRAST_BATCH_BAD_FILL_RULE = 23,      /* `fill_rule` is not the number of a fill rule */
+    TRIRAST_BATCH_TOO_FEW_BOXES = 24       /* there are boxes, but fewer than polygons */
 } trirast_batch_cause;
+/* end of errors */
 
 /* Why a call failed. */
 typedef struct trirast_error {
@@ -176,6 +184,7 @@ typedef struct trirast_error {
  * @status: what a call returned. For any other number the string is "unknown status". */
 inline const char *trirast_status_string(trirast_status status) {
     switch (status) {
+    /* generated: strings */
     case TRIRAST_STATUS_OK: return "ok";
     case TRIRAST_STATUS_BAD_LIST: return "not a draw list";
     case TRIRAST_STATUS_INPUT_TOO_LONG: return "input too long";
@@ -195,6 +204,7 @@ inline const char *trirast_status_string(trirast_status status) {
     case TRIRAST_STATUS_BAD_STRIDE: return "wrong stride";
     case TRIRAST_STATUS_BAD_TILE: return "no such tile";
     case TRIRAST_STATUS_BAD_INDEX_SIZE: return "no such index size";
+    /* end of strings */
     }
     return "unknown status";
 }
@@ -212,6 +222,7 @@ size_t trirast_error_message(const trirast_error *error, char *buffer, size_t si
 
 /* ---- What is drawn: draws with their vertices and indices ---- */
 
+/* generated: states */
 /* What the indices of a draw are, or without any its vertices in their order. */
 typedef enum trirast_topology {
     TRIRAST_TOPOLOGY_TRIANGLES = 0, /* three indices each */
@@ -222,21 +233,21 @@ typedef enum trirast_topology {
 /* Which triangles are dropped. Front-facing ones run clockwise on the screen. */
 typedef enum trirast_cull {
     TRIRAST_CULL_NONE = 0,
-    TRIRAST_CULL_FRONT = 1,
-    TRIRAST_CULL_BACK = 2
+    TRIRAST_CULL_FRONT = 1, /* front-facing ones */
+    TRIRAST_CULL_BACK = 2   /* those that run anticlockwise */
 } trirast_cull;
 
-/* When the new depth passes its test against the stored one: the numbers of D3D11_COMPARISON_FUNC, but 0 in place of 8.
- * */
+/* When the new depth passes its test against the stored one: the numbers of D3D11_COMPARISON_FUNC, but 0 in place of
+ * 8. */
 typedef enum trirast_depth_test {
     TRIRAST_DEPTH_ALWAYS = 0,
     TRIRAST_DEPTH_NEVER = 1,
-    TRIRAST_DEPTH_LESS = 2,
-    TRIRAST_DEPTH_EQUAL = 3,
-    TRIRAST_DEPTH_LESS_EQUAL = 4,
-    TRIRAST_DEPTH_GREATER = 5,
-    TRIRAST_DEPTH_NOT_EQUAL = 6,
-    TRIRAST_DEPTH_GREATER_EQUAL = 7
+    TRIRAST_DEPTH_LESS = 2,         /* the new depth is less */
+    TRIRAST_DEPTH_EQUAL = 3,        /* both are equal */
+    TRIRAST_DEPTH_LESS_EQUAL = 4,   /* the new depth is less or equal */
+    TRIRAST_DEPTH_GREATER = 5,      /* the new depth is greater */
+    TRIRAST_DEPTH_NOT_EQUAL = 6,    /* both differ */
+    TRIRAST_DEPTH_GREATER_EQUAL = 7 /* the new depth is greater or equal */
 } trirast_depth_test;
 
 /* Channels that a draw keeps as they are stored. Each is a bit. */
@@ -251,20 +262,20 @@ typedef enum trirast_keep {
  * is the new channel and a the new alpha, d the stored channel and e the stored alpha, 255 on a canvas without alpha;
  * in the equation of alpha s is a, and d is e. */
 typedef enum trirast_factor {
-    TRIRAST_FACTOR_DEFAULT = 0,                /* ONE for the new colour, ZERO for the stored one */
-    TRIRAST_FACTOR_ZERO = 1,                   /* 0 */
-    TRIRAST_FACTOR_ONE = 2,                    /* 255 */
-    TRIRAST_FACTOR_SOURCE_COLOR = 3,           /* s */
-    TRIRAST_FACTOR_INVERSE_SOURCE_COLOR = 4,   /* 255 - s */
-    TRIRAST_FACTOR_SOURCE_ALPHA = 5,           /* a */
-    TRIRAST_FACTOR_INVERSE_SOURCE_ALPHA = 6,   /* 255 - a */
-    TRIRAST_FACTOR_STORED_ALPHA = 7,           /* e */
-    TRIRAST_FACTOR_INVERSE_STORED_ALPHA = 8,   /* 255 - e */
-    TRIRAST_FACTOR_STORED_COLOR = 9,           /* d */
-    TRIRAST_FACTOR_INVERSE_STORED_COLOR = 10,  /* 255 - d */
+    TRIRAST_FACTOR_DEFAULT = 0,                 /* ONE for the new colour, ZERO for the stored one */
+    TRIRAST_FACTOR_ZERO = 1,                    /* 0 */
+    TRIRAST_FACTOR_ONE = 2,                     /* 255 */
+    TRIRAST_FACTOR_SOURCE_COLOR = 3,            /* s */
+    TRIRAST_FACTOR_INVERSE_SOURCE_COLOR = 4,    /* 255 - s */
+    TRIRAST_FACTOR_SOURCE_ALPHA = 5,            /* a */
+    TRIRAST_FACTOR_INVERSE_SOURCE_ALPHA = 6,    /* 255 - a */
+    TRIRAST_FACTOR_STORED_ALPHA = 7,            /* e */
+    TRIRAST_FACTOR_INVERSE_STORED_ALPHA = 8,    /* 255 - e */
+    TRIRAST_FACTOR_STORED_COLOR = 9,            /* d */
+    TRIRAST_FACTOR_INVERSE_STORED_COLOR = 10,   /* 255 - d */
     TRIRAST_FACTOR_SOURCE_ALPHA_SATURATED = 11, /* min(a, 255 - e); for alpha 255 */
-    TRIRAST_FACTOR_CONSTANT = 14,              /* the constant's channel */
-    TRIRAST_FACTOR_INVERSE_CONSTANT = 15       /* 255 less that */
+    TRIRAST_FACTOR_CONSTANT = 14,               /* the constant's channel */
+    TRIRAST_FACTOR_INVERSE_CONSTANT = 15        /* 255 less that */
 } trirast_factor;
 
 /* How a blend equation combines its terms, f = s by its factor and g = d by its factor: the numbers of D3D11_BLEND_OP,
@@ -277,6 +288,7 @@ typedef enum trirast_operation {
     TRIRAST_OPERATION_MIN = 4,              /* the lesser of s and d, without factors */
     TRIRAST_OPERATION_MAX = 5               /* the greater of s and d, without factors */
 } trirast_operation;
+/* end of states */
 
 /* What the new colour does to the stored one. {0}: it replaces it. */
 typedef struct trirast_blend {
@@ -349,8 +361,10 @@ typedef struct trirast_draw {
     trirast_blend blend;    /* what the new colour does to the stored one */
 } trirast_draw;
 
+/* generated: stride */
 /* The greatest vertex_stride: D3D11_REQ_MULTI_ELEMENT_STRUCTURE_SIZE_IN_BYTES. */
 #define TRIRAST_MAX_STRIDE 2048
+/* end of stride */
 
 /* Draws with their vertices and indices. If draw_count is 0, they are one draw of {0} with all vertices and indices. */
 typedef struct trirast_batch {
@@ -436,7 +450,7 @@ typedef struct trirast_canvas {
     uint32_t struct_size; /* 0 or sizeof(trirast_canvas) */
     uint32_t width;       /* of the whole canvas, in pixels: 1 to 4096 */
     uint32_t height;      /* of the whole canvas, in pixels: 1 to 4096 */
-    uint32_t samples;     /* samples of a pixel: 1, 2, 4, 8 or 16; 0 for 1 */
+    uint32_t samples;     /* samples of a pixel: TRIRAST_SAMPLE_COUNTS; 0 for 1 */
     uint32_t channels;    /* 3, without alpha; 0 for 3; 4, with alpha */
     int32_t origin_x;     /* the pixel of the screen at which the upper left one of the canvas lies; 0,
                            * 0 without a window */
@@ -450,6 +464,7 @@ typedef struct trirast_canvas {
     size_t plane_count;   /* the size of the memory in units of TRIRAST_PLANE_BYTES */
 } trirast_canvas;
 
+/* generated: samples */
 /* The numbers of samples that a pixel of a canvas may have, for messages. */
 #define TRIRAST_SAMPLE_COUNTS "1, 2, 4, 8 or 16"
 
@@ -457,17 +472,22 @@ typedef struct trirast_canvas {
  * is set by {TRIRAST_SAMPLE_PATTERNS}. A place is how far right of the pixel's centre and below it a sample
  * lies, in 1/16 pixel. */
 #define TRIRAST_SAMPLE_PATTERNS \
-    {1, {{0, 0}}}, {2, {{4, 4}, {-4, -4}}}, {4, {{-2, -6}, {6, -2}, {-6, 2}, {2, 6}}}, \
+    {1, {{0, 0}}}, \
+    {2, {{4, 4}, {-4, -4}}}, \
+    {4, {{-2, -6}, {6, -2}, {-6, 2}, {2, 6}}}, \
     {8, {{1, -3}, {-1, 3}, {5, 1}, {-3, -5}, {-5, 5}, {-7, -1}, {3, 7}, {7, -7}}}, \
-    {16, {{1, 1}, {-1, -3}, {-3, 2}, {4, -1}, {-5, -2}, {2, 5}, {5, 3}, {3, -5}, \
-          {-2, 6}, {0, -7}, {-4, -6}, {-6, 4}, {-8, 0}, {7, -4}, {6, 7}, {-7, -8}}}
+    {16, {{1, 1}, {-1, -3}, {-3, 2}, {4, -1}, {-5, -2}, {2, 5}, {5, 3}, {3, -5}, {-2, 6}, {0, -7}, {-4, -6}, \
+          {-6, 4}, {-8, 0}, {7, -4}, {6, 7}, {-7, -8}}}
+/* end of samples */
 
+/* generated: sizes */
 /* The width and height of a tile of a canvas, in pixels. */
 #define TRIRAST_TILE_SIZE 64
 
 /* Bytes of one sample index over a block of 8 by 8 pixels, 64 samples of 6 bytes: the unit of a canvas's memory. A
  * canvas without alpha has room for it too, which is 255 once it was cleared or loaded. */
 #define TRIRAST_PLANE_BYTES 384
+/* end of sizes */
 
 /* Returns the bytes of the samples of a whole canvas, by struct_size, width, height, samples and channels alone.
  * Returns 0 if there is no such canvas. The bytes are a multiple of 64. A tile takes (1 + 65 * samples) *
@@ -559,6 +579,7 @@ inline trirast_status trirast_canvas_clear(trirast_canvas *canvas, const trirast
     return trirast_proved_canvas_clear(canvas, clear ? clear : &black);
 }
 
+/* generated: formats */
 /* How the colour of a pixel lies in bytes, in the order of the name. The first three have channels as they are stored.
  * The other two are what image files have: colours are divided by alpha when they are written, and multiplied by it
  * when they are loaded, so that a canvas that was cleared to 0, 0, 0 and alpha 0, and drawn on with TRIRAST_BLEND_OVER
@@ -571,15 +592,16 @@ inline trirast_status trirast_canvas_clear(trirast_canvas *canvas, const trirast
  * A canvas without alpha has 255 there since it was cleared or loaded, which is written, and alpha that is loaded is
  * not stored. A picture in RGB8 is loaded with alpha 255. */
 typedef enum trirast_format {
-    TRIRAST_FORMAT_RGB8 = 0,
-    TRIRAST_FORMAT_RGBA8 = 1,
-    TRIRAST_FORMAT_BGRA8 = 2,
-    TRIRAST_FORMAT_RGBA8_STRAIGHT = 3,
-    TRIRAST_FORMAT_BGRA8_STRAIGHT = 4
+    TRIRAST_FORMAT_RGB8 = 0,           /* red, green and blue */
+    TRIRAST_FORMAT_RGBA8 = 1,          /* red, green, blue and alpha, as they are stored */
+    TRIRAST_FORMAT_BGRA8 = 2,          /* blue, green, red and alpha, as they are stored */
+    TRIRAST_FORMAT_RGBA8_STRAIGHT = 3, /* red, green, blue and alpha as image files have them */
+    TRIRAST_FORMAT_BGRA8_STRAIGHT = 4  /* blue, green, red and alpha as image files have them */
 } trirast_format;
 
 /* The greatest trirast_format. */
 #define TRIRAST_MAX_FORMAT TRIRAST_FORMAT_BGRA8_STRAIGHT
+/* end of formats */
 
 /* Makes a picture the colour of all samples of its pixels, whose alpha is 255 on a canvas without alpha. Depths are
  * unchanged.
@@ -600,6 +622,30 @@ trirast_status trirast_canvas_load(trirast_canvas *canvas, trirast_format format
 trirast_status trirast_proved_canvas_draw(trirast_canvas *canvas, const trirast_proved_batch *batch,
                                           trirast_error *error);
 
+/* generated: batch_checks */
+/* What is looked for in each draw of a batch, in this order:
+ * - TRIRAST_BATCH_TOO_FEW_VERTICES if fewer vertices are left than the draw has
+ * - TRIRAST_BATCH_TOO_FEW_INDICES if fewer indices are left than the draw has
+ * - TRIRAST_BATCH_BAD_TOPOLOGY if `topology` is not the number of a topology
+ * - TRIRAST_BATCH_BAD_CULL if `cull` is not the number of a culling
+ * - TRIRAST_BATCH_BAD_DEPTH_TEST if `depth_test` is not the number of a depth test
+ * - TRIRAST_BATCH_BAD_DEPTH_WRITE if `depth_write` is neither 0 nor 1
+ * - TRIRAST_BATCH_BAD_KEEP if a bit of `keep` is not that of a channel
+ * - TRIRAST_BATCH_BAD_SCISSOR_ENABLE if `scissor_enable` is neither 0 nor 1
+ * - TRIRAST_BATCH_BAD_FACTOR if a factor of `blend` is not the number of a factor
+ * - TRIRAST_BATCH_BAD_OPERATION if an operation of `blend` is not the number of an operation
+ * - TRIRAST_BATCH_NOT_WHOLE if the indices of the draw, or without any its vertices, make no whole triangles or quads
+ * - TRIRAST_BATCH_TOO_MANY_IDS if the id of a triangle would be greater than 16,777,215, or `first_id` is greater than
+ *   16,777,216 (trirast_canvas_draw_ids alone)
+ * - TRIRAST_BATCH_BAD_INDEX if an index is not less than the draw's `vertex_count`
+ * - TRIRAST_BATCH_BAD_POSITION if a coordinate of a vertex that an index names is not -8388608 to 8388607, or is not so
+ *   as seen from the canvas's origin: x - 256 * `origin_x` and y - 256 * `origin_y`
+ * - TRIRAST_BATCH_NOT_CONVEX if a quad is not strictly convex
+ * - TRIRAST_BATCH_LEFT_OVER if a vertex or an index is in no draw, which is looked for when all draws are right. A
+ *   batch with more vertices than there are addresses for them has this cause before any draw is looked at
+ */
+/* end of batch_checks */
+
 /* Draws a batch over what is stored: each sample ends as the batch's triangles make it, one after another, in the order
  * in which they stand. So a picture does not depend on the batches into which its triangles are split.
  *
@@ -612,19 +658,7 @@ trirast_status trirast_proved_canvas_draw(trirast_canvas *canvas, const trirast_
  *
  * Returns TRIRAST_STATUS_OK; or the first check that fails, then TRIRAST_STATUS_BAD_STRUCT_SIZE of the batch, then
  * TRIRAST_STATUS_BAD_STRIDE by its vertex_stride, then TRIRAST_STATUS_BAD_INDEX_SIZE, then TRIRAST_STATUS_BAD_BATCH
- * with the first error of the first draw that has one:
- * - TRIRAST_BATCH_TOO_FEW_VERTICES or TRIRAST_BATCH_TOO_FEW_INDICES if fewer are left than the draw has;
- * - TRIRAST_BATCH_BAD_TOPOLOGY, _CULL, _DEPTH_TEST, _DEPTH_WRITE, _KEEP, _SCISSOR_ENABLE, _FACTOR or _OPERATION, in
- *   this order, if that number of the draw is outside of its range;
- * - TRIRAST_BATCH_NOT_WHOLE if its indices, or without any its vertices, make no whole triangles or quads;
- * - TRIRAST_BATCH_TOO_MANY_IDS if the id of a triangle would be greater than 16,777,215, or first_id is greater than
- *   16,777,216 (trirast_canvas_draw_ids alone);
- * - TRIRAST_BATCH_BAD_INDEX if an index is not less than its vertex_count;
- * - TRIRAST_BATCH_BAD_POSITION if a coordinate of a vertex that an index names is not -8388608 to 8388607, or is not so
- *   as seen from the window's corner: x - 256 * origin_x and y - 256 * origin_y;
- * - TRIRAST_BATCH_NOT_CONVEX if a quad is not strictly convex;
- * or, outside of the draws, TRIRAST_BATCH_LEFT_OVER if a vertex or an index is in no draw. A batch with more vertices
- * than there are addresses for them is TRIRAST_BATCH_LEFT_OVER before any draw is looked at. */
+ * with the first error of the first draw that has one, as listed above. */
 inline trirast_status trirast_canvas_draw(trirast_canvas *canvas, const trirast_batch *batch, trirast_error *error) {
     const trirast_proved_batch proved = trirast_proved_batch_of(batch);
     trirast_error unread;
@@ -652,11 +686,13 @@ inline trirast_status trirast_canvas_draw_ids(trirast_canvas *canvas, const trir
 
 /* ---- Polygons: rings of corners, in one colour each ---- */
 
+/* generated: fill_rules */
 /* Which points are inside of a polygon, by the edges of its rings that a ray to the left crosses. */
 typedef enum trirast_fill_rule {
     TRIRAST_FILL_EVEN_ODD = 0, /* an odd number of edges is crossed */
     TRIRAST_FILL_NONZERO = 1   /* more edges are crossed downwards than upwards, or fewer */
 } trirast_fill_rule;
+/* end of fill_rules */
 
 /* A corner of a ring, or any point, in 1/256 pixel of the screen: -8388608 to 8388607. */
 typedef struct trirast_corner {
@@ -701,10 +737,14 @@ typedef struct trirast_polygons {
                                      * may run either way round */
 } trirast_polygons;
 
-/* Scratch memory of a part of at most four samples of a pixel in a column of 8 pixels of a canvas, in bytes: one flag
- * of each sample, and by the nonzero rule its counters. */
+/* generated: scratch */
+/* Scratch memory of the flags of a part of at most four samples of a pixel in a column of 8 pixels of a canvas, in
+ * bytes: one flag of each sample. */
 #define TRIRAST_FLAGS_BYTES 256
+
+/* Scratch memory of the counters of such a part, in bytes, which the nonzero rule has. */
 #define TRIRAST_COUNTERS_BYTES 8192
+/* end of scratch */
 
 /* Returns the bytes of scratch memory of a call that draws polygons by this rule on this canvas: for each 8 pixels of
  * its width, rounded up to whole tiles, 256 bytes for each part of at most four samples of a pixel, and by the nonzero
@@ -749,6 +789,25 @@ trirast_status trirast_proved_canvas_draw_polygons(trirast_canvas *canvas, const
                                                    void *flags, size_t flag_columns, void *counters,
                                                    size_t counter_columns, trirast_error *error);
 
+/* generated: polygon_checks */
+/* What is looked for in polygons, in this order:
+ * - TRIRAST_BATCH_BAD_FILL_RULE if `fill_rule` is not the number of a fill rule
+ * - TRIRAST_BATCH_BAD_TOPOLOGY if `topology` is not the number of a topology; then the causes of the other numbers of
+ *   the state, as of a draw
+ * - TRIRAST_BATCH_TOO_MANY_CORNERS if polygons have 2^32 corners or more
+ * - TRIRAST_BATCH_BAD_RING if a ring ends before it begins, or behind the last corner
+ * - TRIRAST_BATCH_LEFT_OVER if the last ring ends before the last corner
+ * - TRIRAST_BATCH_BAD_POLYGON if a polygon ends before it begins, or behind the last ring
+ * - TRIRAST_BATCH_LEFT_OVER if the last polygon ends before the last ring
+ * - TRIRAST_BATCH_BAD_POSITION if there are no boxes and a coordinate of a corner is not -8388608 to 8388607
+ * - TRIRAST_BATCH_TOO_FEW_BOXES if there are boxes, but fewer than polygons
+ * - TRIRAST_BATCH_TOO_FEW_COLORS if there are fewer colours than polygons (trirast_canvas_draw_polygons alone)
+ * - TRIRAST_BATCH_TOO_MANY_IDS if the id of a polygon would be greater than 16,777,215, or `first_id` is greater than
+ *   16,777,216 (trirast_canvas_draw_polygon_ids alone)
+ * - TRIRAST_BATCH_TOO_FEW_DEPTHS if there are depths, but fewer than polygons
+ */
+/* end of polygon_checks */
+
 /* Draws polygons over what is stored: each sample ends as the polygons make it, one after another, in their order. A
  * polygon makes of a sample that it covers what a triangle of one colour and one depth does in this state.
  *
@@ -764,21 +823,7 @@ trirast_status trirast_proved_canvas_draw_polygons(trirast_canvas *canvas, const
  * Returns TRIRAST_STATUS_OK; or the first check that fails, then TRIRAST_STATUS_BAD_STRUCT_SIZE of the polygons, then
  * TRIRAST_STATUS_BAD_POSITION if origin_x or origin_y of the canvas is not -32768 to 28672, then
  * TRIRAST_STATUS_BUFFER_TOO_SMALL if the scratch memory is too small or not aligned to 8, then TRIRAST_STATUS_BAD_BATCH
- * with the first error of the polygons:
- * - TRIRAST_BATCH_BAD_FILL_RULE if there is no such rule, or the cause of a number of the state that is outside of its
- *   range, as trirast_canvas_draw names it;
- * - TRIRAST_BATCH_TOO_MANY_CORNERS if there are 2^32 corners or more;
- * - TRIRAST_BATCH_BAD_RING if a ring ends before it begins, or behind the last corner; element: its index;
- * - TRIRAST_BATCH_LEFT_OVER if the last ring ends before the last corner;
- * - TRIRAST_BATCH_BAD_POLYGON if a polygon ends before it begins, or behind the last ring; element: its index;
- * - TRIRAST_BATCH_LEFT_OVER if the last polygon ends before the last ring;
- * - TRIRAST_BATCH_BAD_POSITION if there are no boxes and a coordinate of a corner is not -8388608 to 8388607; element:
- *   its index;
- * - TRIRAST_BATCH_TOO_FEW_BOXES if there are boxes, but fewer than polygons;
- * - TRIRAST_BATCH_TOO_FEW_COLORS if there are fewer colours than polygons (trirast_canvas_draw_polygons alone);
- * - TRIRAST_BATCH_TOO_MANY_IDS if the id of a polygon would be greater than 16,777,215, or first_id is greater than
- *   16,777,216 (trirast_canvas_draw_polygon_ids alone);
- * - TRIRAST_BATCH_TOO_FEW_DEPTHS if there are depths, but fewer than polygons. */
+ * with the first error of the polygons, as listed above. */
 inline trirast_status trirast_canvas_draw_polygons(trirast_canvas *canvas, const trirast_polygons *polygons,
                                                    void *scratch, size_t scratch_size, trirast_error *error) {
     const size_t each = polygons->fill_rule == TRIRAST_FILL_EVEN_ODD ? 1 : 3;
@@ -1082,11 +1127,13 @@ inline trirast_status trirast_list_draw_rows(const char *json, size_t json_len, 
                                          error ? error : &unread);
 }
 
+/* generated: output_kinds */
 /* What a picture shows. */
 typedef enum trirast_output {
     TRIRAST_OUTPUT_COLOR = 0, /* the colours, as a PPM file */
     TRIRAST_OUTPUT_DEPTH = 1  /* the depths of sample 0, as a PGM file */
 } trirast_output;
+/* end of output_kinds */
 
 /* ---- Histories: why a sample is what it is ---- */
 
@@ -1107,6 +1154,7 @@ typedef struct trirast_fragment {
     uint32_t depth; /* 0 to 65535 */
 } trirast_fragment;
 
+/* generated: events */
 /* What a triangle did to a sample. */
 typedef enum trirast_result {
     TRIRAST_RESULT_MISSED = 0,       /* nothing, for a reason other than TRIRAST_REASON_DEPTH_FAILED */
@@ -1116,10 +1164,10 @@ typedef enum trirast_result {
 
 /* Why a triangle is not drawn at a sample. Each reason that holds is a bit of an event's reasons. */
 typedef enum trirast_reason {
-    TRIRAST_REASON_CULLED = 1,
-    TRIRAST_REASON_ZERO_AREA = 2,
-    TRIRAST_REASON_NOT_COVERED = 4,     /* the sample fails the top-left rule at an edge: failure_ab,
-                                         * failure_bc, failure_ca */
+    TRIRAST_REASON_CULLED = 1,          /* the triangle is culled */
+    TRIRAST_REASON_ZERO_AREA = 2,       /* the triangle has no area */
+    TRIRAST_REASON_NOT_COVERED = 4,     /* the sample fails the top-left rule at an edge: `failure_ab`, `failure_bc`,
+                                         * `failure_ca` */
     TRIRAST_REASON_OUTSIDE_SCISSOR = 8, /* the pixel is outside of the scissor */
     TRIRAST_REASON_MASKED = 16,         /* the sample's bit in the sample mask is 0 */
     TRIRAST_REASON_DEPTH_FAILED = 32    /* the triangle covers the sample with a fragment that fails the depth test */
@@ -1127,8 +1175,8 @@ typedef enum trirast_reason {
 
 /* How a sample fails the top-left rule at an edge. */
 typedef enum trirast_failure {
-    TRIRAST_FAILURE_NONE = 0,    /* it passes; or the triangle has zero area, and the sample is not on
-                                  * the edge's line */
+    TRIRAST_FAILURE_NONE = 0,    /* it passes; or the triangle has zero area, and the sample is not on the edge's
+                                  * line */
     TRIRAST_FAILURE_OUTSIDE = 1, /* the signs of the edge function and of the doubled area are opposite */
     TRIRAST_FAILURE_ON_EDGE = 2  /* the edge function is zero, and the edge is neither a top nor a left edge */
 } trirast_failure;
@@ -1138,8 +1186,9 @@ typedef enum trirast_write {
     TRIRAST_WRITE_RED = 1,
     TRIRAST_WRITE_GREEN = 2,
     TRIRAST_WRITE_BLUE = 4,
-    TRIRAST_WRITE_DEPTH = 8
+    TRIRAST_WRITE_DEPTH = 8  /* the depth */
 } trirast_write;
+/* end of events */
 
 /* What a triangle of a draw list did to a sample, and why. a, b and c are its vertices, as it lists them. */
 typedef struct trirast_event {

@@ -1,19 +1,11 @@
 // A canvas of the core, and the batches that are drawn on it.
 
+import { BAD_BATCH, BLEND_OVER, MAX_SIDE, PLANE_BYTES, RGB8, TILE_SIZE } from './interface.js';
 import { CANVAS, CLEAR, ERROR, BATCH, DRAW, VERTEX } from './structs.js';
 import { INT32, UINT16, UINT32, UINT8, integer, integers } from './numbers.js';
 
-const TILE_SIZE = 64;
-const PLANE_BYTES = 384;
-const BAD_BATCH = 15;
-const RGB8 = 0;
-const MAX_SIDE = 4096;
-
 /** The id that a canvas cleared to white has where nothing was drawn. */
 export const NO_ID = 0xffffff;
-
-/** Blends a new colour over the stored one by its alpha: TRIRAST_BLEND_OVER. */
-export const BLEND_OVER = [5, 6, 1, 2, 6, 1, 0, 0, 0, 0];
 
 // The members of a draw's state, each of which is 0 if it is left out, with their least and greatest values.
 const STATE = {

@@ -3,7 +3,8 @@
 import { Batch, Canvas, NO_ID } from './canvas.js';
 import { EdgeFunctions } from './core.js';
 import { drawn, drawsOf } from './draw_list.js';
-import { COLUMNS, PATTERNS, ROWS, UNIT, cornersOf, drawListOf, trianglesOf } from './figure.js';
+import { COLUMNS, ROWS, UNIT, cornersOf, drawListOf, trianglesOf } from './figure.js';
+import { PATTERNS } from './interface.js';
 
 const WHITE = [255, 255, 255];
 const NOWHERE = new Uint32Array(COLUMNS * ROWS).fill(NO_ID);

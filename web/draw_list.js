@@ -1,19 +1,9 @@
 // Draw lists (docs/draw-list.md) as the arrays of a batch, and their pictures.
 
-import { BLEND_OVER, Batch, Canvas } from './canvas.js';
+import { Batch, Canvas } from './canvas.js';
+import { BLEND_OVER, CULLS, ERRORS, PRIMITIVES, TESTS } from './interface.js';
 
-const CULLS = ['none', 'front', 'back'];
-const TESTS = ['always', 'never', 'less', 'equal', 'less_equal', 'greater', 'not_equal', 'greater_equal'];
-const PRIMITIVES = ['triangles', 'strip', 'quads'];
 const ALL_SAMPLES = 65535;
-
-// The causes for which a batch is refused, but for those of ids, of polygons and of vertices or indices that are
-// missing or left over, with their numbers and names as errors of lists. 18 is a `depth_write` that is no boolean, and
-// 19 a `write` of too many of them.
-const ERRORS = {
-  4: '4 WrongKind', 6: '6 BadIndex', 7: '5 OutOfRange', 8: '10 NotConvex', 15: '5 OutOfRange', 16: '5 OutOfRange',
-  17: '5 OutOfRange', 18: '4 WrongKind', 19: '4 WrongKind', 20: '5 OutOfRange', 21: '5 OutOfRange', 22: '5 OutOfRange',
-};
 
 /** An error of a list, in the program's words. */
 export function errorLine({ cause, draw }) {

@@ -1,6 +1,8 @@
 // What the explorer shows: four vertices, the two triangles over them, and the state in which they are drawn. A
 // link holds all of it.
 
+import { PATTERNS } from './interface.js';
+
 export const COLUMNS = 16;
 export const ROWS = 12;
 /** Positions are in 1/256 pixel. */
@@ -8,23 +10,11 @@ export const UNIT = 256;
 export const NAMES = ['A', 'B', 'C', 'D'];
 const MARGIN = UNIT / 2;
 
-/** Where the samples of a pixel lie, as in Direct3D. */
-export const PATTERNS = {
-  1: [[128, 128]],
-  2: [[192, 192], [64, 64]],
-  4: [[96, 32], [224, 96], [32, 160], [160, 224]],
-  8: [[144, 80], [112, 176], [208, 144], [80, 48], [48, 208], [16, 112], [176, 240], [240, 16]],
-  16: [
-    [144, 144], [112, 80], [80, 160], [192, 112], [48, 96], [160, 208], [208, 176], [176, 48],
-    [96, 224], [128, 16], [64, 32], [32, 192], [0, 128], [240, 64], [224, 240], [16, 0],
-  ],
-};
-
-/** The radius of a sample in pixels, by their number. */
-export const RADII = { 1: 0.12, 2: 0.1, 4: 0.09, 8: 0.065, 16: 0.05 };
-
 /** The numbers of samples that a pixel may have, as texts. */
 export const COUNTS = Object.keys(PATTERNS);
+
+/** The radius of a sample in pixels, by their number. */
+export const RADII = Object.fromEntries(COUNTS.map((count) => [count, 0.12 - 0.0175 * Math.log2(count)]));
 
 /** What each choice may be. The first is what a link leaves out. */
 export const CHOICES = {

@@ -2,7 +2,8 @@
 
 import { draw, isForBrowser, update } from './elements.js';
 import { drawEdges, drawShared } from './edges.js';
-import { COLUMNS, NAMES, PATTERNS, RADII, ROWS, UNIT, positionName, snapped } from './figure.js';
+import { COLUMNS, NAMES, RADII, ROWS, UNIT, positionName, snapped } from './figure.js';
+import { PATTERNS } from './interface.js';
 import { Handle, positionIn } from './handle.js';
 import { css } from './tints.js';
 

@@ -107,10 +107,14 @@ inline std::string in_pixels(std::int64_t units) {
         text, static_cast<std::size_t>(std::snprintf(text, sizeof text, "%.15g", static_cast<double>(units) / 256)));
 }
 
+/* generated: limits */
+constexpr std::int64_t lowest_position = -8388608, highest_position = 8388607;
+/* end of limits */
+
 /* The range of a coordinate if it is outside of it: on the screen, and as seen from an origin. */
 inline std::string range_values(const char *name, std::int64_t value, std::int64_t origin) {
-    const std::int64_t low = -8388608, high = 8388607, moved = 256 * origin;
-    const std::int64_t least = moved < 0 ? low : low + moved, greatest = moved < 0 ? high + moved : high;
+    const std::int64_t moved = 256 * origin, least = lowest_position + (moved < 0 ? 0 : moved),
+                       greatest = highest_position + (moved < 0 ? moved : 0);
     if (least <= value && value <= greatest) return "";
     std::string found = std::string("; ") + name + (origin ? " with the origin " + std::to_string(origin) : "") + ": ";
     if (least > greatest) return found + "none";
@@ -179,9 +183,14 @@ struct PolygonValues {
             return end_values(polygons.ring_ends, error.element, polygons.corner_count, "corners");
         case TRIRAST_BATCH_BAD_POLYGON:
             return end_values(polygons.polygon_ends, error.element, polygons.ring_count, "rings");
-        case TRIRAST_BATCH_TOO_FEW_COLORS: return refused(std::to_string(polygons.polygon_count), polygons.color_count);
-        case TRIRAST_BATCH_TOO_FEW_DEPTHS: return refused(std::to_string(polygons.polygon_count), polygons.depth_count);
-        case TRIRAST_BATCH_TOO_FEW_BOXES: return refused(std::to_string(polygons.polygon_count), polygons.box_count);
+        /* generated: counts */
+        case TRIRAST_BATCH_TOO_FEW_COLORS:
+            return refused(std::to_string(polygons.polygon_count), polygons.color_count);
+        case TRIRAST_BATCH_TOO_FEW_DEPTHS:
+            return refused(std::to_string(polygons.polygon_count), polygons.depth_count);
+        case TRIRAST_BATCH_TOO_FEW_BOXES:
+            return refused(std::to_string(polygons.polygon_count), polygons.box_count);
+        /* end of counts */
         default: return {};
         }
     }

@@ -6,7 +6,7 @@ import unittest
 from typing import Any, Callable, Tuple, Type
 
 import trirast
-from trirast import _errors, _ffi
+from trirast import _declarations, _errors, _ffi, _numbers
 
 from .common import DRAW_LIST, VERTICES
 
@@ -45,7 +45,7 @@ class Errors(unittest.TestCase):
 
     def test_each_status_has_its_exception(self) -> None:
         for status, kind in {**_errors.BY_STATUS, **_errors.PLACED}.items():
-            given = _ffi.CError(status, 1, _errors.NONE, _errors.NONE, _errors.NONE)
+            given = _declarations.CError(status, 1, _numbers.NONE, _numbers.NONE, _numbers.NONE)
             with self.assertRaises(kind) as raised:
                 _ffi.raise_error(status, None, (given,))
             self.assertIsInstance(raised.exception, trirast.Error)
@@ -101,9 +101,9 @@ class Errors(unittest.TestCase):
 
     def test_structs_of_other_sizes_are_refused(self) -> None:
         canvas = trirast.Canvas(3, 3)
-        batch = _ffi.CBatch(ctypes.sizeof(_ffi.CBatch) + 4)
+        batch = _declarations.CBatch(ctypes.sizeof(_declarations.CBatch) + 4)
         with self.assertRaises(trirast.StructSizeError):
-            _ffi.library().trirast_canvas_draw(canvas._whole, batch, _ffi.CError())
+            _ffi.library().trirast_canvas_draw(canvas._whole, batch, _declarations.CError())
 
 
 if __name__ == "__main__":

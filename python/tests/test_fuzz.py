@@ -27,7 +27,7 @@ from hypothesis import HealthCheck, Phase, given, settings
 from hypothesis import strategies as st
 
 import trirast
-from trirast._blend import FACTORS, OPERATIONS
+from trirast._numbers import FACTORS, OPERATIONS
 
 from .common import bytes_of
 

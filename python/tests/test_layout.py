@@ -10,18 +10,15 @@ import tempfile
 import unittest
 from typing import Any, Dict, List
 
-from trirast import BLENDS, _blend, _draw, _errors, _ffi, _polygons, _vertices
+from trirast import BLENDS, _blend, _declarations, _errors, _numbers, _polygons, _vertices
 
 from .common import PYTHON
 
 INCLUDE = os.path.join(os.path.dirname(PYTHON), "include")
+# The structs by their names in C: trirast_image_info is CImageInfo.
 STRUCTS: Dict[str, Any] = {
-    "trirast_error": _ffi.CError, "trirast_image_info": _ffi.CImageInfo, "trirast_blend": _ffi.CBlend,
-    "trirast_draw": _ffi.CDraw, "trirast_batch": _ffi.CBatch, "trirast_polygons": _ffi.CPolygons,
-    "trirast_canvas": _ffi.CCanvas, "trirast_clear": _ffi.CClear, "trirast_corners": _ffi.CCorners,
-    "trirast_stored": _ffi.CStored, "trirast_fragment": _ffi.CFragment, "trirast_event": _ffi.CEvent,
-    "trirast_sample_info": _ffi.CSampleInfo, "trirast_history_request": _ffi.CHistoryRequest,
-    "trirast_sample_counts": _ffi.CSampleCounts,
+    f"trirast{re.sub('(?=[A-Z])', '_', name[1:]).lower()}": struct for name, struct in vars(_declarations).items()
+    if isinstance(struct, type) and issubclass(struct, ctypes.Structure)
 }
 
 
@@ -31,17 +28,17 @@ def in_c(name: str) -> str:
 
 
 ENUMERATORS = {
-    **{f"TRIRAST_FACTOR_{name.upper()}": number for name, number in _blend.FACTORS.items()},
-    **{f"TRIRAST_OPERATION_{name.upper()}": number for name, number in _blend.OPERATIONS.items()},
-    **{f"TRIRAST_CULL_{name.upper()}": number for number, name in enumerate(_draw.CULLS)},
-    **{f"TRIRAST_DEPTH_{name.upper()}": number for number, name in enumerate(_draw.DEPTH_TESTS)},
-    **{f"TRIRAST_TOPOLOGY_{name.upper()}": number for number, (name, _length) in enumerate(_draw.TOPOLOGIES)},
+    **{f"TRIRAST_FACTOR_{name.upper()}": number for name, number in _numbers.FACTORS.items()},
+    **{f"TRIRAST_OPERATION_{name.upper()}": number for name, number in _numbers.OPERATIONS.items()},
+    **{f"TRIRAST_CULL_{name.upper()}": number for number, name in enumerate(_numbers.CULLS)},
+    **{f"TRIRAST_DEPTH_{name.upper()}": number for number, name in enumerate(_numbers.DEPTH_TESTS)},
+    **{f"TRIRAST_TOPOLOGY_{name.upper()}": number for number, (name, _length) in enumerate(_numbers.TOPOLOGIES)},
     **{f"TRIRAST_KEEP_{name}": 1 << k for k, name in enumerate(("RED", "GREEN", "BLUE", "ALPHA"))},
     **{f"TRIRAST_LIST_{in_c(name)}": number for number, name in _errors.DrawListError.causes.items()},
     **{f"TRIRAST_BATCH_{in_c(name)}": number for number, name in _errors.BatchError.causes.items()},
-    "TRIRAST_STATUS_BAD_LIST": _errors.BAD_LIST, "TRIRAST_STATUS_BAD_BATCH": _errors.BAD_BATCH,
-    "TRIRAST_NONE": _errors.NONE,
-    "TRIRAST_ERROR_MESSAGE_SIZE": _ffi.MESSAGE_SIZE,
+    "TRIRAST_STATUS_BAD_LIST": _numbers.BAD_LIST, "TRIRAST_STATUS_BAD_BATCH": _numbers.BAD_BATCH,
+    "TRIRAST_NONE": _numbers.NONE,
+    "TRIRAST_ERROR_MESSAGE_SIZE": _numbers.ERROR_MESSAGE_SIZE,
 }
 
 
@@ -61,6 +58,7 @@ def answers(expressions: List[str]) -> List[int]:
 
 class Layout(unittest.TestCase):
     def test_of_structs(self) -> None:
+        self.assertGreater(len(STRUCTS), 15)
         expressions, wanted = [], []
         for name, struct in STRUCTS.items():
             expressions.append(f"sizeof({name})")
@@ -85,7 +83,7 @@ class Layout(unittest.TestCase):
 
     def test_of_blends(self) -> None:
         for name, blend in BLENDS.items():
-            fields = [field for field, *_ in _ffi.CBlend._fields_[:6]]
+            fields = [field for field, *_ in _declarations.CBlend._fields_[:6]]
             found = answers([f"(TRIRAST_BLEND_{name.upper()}).{field}" for field in fields])
             made = _blend.blend_in_c(blend)
             # 0 is the default, which is one, zero and add.

@@ -56,7 +56,7 @@ def some(pick: random.Random, count: int, end: int = 256) -> list[int]:
 
 
 def a_scene(pick: random.Random, samples: int) -> Scene:
-    import trirast._blend as blend
+    import trirast._numbers as numbers
 
     size, origin = (pick.randint(1, 140), pick.randint(1, 140)), (pick.randint(-9, 9), pick.randint(-9, 9))
 
@@ -67,7 +67,7 @@ def a_scene(pick: random.Random, samples: int) -> Scene:
     rings = [pick.randint(0, 9) for _ in range(pick.randint(0, 8))]
     ring_ends = [sum(rings[: k + 1]) for k in range(len(rings))]
     polygon_ends = sorted(pick.randint(0, len(rings)) for _ in range(pick.randint(0, 3))) + [len(rings)]
-    factors, operations = list(blend.FACTORS.values()), list(blend.OPERATIONS.values())
+    factors, operations = list(numbers.FACTORS.values()), list(numbers.OPERATIONS.values())
     equation = tuple(
         number for _ in "ca" for number in (pick.choice(factors), pick.choice(factors), pick.choice(operations))
     )
@@ -83,13 +83,13 @@ def a_scene(pick: random.Random, samples: int) -> Scene:
 def drawn(scene: Scene) -> Any:
     """The canvas on which a scene was drawn."""
     import trirast
-    import trirast._blend as blend
+    import trirast._numbers as numbers
 
     canvas = trirast.Canvas(*scene.size, samples=scene.samples, origin=scene.origin)
     canvas.clear((10, 200, 90), 40000)
     names = [
         {number: name for name, number in known.items()}
-        for known in 2 * (blend.FACTORS, blend.FACTORS, blend.OPERATIONS)
+        for known in 2 * (numbers.FACTORS, numbers.FACTORS, numbers.OPERATIONS)
     ]
     make_blend: Any = trirast.Blend
     equation = make_blend(*(name[number] for name, number in zip(names, scene.equation)), constant=scene.constant)

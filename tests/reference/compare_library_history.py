@@ -80,9 +80,9 @@ class Library:
 
     def __init__(self) -> None:
         import trirast
-        from trirast import _ffi, _history
+        from trirast import _declarations, _ffi, _history
 
-        self.ffi, self.history, self.error = _ffi, _history, trirast.Error
+        self.ffi, self.declared, self.history, self.error = _ffi, _declarations, _history, trirast.Error
 
     def marked(self, kind: Any) -> Any:
         """An object all of whose bytes are marked."""
@@ -109,9 +109,9 @@ class Library:
         raise Difference(f"there is a history of {sample}")
 
     def refused_counts(self, text: bytes, place: tuple[int, int]) -> tuple[int, str]:
-        counts = self.marked(self.ffi.CSampleCounts)
+        counts = self.marked(self.declared.CSampleCounts)
         try:
-            self.ffi.library().trirast_list_triangle_samples(text, len(text), *place, counts, self.ffi.CError())
+            self.ffi.library().trirast_list_triangle_samples(text, len(text), *place, counts, self.declared.CError())
         except self.error as error:
             must_equal("memory after an error", set(bytes(counts)), set(MARK))
             return error.status, answers.line_of(error) if error.status == BAD_LIST else str(error)

@@ -81,13 +81,13 @@ class Blending(unittest.TestCase):
             self.assertLess(abs(found - exact), Fraction(1, 2))
 
     def test_names_are_those_of_the_package(self) -> None:
-        from trirast import _blend
+        from trirast import _numbers
 
         self.assertEqual(
             {name: tuple(each) for name, each in PRESETS.items()},
             {name: tuple(each) for name, each in trirast.BLENDS.items()},
         )
-        self.assertEqual((set(FACTORS), {*OPERATIONS, *ENDS}), (set(_blend.FACTORS), set(_blend.OPERATIONS)))
+        self.assertEqual((set(FACTORS), {*OPERATIONS, *ENDS}), (set(_numbers.FACTORS), set(_numbers.OPERATIONS)))
         self.assertEqual(Equation._fields, trirast.Blend._fields)
         self.assertEqual(tuple(blending.Equation()), tuple(trirast.Blend()))
 

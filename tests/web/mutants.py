@@ -14,9 +14,9 @@ FIGURES = 25
 
 # What is wrong, the file, its text, and what is served in its place.
 MUTANTS = [Mutant(name, ((file, old, new),)) for name, file, old, new in (
-    ("two samples of the pattern are swapped", "figure.js", "[[96, 32], [224, 96], ", "[[224, 96], [96, 32], "),
-    ("two of sixteen samples are swapped", "figure.js", "[144, 144], [112, 80], ", "[112, 80], [144, 144], "),
-    ("culling takes back for front", "draw_list.js", "'none', 'front', 'back'", "'none', 'back', 'front'"),
+    ("two samples of the pattern are swapped", "interface.js", "[[96, 32], [224, 96], ", "[[224, 96], [96, 32], "),
+    ("two of sixteen samples are swapped", "interface.js", "[144, 144], [112, 80], ", "[112, 80], [144, 144], "),
+    ("culling takes back for front", "interface.js", "'none', 'front', 'back'", "'none', 'back', 'front'"),
     ("vertices snap to 1/128", "figure.js", "Math.round(value) || 0", "2 * Math.round(value / 2)"),
     ("a bottom edge is marked as a top one", "coverage.js", "py < ry ? 'top'", "py > ry ? 'top'"),
     ("a right edge is marked as a left one", "coverage.js", "Math.sign(excess) > 0", "Math.sign(excess) < 0"),

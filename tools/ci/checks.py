@@ -97,8 +97,8 @@ CHECKS = (
     ),
     Check(
         name="documents",
-        about="documents, the statement, must-fail edits and contracts against the sources; the statuses, causes and "
-        "numbers of samples of header, bindings and page; the length of lines and sentences",
+        about="documents, the statement, must-fail edits and contracts against the sources; what is written from "
+        "interface/numbers.toml; the length of lines and sentences",
         command="pytest tests/documents --ignore tests/documents/pages", seconds=12,
     ),
     Check(

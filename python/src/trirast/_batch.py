@@ -4,8 +4,8 @@ import ctypes
 from typing import Any, List, Sequence
 
 from ._arguments import shown
+from ._declarations import CBatch, CDraw
 from ._draw import INDEX_BYTES, Draw
-from ._ffi import CBatch, CDraw
 from ._records import Copy
 from ._vertices import VERTEX_BYTES, count_of
 

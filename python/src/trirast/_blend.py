@@ -3,22 +3,10 @@
 from typing import Any, Dict, Literal, NamedTuple, Tuple, Union
 
 from ._arguments import chosen, color_of, shown
-from ._ffi import CBlend
+from ._declarations import CBlend
+from ._numbers import FACTORS, OPERATIONS, Factor, Operation
 
-Factor = Literal[
-    "zero", "one", "source_color", "inverse_source_color", "source_alpha", "inverse_source_alpha", "stored_alpha",
-    "inverse_stored_alpha", "stored_color", "inverse_stored_color", "source_alpha_saturated", "constant",
-    "inverse_constant",
-]
-Operation = Literal["add", "subtract", "reverse_subtract", "min", "max"]
 Preset = Literal["none", "over", "premultiplied", "add", "multiply", "keep"]
-# The numbers of trirast_factor and trirast_operation, which are those of Direct3D 11.
-FACTORS: Dict[str, int] = {
-    "zero": 1, "one": 2, "source_color": 3, "inverse_source_color": 4, "source_alpha": 5, "inverse_source_alpha": 6,
-    "stored_alpha": 7, "inverse_stored_alpha": 8, "stored_color": 9, "inverse_stored_color": 10,
-    "source_alpha_saturated": 11, "constant": 14, "inverse_constant": 15,
-}
-OPERATIONS: Dict[str, int] = {"add": 1, "subtract": 2, "reverse_subtract": 3, "min": 4, "max": 5}
 
 
 class Blend(NamedTuple):

@@ -3,8 +3,9 @@
 from typing import Any
 
 from ._batch import address_of
+from ._declarations import CError, CPolygons
 from ._errors import BatchError, Error, adding
-from ._ffi import CError, CPolygons, library
+from ._ffi import library
 from ._polygons import BOX, BOX_BYTES, put_boxes, rings_of
 from ._threads import with_stack
 from ._values import OF_DRAWS, PolygonValues

@@ -12,11 +12,15 @@ from ._blend import Blend, Preset
 from ._boxes import add_boxes
 from ._buffers import Buffer, Form, check_writable, raw, readable
 from ._calls import Calls
-from ._draw import EVERY_SAMPLE, Cull, DepthTest, Draw, state_in_c
+from ._declarations import CBatch, CCanvas, CClear, CCorners, CError
+from ._draw import EVERY_SAMPLE, Draw, state_in_c
 from ._errors import BatchError, CanvasError, PositionError, SampleError, TileError, adding
-from ._ffi import CBatch, CCanvas, CClear, CCorners, CError, library
+from ._ffi import library
 from ._fragments import Fragments, Rate, fragments_of
-from ._patterns import COUNTS, PATTERNS
+from ._numbers import FORMATS as FORMATS
+from ._numbers import HIGHEST_ORIGIN, LOWEST_ORIGIN, MAX_ID, MAX_SIDE, PATTERNS, Cull, DepthTest
+from ._numbers import TILE_SIZE as TILE_SIZE
+from ._patterns import COUNTS
 from ._picture import Path, Picture, save_png
 from ._png import png_chunks
 from ._polygons import RULES, UNIT, Rule, polygons_of, rows_crossed, scratch_of
@@ -27,19 +31,12 @@ from ._version import INTERFACE
 from ._vertices import PLACE
 
 ALIGNMENT = 64
-FORMATS = {"rgb": (0, 3), "rgba": (1, 4), "bgra": (2, 4), "rgba_straight": (3, 4), "bgra_straight": (4, 4)}
 CODES = {"uint8": "B", "uint16": "H", "uint32": "I", "int64": "q"}
-# The rows of pixels of a tile.
-TILE_SIZE = 64
 # The channels of a sample without alpha, and with it.
 CHANNELS = (3, 4)
-# An id is less.
-IDS = 1 << 24
 # A call is made tile row by tile row if edges of polygons cross more rows of samples, or triangles meet more samples:
 # some tenths of a second, and about a second.
 LONG, LONG_SAMPLES = 1 << 24, 1 << 31
-# The least and the greatest origin of a canvas of polygons.
-ORIGINS = (-32768, 28672)
 Format = Literal["rgb", "rgba", "bgra", "rgba_straight", "bgra_straight"]
 
 
@@ -130,7 +127,7 @@ class Canvas:
         # 0 is the default of C.
         size: int = library().trirast_canvas_size(CCanvas(0, *numbers)) if numbers[2] else 0
         if not size:
-            wanted = f"a canvas has 1 to 4096 pixels a side and {COUNTS} samples a pixel"
+            wanted = f"a canvas has 1 to {MAX_SIDE} pixels a side and {COUNTS} samples a pixel"
             sides = " by ".join(shown(integer(name, side)) for name, side in (("width", width), ("height", height)))
             found = f"{sides} and {shown(integer('samples', samples))}"
             raise CanvasError.of_line(f"{wanted}, and not {found}; larger: trirast.poster")
@@ -228,7 +225,7 @@ class Canvas:
         """Draws several draws, in their colours, or by ids that are counted from `first_id` over all of them."""
         given = draws_of(draws)
         batch = batch_of(given)
-        ids = () if first_id is None else (between("first_id", first_id, 0, IDS),)
+        ids = () if first_id is None else (between("first_id", first_id, 0, MAX_ID + 1),)
         call = library().trirast_canvas_draw_ids if ids else library().trirast_canvas_draw
         with adding(BatchError, BatchValues(batch, self.origin, *(ids or (None,))).of):
             self._each(
@@ -295,11 +292,11 @@ class Canvas:
         polygons = polygons_of(
             corners, ring_ends, polygon_ends, colors, depth, boxes, named("rule", RULES, rule), state
         )
-        ids = () if first_id is None else (between("first_id", first_id, 0, IDS),)
+        ids = () if first_id is None else (between("first_id", first_id, 0, MAX_ID + 1),)
         call = library().trirast_canvas_draw_polygon_ids if ids else library().trirast_canvas_draw_polygons
         size = library().trirast_polygons_scratch(self._whole, polygons.fill_rule)
         for each in self.origin:
-            between("origin", each, *ORIGINS, PositionError.of_line, " pixels")
+            between("origin", each, LOWEST_ORIGIN, HIGHEST_ORIGIN, PositionError.of_line, " pixels")
         top = UNIT * self.origin[1]
         is_long = self.samples * rows_crossed(polygons, top, top + UNIT * self.height) > LONG
         if is_long or self._piece_count(threads) > 1:

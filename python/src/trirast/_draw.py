@@ -2,24 +2,20 @@
 
 import sys
 from array import array
-from typing import Any, Literal, Optional, Sequence, SupportsIndex, Tuple, TypedDict, Union
+from typing import Any, Optional, Sequence, SupportsIndex, Tuple, TypedDict, Union
 
 from ._arguments import between, flag, named, of_length, shown, signed
 from ._blend import Blend, Preset, blend_in_c
-from ._ffi import CDraw
+from ._declarations import CDraw
+from ._numbers import CULLS as CULLS
+from ._numbers import DEPTH_TESTS as DEPTH_TESTS
+from ._numbers import TOPOLOGIES, Cull, DepthTest
 from ._records import Copy, index_columns, indices_of
 from ._vertices import count_of, vertices_of
 
-Cull = Literal["none", "front", "back"]
-DepthTest = Literal["always", "never", "less", "equal", "less_equal", "greater", "not_equal", "greater_equal"]
-# In the order of their numbers in C.
-CULLS = ("none", "front", "back")
-DEPTH_TESTS = ("always", "never", "less", "equal", "less_equal", "greater", "not_equal", "greater_equal")
 CHANNELS = "rgba"
 # The sample mask that has every sample, however many a pixel has.
 EVERY_SAMPLE = 0xFFFF
-# Of each topology, in the order of trirast_topology, its name and the indices of a primitive.
-TOPOLOGIES = (("triangles", 3), ("strip", 1), ("quads", 4))
 INDEX_BYTES = 4
 # In 1/256 pixel.
 UNIT = 256

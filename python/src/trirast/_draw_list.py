@@ -6,13 +6,14 @@ from typing import Any, Callable, Dict, List, Optional, SupportsIndex, Tuple, Un
 
 from ._arguments import integer, shown, thread_count
 from ._buffers import Buffer, exact_bytes
+from ._declarations import CError, CImageInfo
 from ._errors import LimitError, TileSizeError
-from ._ffi import CError, CImageInfo, library, memory_of
+from ._ffi import library, memory_of
+from ._numbers import MAX_LIST_BYTES
 from ._picture import ImageInfo, Picture, memory_for
 from ._threads import share, with_stack
 
 TILE_SIZES = (8, 16, 32, 64)
-MAX_BYTES = 67108864
 # A triangle takes at least two bytes of a list, as the index of a strip. Where triangles as large as the picture meet
 # more pixels, it is looked how long one tile row takes: they may take some tenths of a second.
 LONG_PIXELS = 1 << 29
@@ -91,8 +92,8 @@ def tile_size_of(given: SupportsIndex) -> int:
 def as_bytes(draw_list: DrawList) -> bytes:
     """The text of a draw list. Raises LimitError if it is too long."""
     data = text_of(draw_list)
-    if len(data) > MAX_BYTES:
-        raise LimitError.of_line(f"draw_list: at most {MAX_BYTES} bytes, and not {len(data)}")
+    if len(data) > MAX_LIST_BYTES:
+        raise LimitError.of_line(f"draw_list: at most {MAX_LIST_BYTES} bytes, and not {len(data)}")
     return data
 
 

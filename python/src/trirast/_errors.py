@@ -3,9 +3,8 @@
 from contextlib import contextmanager
 from typing import Any, Callable, Dict, Iterator, Optional, Tuple, Type, TypeVar
 
-BAD_LIST, BAD_BATCH = 1, 15
-# What trirast_error has where there is no draw or no element.
-NONE = (1 << 64) - 1
+from ._numbers import BAD_BATCH, BAD_LIST, BATCH_CAUSES, EXCEPTIONS, LIST_CAUSES, NONE
+
 Kind = TypeVar("Kind", bound="Error")
 
 
@@ -47,22 +46,13 @@ class PlacedError(Error, ValueError):
 class DrawListError(PlacedError):
     """What was given is no draw list. Numbers and names are those of docs/draw-list.md."""
 
-    causes = {
-        1: "NotJson", 2: "UnknownKey", 3: "MissingKey", 4: "WrongKind", 5: "OutOfRange", 6: "BadIndex", 7: "TooMany",
-        9: "TwoLists", 10: "NotConvex",
-    }
+    causes = LIST_CAUSES
 
 
 class BatchError(PlacedError):
     """A canvas cannot draw this. Numbers and names are those of trirast_batch_cause in trirast.h."""
 
-    causes = {
-        1: "TooFewVertices", 2: "TooFewIndices", 3: "BadState", 4: "NotWhole", 5: "TooManyIds", 6: "BadIndex",
-        7: "BadPosition", 8: "NotConvex", 9: "LeftOver", 10: "TooManyCorners", 11: "BadRing", 12: "BadPolygon",
-        13: "TooFewColors", 14: "TooFewDepths", 15: "BadTopology", 16: "BadCull", 17: "BadDepthTest",
-        18: "BadDepthWrite", 19: "BadKeep", 20: "BadScissorEnable", 21: "BadFactor", 22: "BadOperation",
-        23: "BadFillRule", 24: "TooFewBoxes",
-    }
+    causes = BATCH_CAUSES
 
 
 class LimitError(Error, ValueError):
@@ -129,25 +119,10 @@ class IndexSizeError(Error, ValueError):
     """There are no indices of this size. No function of this package passes such a size."""
 
 
-BY_STATUS: Dict[int, Type[Error]] = {
-    2: LimitError,
-    3: OutOfMemoryError,
-    4: BufferTooSmallError,
-    5: TileSizeError,
-    6: TileRowsError,
-    7: StructSizeError,
-    8: CanvasError,
-    9: MemorySizeError,
-    10: FormatError,
-    11: SampleError,
-    12: PositionError,
-    13: PixelError,
-    14: TriangleError,
-    16: StrideError,
-    17: TileError,
-    18: IndexSizeError,
-}
 PLACED: Dict[int, Type[PlacedError]] = {BAD_LIST: DrawListError, BAD_BATCH: BatchError}
+BY_STATUS: Dict[int, Type[Error]] = {
+    status: globals()[name] for status, name in EXCEPTIONS.items() if status not in PLACED
+}
 
 
 def error_of(status: int, line: str, cause: int = 0, draw: int = NONE, element: int = NONE, value: int = NONE) -> Error:

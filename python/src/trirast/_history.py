@@ -3,9 +3,10 @@
 from typing import Any, List, NamedTuple, Optional, SupportsIndex, Tuple
 
 from ._arguments import flag, number, shown
+from ._declarations import CError, CEvent, CFragment, CHistoryRequest, CSampleCounts, CSampleInfo, CStored
 from ._draw_list import DrawList, as_bytes, read_image_info
 from ._errors import PixelError, SampleError, TriangleError, adding
-from ._ffi import CError, CEvent, CFragment, CHistoryRequest, CSampleCounts, CSampleInfo, CStored, library
+from ._ffi import library
 from ._threads import with_stack
 
 Color = Tuple[int, int, int]

@@ -6,7 +6,7 @@ from typing import Any, Literal, Optional, Tuple
 
 from ._arguments import between
 from ._batch import address_of
-from ._ffi import CDraw, CPolygons
+from ._declarations import CDraw, CPolygons
 from ._records import Column, Copy, index_columns, indices_of, table_of
 from ._vertices import PLACE, put_colors
 

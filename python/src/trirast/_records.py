@@ -11,8 +11,9 @@ from typing import Any, Iterable, List, NamedTuple, Optional, Sequence, Tuple, U
 
 from ._arguments import CHANNEL, of_length, shown
 from ._buffers import OTHER_ORDER, buffer_of, exact_bytes, family_of, kind_of, refuse_masked
+from ._numbers import HIGHEST_POSITION, LOWEST_POSITION
 
-LOW, HIGH = -8388608, 8388607
+LOW, HIGH = LOWEST_POSITION, HIGHEST_POSITION
 POSITION = " in 1/256 pixel"
 SNAP = "use trirast.snap(xy)"
 # The least and the greatest integer of each type, by the letter that array, numpy and memoryview have for it.

@@ -4,7 +4,8 @@ word for each pixel."""
 from typing import Any, Callable, List, Tuple
 
 from ._canvas import FORMATS, TILE_SIZE, Canvas
-from ._ffi import CCanvas, library
+from ._declarations import CCanvas
+from ._ffi import library
 from ._threads import share
 
 RGBA, STRAIGHT = FORMATS["rgba"][0], FORMATS["rgba_straight"][0]

@@ -4,9 +4,9 @@ import ctypes
 import struct
 from typing import Any, NamedTuple, Optional, Tuple
 
-from ._draw import TOPOLOGIES
+from ._declarations import CBatch, CPolygons
 from ._errors import BatchError
-from ._ffi import CBatch, CPolygons
+from ._numbers import COUNTS, TOPOLOGIES
 from ._polygons import CORNER_BYTES, leading_zero
 from ._records import HIGH, LOW
 
@@ -68,8 +68,9 @@ class PolygonValues(NamedTuple):
         given, element = self.polygons, error.element
         if error.name == "TooManyIds":
             return f"the first is {self.first_id}, and there are {given.polygon_count}"
-        if error.name == "TooFewBoxes":
-            return f"{given.polygon_count}, and not {given.box_count}"
+        if error.name in COUNTS:
+            wanted, passed = (getattr(given, member) for member in COUNTS[error.name])
+            return f"{wanted}, and not {passed}"
         if error.name == "BadPosition":
             return position_values(place_at(given.corners + CORNER_BYTES * (element or 0)), (0, 0))
         rings, polygons = ends_of(given.ring_ends, given.ring_count), ends_of(given.polygon_ends, given.polygon_count)

@@ -1,4 +1,6 @@
 //! The calls and structs of `trirast.h`, which documents each. The crate `trirast` has safe calls over these.
+//!
+//! Written by `python3 -m tools.interface` from that header and from `interface/numbers.toml`.
 
 #![allow(non_camel_case_types)]
 
@@ -10,14 +12,26 @@ pub const TRIRAST_VERSION_MINOR: u32 = 1;
 pub const TRIRAST_VERSION_PATCH: u32 = 0;
 /// The interface that these declarations describe: a library of a greater number has all of it, in the same form.
 pub const TRIRAST_INTERFACE: u32 = 2;
-/// Bytes of stack that are enough for each call.
-pub const TRIRAST_STACK: usize = 262_144;
-/// Bytes of stack that are enough for each call that reads a draw list.
-pub const TRIRAST_STACK_TEXT: usize = 196_608;
 /// No index: what an error names is in no draw, or is no element.
 pub const TRIRAST_NONE: usize = usize::MAX;
-/// Bytes that are enough for each message of [`trirast_error_message`] with its zero byte.
+/// Bytes of stack that are enough for each call: docs/library.md.
+pub const TRIRAST_STACK: usize = 262_144;
+/// Bytes of stack that are enough for a call that reads a draw list: docs/library.md.
+pub const TRIRAST_STACK_TEXT: usize = 196_608;
+/// Bytes that are enough for each message of trirast_error_message with its zero byte.
 pub const TRIRAST_ERROR_MESSAGE_SIZE: usize = 128;
+/// The greatest vertex_stride: D3D11_REQ_MULTI_ELEMENT_STRUCTURE_SIZE_IN_BYTES.
+pub const TRIRAST_MAX_STRIDE: usize = 2048;
+/// The width and height of a tile of a canvas, in pixels.
+pub const TRIRAST_TILE_SIZE: u32 = 64;
+/// Bytes of one sample index over a block of 8 by 8 pixels, 64 samples of 6 bytes: the unit of a canvas's memory. A
+/// canvas without alpha has room for it too, which is 255 once it was cleared or loaded.
+pub const TRIRAST_PLANE_BYTES: usize = 384;
+/// Scratch memory of the flags of a part of at most four samples of a pixel in a column of 8 pixels of a canvas, in
+/// bytes: one flag of each sample.
+pub const TRIRAST_FLAGS_BYTES: usize = 256;
+/// Scratch memory of the counters of such a part, in bytes, which the nonzero rule has.
+pub const TRIRAST_COUNTERS_BYTES: usize = 8192;
 
 // What a call returns.
 pub const TRIRAST_STATUS_OK: u32 = 0;
@@ -77,11 +91,7 @@ pub const TRIRAST_BATCH_BAD_OPERATION: u32 = 22;
 pub const TRIRAST_BATCH_BAD_FILL_RULE: u32 = 23;
 pub const TRIRAST_BATCH_TOO_FEW_BOXES: u32 = 24;
 
-// Which points are inside of a polygon, by the edges of its rings that a ray to the left crosses.
-pub const TRIRAST_FILL_EVEN_ODD: u32 = 0;
-pub const TRIRAST_FILL_NONZERO: u32 = 1;
-
-// What the indices of a draw are.
+// What the indices of a draw are, or without any its vertices in their order.
 pub const TRIRAST_TOPOLOGY_TRIANGLES: u32 = 0;
 pub const TRIRAST_TOPOLOGY_STRIP: u32 = 1;
 pub const TRIRAST_TOPOLOGY_QUADS: u32 = 2;
@@ -123,8 +133,8 @@ pub const TRIRAST_FACTOR_SOURCE_ALPHA_SATURATED: u32 = 11;
 pub const TRIRAST_FACTOR_CONSTANT: u32 = 14;
 pub const TRIRAST_FACTOR_INVERSE_CONSTANT: u32 = 15;
 
-// How a blend equation combines its terms, f = s by its factor and g = d by its factor: the numbers of
-// D3D11_BLEND_OP, and 0 for ADD.
+// How a blend equation combines its terms, f = s by its factor and g = d by its factor: the numbers of D3D11_BLEND_OP,
+// and 0 for ADD.
 pub const TRIRAST_OPERATION_DEFAULT: u32 = 0;
 pub const TRIRAST_OPERATION_ADD: u32 = 1;
 pub const TRIRAST_OPERATION_SUBTRACT: u32 = 2;
@@ -132,16 +142,9 @@ pub const TRIRAST_OPERATION_REVERSE_SUBTRACT: u32 = 3;
 pub const TRIRAST_OPERATION_MIN: u32 = 4;
 pub const TRIRAST_OPERATION_MAX: u32 = 5;
 
-/// The greatest vertex_stride of a batch, in bytes.
-pub const TRIRAST_MAX_STRIDE: usize = 2048;
-/// The width and height of a tile of a canvas, in pixels.
-pub const TRIRAST_TILE_SIZE: u32 = 64;
-/// Bytes of the samples of one index of a block of 8 by 8 pixels: the unit of a canvas's memory.
-pub const TRIRAST_PLANE_BYTES: usize = 384;
-/// Scratch memory of a part of at most four samples in a column of 8 pixels of a canvas: one flag of each sample, and
-/// by the nonzero rule its counters.
-pub const TRIRAST_FLAGS_BYTES: usize = 256;
-pub const TRIRAST_COUNTERS_BYTES: usize = 8192;
+// Which points are inside of a polygon, by the edges of its rings that a ray to the left crosses.
+pub const TRIRAST_FILL_EVEN_ODD: u32 = 0;
+pub const TRIRAST_FILL_NONZERO: u32 = 1;
 
 // How the colour of a pixel lies in bytes, in the order of the name.
 pub const TRIRAST_FORMAT_RGB8: u32 = 0;
@@ -180,7 +183,7 @@ pub const TRIRAST_WRITE_DEPTH: u32 = 8;
 
 /// Why a call failed.
 #[repr(C)]
-#[derive(Clone, Copy, Debug, Default, PartialEq, Eq)]
+#[derive(Clone, Copy, Debug, Default, PartialEq, Eq, Hash)]
 pub struct trirast_error {
     pub status: u32,
     pub cause: u32,
@@ -191,7 +194,7 @@ pub struct trirast_error {
 
 /// What the new colour does to the stored one.
 #[repr(C)]
-#[derive(Clone, Copy, Debug, Default, PartialEq, Eq)]
+#[derive(Clone, Copy, Debug, Default, PartialEq, Eq, Hash)]
 pub struct trirast_blend {
     pub color_source: u8,
     pub color_stored: u8,
@@ -204,7 +207,7 @@ pub struct trirast_blend {
 
 /// A vertex: 16 bytes.
 #[repr(C)]
-#[derive(Clone, Copy, Debug, Default, PartialEq, Eq)]
+#[derive(Clone, Copy, Debug, Default, PartialEq, Eq, Hash)]
 pub struct trirast_vertex {
     pub x: i32,
     pub y: i32,
@@ -218,7 +221,7 @@ pub struct trirast_vertex {
 
 /// One draw of a batch.
 #[repr(C)]
-#[derive(Clone, Copy, Debug, Default, PartialEq, Eq)]
+#[derive(Clone, Copy, Debug, Default, PartialEq, Eq, Hash)]
 pub struct trirast_draw {
     pub vertex_count: usize,
     pub index_count: usize,
@@ -259,7 +262,45 @@ impl Default for trirast_batch {
     }
 }
 
-/// A corner of a ring, in 1/256 pixel of the screen.
+/// The tile rows of a canvas, or some of them, with the memory of their samples.
+#[repr(C)]
+#[derive(Clone, Copy, Debug)]
+pub struct trirast_canvas {
+    pub struct_size: u32,
+    pub width: u32,
+    pub height: u32,
+    pub samples: u32,
+    pub channels: u32,
+    pub origin_x: i32,
+    pub origin_y: i32,
+    pub first: u32,
+    pub end: u32,
+    pub initialized: u32,
+    pub memory: *mut c_void,
+    pub plane_count: usize,
+}
+
+impl Default for trirast_canvas {
+    /// All zeros.
+    fn default() -> trirast_canvas {
+        // SAFETY: numbers and raw pointers may be zeros.
+        unsafe { std::mem::zeroed() }
+    }
+}
+
+/// What samples are made by trirast_canvas_clear.
+#[repr(C)]
+#[derive(Clone, Copy, Debug, Default, PartialEq, Eq, Hash)]
+pub struct trirast_clear {
+    pub red: u8,
+    pub green: u8,
+    pub blue: u8,
+    pub alpha: u8,
+    pub depth: u16,
+    pub unused: u16,
+}
+
+/// A corner of a ring, or any point, in 1/256 pixel of the screen: -8388608 to 8388607.
 #[repr(C)]
 #[derive(Clone, Copy, Debug, Default, PartialEq, Eq, Hash)]
 pub struct trirast_corner {
@@ -267,7 +308,7 @@ pub struct trirast_corner {
     pub y: i32,
 }
 
-/// The box of a polygon's corners, in 1/256 pixel of the screen.
+/// The box of a polygon's corners in 1/256 pixel of the screen: the least and the greatest x and y of them.
 #[repr(C)]
 #[derive(Clone, Copy, Debug, Default, PartialEq, Eq, Hash)]
 pub struct trirast_box {
@@ -306,47 +347,9 @@ impl Default for trirast_polygons {
     }
 }
 
-/// The tile rows of a canvas, or some of them, with the memory of their samples.
-#[repr(C)]
-#[derive(Clone, Copy, Debug)]
-pub struct trirast_canvas {
-    pub struct_size: u32,
-    pub width: u32,
-    pub height: u32,
-    pub samples: u32,
-    pub channels: u32,
-    pub origin_x: i32,
-    pub origin_y: i32,
-    pub first: u32,
-    pub end: u32,
-    pub initialized: u32,
-    pub memory: *mut c_void,
-    pub plane_count: usize,
-}
-
-impl Default for trirast_canvas {
-    /// All zeros.
-    fn default() -> trirast_canvas {
-        // SAFETY: numbers and raw pointers may be zeros.
-        unsafe { std::mem::zeroed() }
-    }
-}
-
-/// What samples are made by trirast_canvas_clear.
-#[repr(C)]
-#[derive(Clone, Copy, Debug, Default, PartialEq, Eq)]
-pub struct trirast_clear {
-    pub red: u8,
-    pub green: u8,
-    pub blue: u8,
-    pub alpha: u8,
-    pub depth: u16,
-    pub unused: u16,
-}
-
 /// The corners of a triangle, in 1/256 pixel: -8388608 to 8388607 each.
 #[repr(C)]
-#[derive(Clone, Copy, Debug, Default, PartialEq, Eq)]
+#[derive(Clone, Copy, Debug, Default, PartialEq, Eq, Hash)]
 pub struct trirast_corners {
     pub ax: i32,
     pub ay: i32,
@@ -358,7 +361,7 @@ pub struct trirast_corners {
 
 /// A point, in 1/256 pixel: -8388608 to 8388607.
 #[repr(C)]
-#[derive(Clone, Copy, Debug, Default, PartialEq, Eq)]
+#[derive(Clone, Copy, Debug, Default, PartialEq, Eq, Hash)]
 pub struct trirast_point {
     pub x: i32,
     pub y: i32,
@@ -366,7 +369,7 @@ pub struct trirast_point {
 
 /// The edge functions of a triangle at a point, in 1/65536 square pixel.
 #[repr(C)]
-#[derive(Clone, Copy, Debug, Default, PartialEq, Eq)]
+#[derive(Clone, Copy, Debug, Default, PartialEq, Eq, Hash)]
 pub struct trirast_edges {
     pub a: i64,
     pub b: i64,
@@ -377,7 +380,7 @@ pub struct trirast_edges {
 
 /// The size of a picture and of its file.
 #[repr(C)]
-#[derive(Clone, Copy, Debug, Default, PartialEq, Eq)]
+#[derive(Clone, Copy, Debug, Default, PartialEq, Eq, Hash)]
 pub struct trirast_image_info {
     pub width: u32,
     pub height: u32,
@@ -388,7 +391,7 @@ pub struct trirast_image_info {
 
 /// What a sample stores.
 #[repr(C)]
-#[derive(Clone, Copy, Debug, Default, PartialEq, Eq)]
+#[derive(Clone, Copy, Debug, Default, PartialEq, Eq, Hash)]
 pub struct trirast_stored {
     pub red: u32,
     pub green: u32,
@@ -398,7 +401,7 @@ pub struct trirast_stored {
 
 /// What a triangle has at a sample, each value rounded down.
 #[repr(C)]
-#[derive(Clone, Copy, Debug, Default, PartialEq, Eq)]
+#[derive(Clone, Copy, Debug, Default, PartialEq, Eq, Hash)]
 pub struct trirast_fragment {
     pub red: u32,
     pub green: u32,
@@ -409,7 +412,7 @@ pub struct trirast_fragment {
 
 /// What a triangle of a draw list did to a sample, and why.
 #[repr(C)]
-#[derive(Clone, Copy, Debug, Default, PartialEq, Eq)]
+#[derive(Clone, Copy, Debug, Default, PartialEq, Eq, Hash)]
 pub struct trirast_event {
     pub doubled_area: i64,
     pub edge_ab: i64,
@@ -432,7 +435,7 @@ pub struct trirast_event {
 
 /// A sample beside its events.
 #[repr(C)]
-#[derive(Clone, Copy, Debug, Default, PartialEq, Eq)]
+#[derive(Clone, Copy, Debug, Default, PartialEq, Eq, Hash)]
 pub struct trirast_sample_info {
     pub event_count: usize,
     pub samples: u32,
@@ -445,7 +448,7 @@ pub struct trirast_sample_info {
 
 /// The sample whose history is asked for.
 #[repr(C)]
-#[derive(Clone, Copy, Debug, Default, PartialEq, Eq)]
+#[derive(Clone, Copy, Debug, Default, PartialEq, Eq, Hash)]
 pub struct trirast_history_request {
     pub struct_size: u32,
     pub event_size: u32,
@@ -458,7 +461,7 @@ pub struct trirast_history_request {
 
 /// How many samples of the picture a triangle has.
 #[repr(C)]
-#[derive(Clone, Copy, Debug, Default, PartialEq, Eq)]
+#[derive(Clone, Copy, Debug, Default, PartialEq, Eq, Hash)]
 pub struct trirast_sample_counts {
     pub covered: u32,
     pub changed: u32,

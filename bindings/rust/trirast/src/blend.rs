@@ -2,53 +2,7 @@
 
 use trirast_sys as sys;
 
-/// A factor of a blend equation, by Direct3D 11's numbers. Each is a number of 255ths.
-#[derive(Clone, Copy, Debug, PartialEq, Eq, Hash)]
-#[non_exhaustive]
-pub enum Factor {
-    /// 0.
-    Zero = sys::TRIRAST_FACTOR_ZERO as isize,
-    /// 1.
-    One = sys::TRIRAST_FACTOR_ONE as isize,
-    /// The new channel.
-    SourceColor = sys::TRIRAST_FACTOR_SOURCE_COLOR as isize,
-    /// 1 less the new channel.
-    InverseSourceColor = sys::TRIRAST_FACTOR_INVERSE_SOURCE_COLOR as isize,
-    /// The new alpha.
-    SourceAlpha = sys::TRIRAST_FACTOR_SOURCE_ALPHA as isize,
-    /// 1 less the new alpha.
-    InverseSourceAlpha = sys::TRIRAST_FACTOR_INVERSE_SOURCE_ALPHA as isize,
-    /// The stored alpha.
-    StoredAlpha = sys::TRIRAST_FACTOR_STORED_ALPHA as isize,
-    /// 1 less the stored alpha.
-    InverseStoredAlpha = sys::TRIRAST_FACTOR_INVERSE_STORED_ALPHA as isize,
-    /// The stored channel.
-    StoredColor = sys::TRIRAST_FACTOR_STORED_COLOR as isize,
-    /// 1 less the stored channel.
-    InverseStoredColor = sys::TRIRAST_FACTOR_INVERSE_STORED_COLOR as isize,
-    /// The lesser of the new alpha and what the stored one lacks; for alpha 1.
-    SourceAlphaSaturated = sys::TRIRAST_FACTOR_SOURCE_ALPHA_SATURATED as isize,
-    /// The channel of [`Blend::constant`].
-    Constant = sys::TRIRAST_FACTOR_CONSTANT as isize,
-    /// 1 less the channel of the constant.
-    InverseConstant = sys::TRIRAST_FACTOR_INVERSE_CONSTANT as isize,
-}
-
-/// What an equation does with both products, or with both values.
-#[derive(Clone, Copy, Debug, PartialEq, Eq, Hash)]
-#[non_exhaustive]
-pub enum Operation {
-    /// The sum of both.
-    Add = sys::TRIRAST_OPERATION_ADD as isize,
-    /// New minus stored.
-    Subtract = sys::TRIRAST_OPERATION_SUBTRACT as isize,
-    /// Stored minus new.
-    ReverseSubtract = sys::TRIRAST_OPERATION_REVERSE_SUBTRACT as isize,
-    /// The lesser of both, without factors.
-    Min = sys::TRIRAST_OPERATION_MIN as isize,
-    /// The greater of both, without factors.
-    Max = sys::TRIRAST_OPERATION_MAX as isize,
-}
+use crate::{Factor, Operation};
 
 /// One equation: the new value times `source`, and the stored one times `stored`.
 #[derive(Clone, Copy, Debug, PartialEq, Eq, Hash)]

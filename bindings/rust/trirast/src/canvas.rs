@@ -10,38 +10,7 @@ use crate::error::{checked, done};
 use crate::memory::Memory;
 use crate::parts::{by_threads, pixel_row, Rows};
 use crate::values::Values;
-use crate::{Draw, Error, Indices, State, Vertices};
-
-/// The numbers of samples that a pixel may have, in messages.
-pub(crate) const SAMPLE_COUNTS: &str = "1, 2, 4, 8 or 16";
-
-/// How the colour of a pixel lies in bytes, in the order of the name.
-#[derive(Clone, Copy, Debug, PartialEq, Eq, Hash)]
-#[non_exhaustive]
-pub enum Format {
-    /// Red, green and blue.
-    Rgb8 = sys::TRIRAST_FORMAT_RGB8 as isize,
-    /// Red, green, blue and alpha, as they are stored. Without stored alpha 255 is written, and none is read.
-    Rgba8 = sys::TRIRAST_FORMAT_RGBA8 as isize,
-    /// Blue, green, red and alpha, as they are stored, otherwise as [`Rgba8`](Format::Rgba8).
-    Bgra8 = sys::TRIRAST_FORMAT_BGRA8 as isize,
-    /// Red, green, blue and alpha as image files have them: colours are divided by alpha when they are written, and
-    /// multiplied by it when they are loaded.
-    Rgba8Straight = sys::TRIRAST_FORMAT_RGBA8_STRAIGHT as isize,
-    /// Blue, green, red and alpha as image files have them: see [`Rgba8Straight`](Format::Rgba8Straight).
-    Bgra8Straight = sys::TRIRAST_FORMAT_BGRA8_STRAIGHT as isize,
-}
-
-impl Format {
-    /// Returns the bytes of a pixel.
-    pub fn pixel_bytes(self) -> usize {
-        if self == Format::Rgb8 {
-            3
-        } else {
-            4
-        }
-    }
-}
+use crate::{Draw, Error, Format, Indices, State, Vertices};
 
 /// The pixel of the screen at which the upper left one of a canvas lies.
 #[derive(Clone, Copy, Debug, Default, PartialEq, Eq, Hash)]
@@ -104,7 +73,7 @@ pub struct CanvasBuilder {
 }
 
 impl CanvasBuilder {
-    /// The samples of a pixel, in the standard patterns of Direct3D 11: 1, 2, 4, 8 or 16. Without this there is one.
+    /// The samples of a pixel, in one of the standard patterns of Direct3D 11. Without this there is one.
     pub fn samples(self, samples: u32) -> CanvasBuilder {
         CanvasBuilder { samples, ..self }
     }

@@ -1,4 +1,6 @@
-//! Why a list or a batch is refused.
+//! What kind of error it is, and why a list or a batch is refused.
+//!
+//! Written by `python3 -m tools.interface` from `interface/numbers.toml`.
 
 use std::fmt;
 
@@ -6,122 +8,275 @@ use trirast_sys as sys;
 
 use crate::Error;
 
-/// An enumeration of the library's numbers. Its text is the library's.
-macro_rules! causes {
-    (
-        $(#[$about:meta])* $name:ident, of $status:ident
-        $($(#[$meaning:meta])* $cause:ident = $number:ident,)*
-    ) => {
-        $(#[$about])*
-        #[derive(Clone, Copy, Debug, PartialEq, Eq, Hash)]
-        #[non_exhaustive]
-        pub enum $name {
-            $($(#[$meaning])* $cause,)*
-            /// A number that this crate does not know: the library is a later one.
-            Other(u32),
-        }
-
-        impl $name {
-            pub(crate) fn of_number(number: u32) -> $name {
-                match number {
-                    $(sys::$number => $name::$cause,)*
-                    other => $name::Other(other),
-                }
-            }
-
-            fn number(self) -> u32 {
-                match self {
-                    $($name::$cause => sys::$number,)*
-                    $name::Other(other) => other,
-                }
-            }
-        }
-
-        impl fmt::Display for $name {
-            fn fmt(&self, formatter: &mut fmt::Formatter<'_>) -> fmt::Result {
-                Error::of_cause(sys::$status, self.number()).fmt(formatter)
-            }
-        }
-    };
+/// What kind of error it is.
+#[derive(Clone, Copy, Debug, PartialEq, Eq, Hash)]
+#[non_exhaustive]
+pub enum ErrorKind {
+    /// The text is no draw list: `cause` and `draw` of the error say why and where.
+    BadList(ListCause),
+    /// The draw list has more than 67,108,864 bytes.
+    InputTooLong,
+    /// `malloc` or `realloc` returned NULL.
+    OutOfMemory,
+    /// The buffer has fewer bytes than the call would write, or its rows are too short.
+    BufferTooSmall,
+    /// The tile size is none of 8, 16, 32 and 64.
+    BadTileSize,
+    /// The picture or the canvas has no such tile rows: the call says which it takes.
+    BadTileRows,
+    /// A size member is neither 0 nor the library's own.
+    BadStructSize,
+    /// No such canvas: the members of `trirast_canvas` say which sides, samples and channels it has.
+    BadCanvas,
+    /// The memory of the samples is not of the size that the tile rows need, NULL or misaligned, or the canvas was
+    /// never initialized.
+    BadMemory,
+    /// The number is not that of a format.
+    BadFormat,
+    /// A pixel has no sample of this index: 0 to its samples less 1.
+    BadSample,
+    /// A position is outside of -8388608 to 8388607 in 1/256 pixel, or an origin outside of -32768 to 28672 pixels.
+    BadPosition,
+    /// The picture has no such pixel.
+    BadPixel,
+    /// The list has no such draw, or the draw no such triangle.
+    BadTriangle,
+    /// The batch cannot be drawn: `cause`, `draw` and `element` of the error say why and where.
+    BadBatch(BatchCause),
+    /// A stride is too short, too long or no multiple of 4 bytes or of an entry, as the call says; 0 is always right.
+    BadStride,
+    /// The tile rows have no such tile.
+    BadTile,
+    /// An index has none of these sizes: 2 or 4 bytes.
+    BadIndexSize,
+    /// A status that this crate does not know: the library is a later one.
+    Other(u32),
 }
 
-causes! {
-    /// Why a text is no draw list: the numbers and names of `docs/draw-list.md`.
-    ListCause, of TRIRAST_STATUS_BAD_LIST
+impl ErrorKind {
+    pub(crate) fn of(raw: &sys::trirast_error) -> ErrorKind {
+        match raw.status {
+            sys::TRIRAST_STATUS_BAD_LIST => ErrorKind::BadList(ListCause::of_number(raw.cause)),
+            sys::TRIRAST_STATUS_INPUT_TOO_LONG => ErrorKind::InputTooLong,
+            sys::TRIRAST_STATUS_OUT_OF_MEMORY => ErrorKind::OutOfMemory,
+            sys::TRIRAST_STATUS_BUFFER_TOO_SMALL => ErrorKind::BufferTooSmall,
+            sys::TRIRAST_STATUS_BAD_TILE_SIZE => ErrorKind::BadTileSize,
+            sys::TRIRAST_STATUS_BAD_TILE_ROWS => ErrorKind::BadTileRows,
+            sys::TRIRAST_STATUS_BAD_STRUCT_SIZE => ErrorKind::BadStructSize,
+            sys::TRIRAST_STATUS_BAD_CANVAS => ErrorKind::BadCanvas,
+            sys::TRIRAST_STATUS_BAD_MEMORY => ErrorKind::BadMemory,
+            sys::TRIRAST_STATUS_BAD_FORMAT => ErrorKind::BadFormat,
+            sys::TRIRAST_STATUS_BAD_SAMPLE => ErrorKind::BadSample,
+            sys::TRIRAST_STATUS_BAD_POSITION => ErrorKind::BadPosition,
+            sys::TRIRAST_STATUS_BAD_PIXEL => ErrorKind::BadPixel,
+            sys::TRIRAST_STATUS_BAD_TRIANGLE => ErrorKind::BadTriangle,
+            sys::TRIRAST_STATUS_BAD_BATCH => ErrorKind::BadBatch(BatchCause::of_number(raw.cause)),
+            sys::TRIRAST_STATUS_BAD_STRIDE => ErrorKind::BadStride,
+            sys::TRIRAST_STATUS_BAD_TILE => ErrorKind::BadTile,
+            sys::TRIRAST_STATUS_BAD_INDEX_SIZE => ErrorKind::BadIndexSize,
+            other => ErrorKind::Other(other),
+        }
+    }
+}
+
+/// Why a text is no draw list: the numbers and names of `docs/draw-list.md`. Its text is the library's.
+#[derive(Clone, Copy, Debug, PartialEq, Eq, Hash)]
+#[non_exhaustive]
+pub enum ListCause {
     /// The bytes are no JSON text.
-    NotJson = TRIRAST_LIST_NOT_JSON,
+    NotJson,
     /// A key that a list does not have.
-    UnknownKey = TRIRAST_LIST_UNKNOWN_KEY,
+    UnknownKey,
     /// A key that a list must have is not there.
-    MissingKey = TRIRAST_LIST_MISSING_KEY,
-    /// A value of another kind, as a string in place of an integer.
-    WrongKind = TRIRAST_LIST_WRONG_KIND,
+    MissingKey,
+    /// A value of another kind, as a string instead of an integer.
+    WrongKind,
     /// A number outside of its range.
-    OutOfRange = TRIRAST_LIST_OUT_OF_RANGE,
+    OutOfRange,
     /// An index that names no vertex of its draw.
-    BadIndex = TRIRAST_LIST_BAD_INDEX,
+    BadIndex,
     /// More elements than a list may have.
-    TooMany = TRIRAST_LIST_TOO_MANY,
+    TooMany,
     /// A draw with two of triangles, strip and quads.
-    TwoLists = TRIRAST_LIST_TWO_LISTS,
+    TwoLists,
     /// A quad that is not strictly convex.
-    NotConvex = TRIRAST_LIST_NOT_CONVEX,
+    NotConvex,
+    /// A number that this crate does not know: the library is a later one.
+    Other(u32),
 }
 
-causes! {
-    /// Why a batch of triangles, or polygons, cannot be drawn. [`Error::element`] is what each names.
-    BatchCause, of TRIRAST_STATUS_BAD_BATCH
-    /// Fewer vertices are left than the draw has. No function of this crate passes such a batch.
-    TooFewVertices = TRIRAST_BATCH_TOO_FEW_VERTICES,
-    /// Fewer indices are left than the draw has. No function of this crate passes such a batch.
-    TooFewIndices = TRIRAST_BATCH_TOO_FEW_INDICES,
-    /// The library does not report this: the later causes say which number of a state is outside of its range.
-    BadState = TRIRAST_BATCH_BAD_STATE,
-    /// The indices make no whole triangles or quads.
-    NotWhole = TRIRAST_BATCH_NOT_WHOLE,
+impl ListCause {
+    pub(crate) fn of_number(number: u32) -> ListCause {
+        match number {
+            sys::TRIRAST_LIST_NOT_JSON => ListCause::NotJson,
+            sys::TRIRAST_LIST_UNKNOWN_KEY => ListCause::UnknownKey,
+            sys::TRIRAST_LIST_MISSING_KEY => ListCause::MissingKey,
+            sys::TRIRAST_LIST_WRONG_KIND => ListCause::WrongKind,
+            sys::TRIRAST_LIST_OUT_OF_RANGE => ListCause::OutOfRange,
+            sys::TRIRAST_LIST_BAD_INDEX => ListCause::BadIndex,
+            sys::TRIRAST_LIST_TOO_MANY => ListCause::TooMany,
+            sys::TRIRAST_LIST_TWO_LISTS => ListCause::TwoLists,
+            sys::TRIRAST_LIST_NOT_CONVEX => ListCause::NotConvex,
+            other => ListCause::Other(other),
+        }
+    }
+
+    fn number(self) -> u32 {
+        match self {
+            ListCause::NotJson => sys::TRIRAST_LIST_NOT_JSON,
+            ListCause::UnknownKey => sys::TRIRAST_LIST_UNKNOWN_KEY,
+            ListCause::MissingKey => sys::TRIRAST_LIST_MISSING_KEY,
+            ListCause::WrongKind => sys::TRIRAST_LIST_WRONG_KIND,
+            ListCause::OutOfRange => sys::TRIRAST_LIST_OUT_OF_RANGE,
+            ListCause::BadIndex => sys::TRIRAST_LIST_BAD_INDEX,
+            ListCause::TooMany => sys::TRIRAST_LIST_TOO_MANY,
+            ListCause::TwoLists => sys::TRIRAST_LIST_TWO_LISTS,
+            ListCause::NotConvex => sys::TRIRAST_LIST_NOT_CONVEX,
+            ListCause::Other(other) => other,
+        }
+    }
+}
+
+impl fmt::Display for ListCause {
+    fn fmt(&self, formatter: &mut fmt::Formatter<'_>) -> fmt::Result {
+        Error::of_cause(sys::TRIRAST_STATUS_BAD_LIST, self.number()).fmt(formatter)
+    }
+}
+
+/// Why a batch of triangles, or polygons, cannot be drawn. [`Error::element`] is what each names. Its text is the
+/// library's.
+#[derive(Clone, Copy, Debug, PartialEq, Eq, Hash)]
+#[non_exhaustive]
+pub enum BatchCause {
+    /// Fewer vertices are left than the draw has. No function of the bindings passes such a batch.
+    TooFewVertices,
+    /// Fewer indices are left than the draw has. No function of the bindings passes such a batch.
+    TooFewIndices,
+    /// Not reported: 15 to 23 say which number is outside of its range.
+    BadState,
+    /// The indices of the draw, or without any its vertices, make no whole triangles or quads.
+    NotWhole,
     /// The id of a triangle or a polygon would be greater than 16,777,215.
-    TooManyIds = TRIRAST_BATCH_TOO_MANY_IDS,
-    /// An index is not less than the number of the draw's vertices. The element is its place, and
-    /// [`Error::value`] the index.
-    BadIndex = TRIRAST_BATCH_BAD_INDEX,
-    /// A vertex that an index names is too far away, also as seen from the origin of the canvas, or a corner is. The
-    /// element is the vertex or the corner.
-    BadPosition = TRIRAST_BATCH_BAD_POSITION,
+    TooManyIds,
+    /// An index, which is the error's value, is not less than the draw's `vertex_count`. The element is the index.
+    BadIndex,
+    /// A vertex that an index names, or a corner, is outside of -8388608 to 8388607 in 1/256 pixel, on the screen or as
+    /// seen from the canvas's origin. The element is the vertex or corner.
+    BadPosition,
     /// A quad is not strictly convex. The element is the quad.
-    NotConvex = TRIRAST_BATCH_NOT_CONVEX,
-    /// A corner is in no ring, or a ring in no polygon. No function of this crate passes draws that
-    /// leave something over.
-    LeftOver = TRIRAST_BATCH_LEFT_OVER,
+    NotConvex,
+    /// A vertex or an index is in no draw, or a corner or a ring is in no polygon.
+    LeftOver,
     /// Polygons have 2^32 corners or more.
-    TooManyCorners = TRIRAST_BATCH_TOO_MANY_CORNERS,
+    TooManyCorners,
     /// A ring ends before it begins, or behind the last corner. The element is the ring.
-    BadRing = TRIRAST_BATCH_BAD_RING,
+    BadRing,
     /// A polygon ends before it begins, or behind the last ring. The element is the polygon.
-    BadPolygon = TRIRAST_BATCH_BAD_POLYGON,
+    BadPolygon,
     /// There are fewer colours than polygons.
-    TooFewColors = TRIRAST_BATCH_TOO_FEW_COLORS,
+    TooFewColors,
     /// There are depths, but fewer than polygons.
-    TooFewDepths = TRIRAST_BATCH_TOO_FEW_DEPTHS,
+    TooFewDepths,
+    /// `topology` is not the number of a topology. No function of the bindings passes such a state.
+    BadTopology,
+    /// `cull` is not the number of a culling. No function of the bindings passes such a state.
+    BadCull,
+    /// `depth_test` is not the number of a depth test. No function of the bindings passes such a state.
+    BadDepthTest,
+    /// `depth_write` is neither 0 nor 1. No function of the bindings passes such a state.
+    BadDepthWrite,
+    /// A bit of `keep` is not that of a channel. No function of the bindings passes such a state.
+    BadKeep,
+    /// `scissor_enable` is neither 0 nor 1. No function of the bindings passes such a state.
+    BadScissorEnable,
+    /// A factor of `blend` is not the number of a factor. No function of the bindings passes such a state.
+    BadFactor,
+    /// An operation of `blend` is not the number of an operation. No function of the bindings passes such a state.
+    BadOperation,
+    /// `fill_rule` is not the number of a fill rule. No function of the bindings passes such a state.
+    BadFillRule,
     /// There are boxes, but fewer than polygons.
-    TooFewBoxes = TRIRAST_BATCH_TOO_FEW_BOXES,
-    /// There is no such topology. No function of this crate passes such a state, nor one of those that follow.
-    BadTopology = TRIRAST_BATCH_BAD_TOPOLOGY,
-    /// There is no such culling.
-    BadCull = TRIRAST_BATCH_BAD_CULL,
-    /// There is no such depth test.
-    BadDepthTest = TRIRAST_BATCH_BAD_DEPTH_TEST,
-    /// Whether depths are written is neither 0 nor 1.
-    BadDepthWrite = TRIRAST_BATCH_BAD_DEPTH_WRITE,
-    /// A bit of the channels that are kept is that of no channel.
-    BadKeep = TRIRAST_BATCH_BAD_KEEP,
-    /// Whether the scissor is looked at is neither 0 nor 1.
-    BadScissorEnable = TRIRAST_BATCH_BAD_SCISSOR_ENABLE,
-    /// There is no such factor.
-    BadFactor = TRIRAST_BATCH_BAD_FACTOR,
-    /// There is no such operation.
-    BadOperation = TRIRAST_BATCH_BAD_OPERATION,
-    /// There is no such rule of polygons.
-    BadFillRule = TRIRAST_BATCH_BAD_FILL_RULE,
+    TooFewBoxes,
+    /// A number that this crate does not know: the library is a later one.
+    Other(u32),
+}
+
+impl BatchCause {
+    pub(crate) fn of_number(number: u32) -> BatchCause {
+        match number {
+            sys::TRIRAST_BATCH_TOO_FEW_VERTICES => BatchCause::TooFewVertices,
+            sys::TRIRAST_BATCH_TOO_FEW_INDICES => BatchCause::TooFewIndices,
+            sys::TRIRAST_BATCH_BAD_STATE => BatchCause::BadState,
+            sys::TRIRAST_BATCH_NOT_WHOLE => BatchCause::NotWhole,
+            sys::TRIRAST_BATCH_TOO_MANY_IDS => BatchCause::TooManyIds,
+            sys::TRIRAST_BATCH_BAD_INDEX => BatchCause::BadIndex,
+            sys::TRIRAST_BATCH_BAD_POSITION => BatchCause::BadPosition,
+            sys::TRIRAST_BATCH_NOT_CONVEX => BatchCause::NotConvex,
+            sys::TRIRAST_BATCH_LEFT_OVER => BatchCause::LeftOver,
+            sys::TRIRAST_BATCH_TOO_MANY_CORNERS => BatchCause::TooManyCorners,
+            sys::TRIRAST_BATCH_BAD_RING => BatchCause::BadRing,
+            sys::TRIRAST_BATCH_BAD_POLYGON => BatchCause::BadPolygon,
+            sys::TRIRAST_BATCH_TOO_FEW_COLORS => BatchCause::TooFewColors,
+            sys::TRIRAST_BATCH_TOO_FEW_DEPTHS => BatchCause::TooFewDepths,
+            sys::TRIRAST_BATCH_BAD_TOPOLOGY => BatchCause::BadTopology,
+            sys::TRIRAST_BATCH_BAD_CULL => BatchCause::BadCull,
+            sys::TRIRAST_BATCH_BAD_DEPTH_TEST => BatchCause::BadDepthTest,
+            sys::TRIRAST_BATCH_BAD_DEPTH_WRITE => BatchCause::BadDepthWrite,
+            sys::TRIRAST_BATCH_BAD_KEEP => BatchCause::BadKeep,
+            sys::TRIRAST_BATCH_BAD_SCISSOR_ENABLE => BatchCause::BadScissorEnable,
+            sys::TRIRAST_BATCH_BAD_FACTOR => BatchCause::BadFactor,
+            sys::TRIRAST_BATCH_BAD_OPERATION => BatchCause::BadOperation,
+            sys::TRIRAST_BATCH_BAD_FILL_RULE => BatchCause::BadFillRule,
+            sys::TRIRAST_BATCH_TOO_FEW_BOXES => BatchCause::TooFewBoxes,
+            other => BatchCause::Other(other),
+        }
+    }
+
+    fn number(self) -> u32 {
+        match self {
+            BatchCause::TooFewVertices => sys::TRIRAST_BATCH_TOO_FEW_VERTICES,
+            BatchCause::TooFewIndices => sys::TRIRAST_BATCH_TOO_FEW_INDICES,
+            BatchCause::BadState => sys::TRIRAST_BATCH_BAD_STATE,
+            BatchCause::NotWhole => sys::TRIRAST_BATCH_NOT_WHOLE,
+            BatchCause::TooManyIds => sys::TRIRAST_BATCH_TOO_MANY_IDS,
+            BatchCause::BadIndex => sys::TRIRAST_BATCH_BAD_INDEX,
+            BatchCause::BadPosition => sys::TRIRAST_BATCH_BAD_POSITION,
+            BatchCause::NotConvex => sys::TRIRAST_BATCH_NOT_CONVEX,
+            BatchCause::LeftOver => sys::TRIRAST_BATCH_LEFT_OVER,
+            BatchCause::TooManyCorners => sys::TRIRAST_BATCH_TOO_MANY_CORNERS,
+            BatchCause::BadRing => sys::TRIRAST_BATCH_BAD_RING,
+            BatchCause::BadPolygon => sys::TRIRAST_BATCH_BAD_POLYGON,
+            BatchCause::TooFewColors => sys::TRIRAST_BATCH_TOO_FEW_COLORS,
+            BatchCause::TooFewDepths => sys::TRIRAST_BATCH_TOO_FEW_DEPTHS,
+            BatchCause::BadTopology => sys::TRIRAST_BATCH_BAD_TOPOLOGY,
+            BatchCause::BadCull => sys::TRIRAST_BATCH_BAD_CULL,
+            BatchCause::BadDepthTest => sys::TRIRAST_BATCH_BAD_DEPTH_TEST,
+            BatchCause::BadDepthWrite => sys::TRIRAST_BATCH_BAD_DEPTH_WRITE,
+            BatchCause::BadKeep => sys::TRIRAST_BATCH_BAD_KEEP,
+            BatchCause::BadScissorEnable => sys::TRIRAST_BATCH_BAD_SCISSOR_ENABLE,
+            BatchCause::BadFactor => sys::TRIRAST_BATCH_BAD_FACTOR,
+            BatchCause::BadOperation => sys::TRIRAST_BATCH_BAD_OPERATION,
+            BatchCause::BadFillRule => sys::TRIRAST_BATCH_BAD_FILL_RULE,
+            BatchCause::TooFewBoxes => sys::TRIRAST_BATCH_TOO_FEW_BOXES,
+            BatchCause::Other(other) => other,
+        }
+    }
+
+    /// Of polygons how many there are of what the cause counts, and how many there have to be.
+    pub(crate) fn counts(self, polygons: &sys::trirast_polygons) -> Option<(usize, usize)> {
+        match self {
+            BatchCause::TooFewColors => Some((polygons.color_count, polygons.polygon_count)),
+            BatchCause::TooFewDepths => Some((polygons.depth_count, polygons.polygon_count)),
+            BatchCause::TooFewBoxes => Some((polygons.box_count, polygons.polygon_count)),
+            _ => None,
+        }
+    }
+}
+
+impl fmt::Display for BatchCause {
+    fn fmt(&self, formatter: &mut fmt::Formatter<'_>) -> fmt::Result {
+        Error::of_cause(sys::TRIRAST_STATUS_BAD_BATCH, self.number()).fmt(formatter)
+    }
 }
 
 #[cfg(test)]

@@ -6,7 +6,7 @@ use std::os::raw::c_char;
 use trirast_sys as sys;
 
 use crate::values::Values;
-use crate::{BatchCause, ListCause};
+use crate::ErrorKind;
 
 /// Why a call failed, and where. Its text is one line, as "draw 3: the indices make no whole triangles or quads", and
 /// on a canvas it says what was passed and what may be, as "no such sample: 0 to 3, and not 4".
@@ -14,50 +14,6 @@ use crate::{BatchCause, ListCause};
 pub struct Error {
     raw: sys::trirast_error,
     values: Values,
-}
-
-/// What kind of error it is.
-#[derive(Clone, Copy, Debug, PartialEq, Eq, Hash)]
-#[non_exhaustive]
-pub enum ErrorKind {
-    /// The text is no draw list, and why it is none.
-    BadList(ListCause),
-    /// A batch cannot be drawn, and why.
-    BadBatch(BatchCause),
-    /// The draw list has more than 67,108,864 bytes.
-    InputTooLong,
-    /// An allocation failed.
-    OutOfMemory,
-    /// The buffer has fewer bytes than the call would write.
-    BufferTooSmall,
-    /// The picture or the canvas has no such tile rows.
-    BadTileRows,
-    /// The tile size is none of 8, 16, 32 and 64. No function of this crate passes another.
-    BadTileSize,
-    /// The library has structs of other sizes than this crate: it is of another version.
-    BadStructSize,
-    /// A side of the canvas is not 1 to 4096 pixels, or it has no such number of samples.
-    BadCanvas,
-    /// The memory of the samples has another size. No function of this crate passes such memory.
-    BadMemory,
-    /// There is no such format. No function of this crate passes another.
-    BadFormat,
-    /// The canvas has no such sample.
-    BadSample,
-    /// A position is outside of -8388608 to 8388607.
-    BadPosition,
-    /// The picture has no such pixel.
-    BadPixel,
-    /// The list has no such draw, or the draw no such triangle.
-    BadTriangle,
-    /// A stride is no multiple of an element's bytes, or too long.
-    BadStride,
-    /// The tile rows have no such tile.
-    BadTile,
-    /// There are no indices of this size. No function of this crate passes another.
-    BadIndexSize,
-    /// A status that this crate does not know: the library is a later one.
-    Other(u32),
 }
 
 impl Error {
@@ -84,27 +40,7 @@ impl Error {
 
     /// Returns what kind of error it is.
     pub fn kind(&self) -> ErrorKind {
-        match self.raw.status {
-            sys::TRIRAST_STATUS_BAD_LIST => ErrorKind::BadList(ListCause::of_number(self.raw.cause)),
-            sys::TRIRAST_STATUS_BAD_BATCH => ErrorKind::BadBatch(BatchCause::of_number(self.raw.cause)),
-            sys::TRIRAST_STATUS_INPUT_TOO_LONG => ErrorKind::InputTooLong,
-            sys::TRIRAST_STATUS_OUT_OF_MEMORY => ErrorKind::OutOfMemory,
-            sys::TRIRAST_STATUS_BUFFER_TOO_SMALL => ErrorKind::BufferTooSmall,
-            sys::TRIRAST_STATUS_BAD_TILE_SIZE => ErrorKind::BadTileSize,
-            sys::TRIRAST_STATUS_BAD_TILE_ROWS => ErrorKind::BadTileRows,
-            sys::TRIRAST_STATUS_BAD_STRUCT_SIZE => ErrorKind::BadStructSize,
-            sys::TRIRAST_STATUS_BAD_CANVAS => ErrorKind::BadCanvas,
-            sys::TRIRAST_STATUS_BAD_MEMORY => ErrorKind::BadMemory,
-            sys::TRIRAST_STATUS_BAD_FORMAT => ErrorKind::BadFormat,
-            sys::TRIRAST_STATUS_BAD_SAMPLE => ErrorKind::BadSample,
-            sys::TRIRAST_STATUS_BAD_POSITION => ErrorKind::BadPosition,
-            sys::TRIRAST_STATUS_BAD_PIXEL => ErrorKind::BadPixel,
-            sys::TRIRAST_STATUS_BAD_TRIANGLE => ErrorKind::BadTriangle,
-            sys::TRIRAST_STATUS_BAD_STRIDE => ErrorKind::BadStride,
-            sys::TRIRAST_STATUS_BAD_TILE => ErrorKind::BadTile,
-            sys::TRIRAST_STATUS_BAD_INDEX_SIZE => ErrorKind::BadIndexSize,
-            other => ErrorKind::Other(other),
-        }
+        ErrorKind::of(&self.raw)
     }
 
     /// Returns the index of the draw in which the error is, from 0. Returns `None` if it is in no draw.
@@ -113,7 +49,7 @@ impl Error {
     }
 
     /// Returns which one of the draw's own vertices, indices or quads is wrong, from 0, or which ring, polygon or
-    /// corner: each [`BatchCause`] says what it names. Returns `None` if it is none of these.
+    /// corner: each [`BatchCause`](crate::BatchCause) says what it names. Returns `None` if it is none of these.
     pub fn element(&self) -> Option<usize> {
         index(self.raw.element)
     }

@@ -8,20 +8,9 @@ use crate::error::checked;
 use crate::parts::by_threads;
 use crate::picture::zeros;
 use crate::values::Values;
-use crate::{BatchCause, Error, ErrorKind, Origin, Position, State, TileRows};
+use crate::{BatchCause, Error, ErrorKind, FillRule, Origin, Position, State, TileRows};
 
 const _: () = assert!(size_of::<Position>() == size_of::<sys::trirast_corner>());
-
-/// Which samples are inside of a polygon, by the edges of its rings that a ray from the sample to the left crosses.
-#[derive(Clone, Copy, Debug, Default, PartialEq, Eq, Hash)]
-#[non_exhaustive]
-pub enum FillRule {
-    /// An odd number of edges is crossed.
-    #[default]
-    EvenOdd = sys::TRIRAST_FILL_EVEN_ODD as isize,
-    /// More edges are crossed that run downwards than edges that run upwards, or fewer.
-    Nonzero = sys::TRIRAST_FILL_NONZERO as isize,
-}
 
 /// The box of a polygon's corners, as C has it: the least and the greatest x and y of them, in 1/256 pixel of the
 /// screen. The box of no corners has `i32::MAX` on its left and at its top, and `i32::MIN` on its right and at its
@@ -176,16 +165,15 @@ impl<'a> Polygons<'a> {
             let begin = element.checked_sub(1).and_then(|before| ends.get(before)).copied().unwrap_or_default();
             ends.get(element).map(|&end| Values::Ends { begin, end, count, of })
         };
-        let counts = |given| Some(Values::Counts { given, wanted: self.polygon_ends.len() });
         let at = self.corners.get(element).map(|&at| Values::Position { of: None, at, origin: Origin::default() });
         let values = match error.kind() {
             ErrorKind::BadPosition => Some(Values::Origin(origin)),
             ErrorKind::BadBatch(BatchCause::BadPosition) => at,
             ErrorKind::BadBatch(BatchCause::BadRing) => ends(self.ring_ends, self.corners.len(), "corners"),
             ErrorKind::BadBatch(BatchCause::BadPolygon) => ends(self.polygon_ends, self.ring_ends.len(), "rings"),
-            ErrorKind::BadBatch(BatchCause::TooFewColors) => counts(self.colors.len()),
-            ErrorKind::BadBatch(BatchCause::TooFewDepths) => counts(self.depths.len()),
-            ErrorKind::BadBatch(BatchCause::TooFewBoxes) => counts(self.boxes.len()),
+            ErrorKind::BadBatch(cause) => {
+                cause.counts(&self.raw(State::new())).map(|(given, wanted)| Values::Counts { given, wanted })
+            }
             _ => None,
         };
         values.map_or(error, |values| error.with(values))
@@ -224,7 +212,7 @@ impl TileRows<'_> {
     /// `OutOfMemory`; `BadPosition` if the canvas's origin is not -32,768 to 28,672; or `BadBatch` with the first error
     /// of the polygons: `TooManyCorners`, `BadRing`, `BadPolygon` or, if there are no boxes, `BadPosition`, which name
     /// the ring, the polygon or the corner; `LeftOver` if the last ring ends before the last corner, or the last
-    /// polygon before the last ring; `TooFewBoxes`, `TooFewColors` or `TooFewDepths`.
+    /// polygon before the last ring; or the cause of fewer boxes, colours or depths than polygons.
     pub fn draw_polygons(&mut self, polygons: &Polygons<'_>, state: State) -> Result<(), Error> {
         let parts = self.with_scratch(polygons.fill_rule)?;
         let boxes = polygons.shared_boxes(parts.len());

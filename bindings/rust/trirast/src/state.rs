@@ -4,56 +4,7 @@ use std::ops::{BitOr, BitOrAssign};
 
 use trirast_sys as sys;
 
-use crate::Blend;
-
-/// What the indices of a draw are.
-#[derive(Clone, Copy, Debug, Default, PartialEq, Eq, Hash)]
-#[non_exhaustive]
-pub enum Topology {
-    /// Three indices each.
-    #[default]
-    Triangles = 0,
-    /// A triangle strip.
-    Strip = 1,
-    /// Strictly convex quads, four indices each.
-    Quads = 2,
-}
-
-/// Which triangles are dropped. Front-facing ones run clockwise on the screen.
-#[derive(Clone, Copy, Debug, Default, PartialEq, Eq, Hash)]
-#[non_exhaustive]
-pub enum Cull {
-    /// None.
-    #[default]
-    None = 0,
-    /// Front-facing ones.
-    Front = 1,
-    /// Those that run anticlockwise.
-    Back = 2,
-}
-
-/// When the new depth passes its test against the stored one.
-#[derive(Clone, Copy, Debug, Default, PartialEq, Eq, Hash)]
-#[non_exhaustive]
-pub enum DepthTest {
-    /// Always.
-    #[default]
-    Always = sys::TRIRAST_DEPTH_ALWAYS as isize,
-    /// Never.
-    Never = sys::TRIRAST_DEPTH_NEVER as isize,
-    /// The new depth is less.
-    Less = sys::TRIRAST_DEPTH_LESS as isize,
-    /// Both are equal.
-    Equal = sys::TRIRAST_DEPTH_EQUAL as isize,
-    /// The new depth is less or equal.
-    LessEqual = sys::TRIRAST_DEPTH_LESS_EQUAL as isize,
-    /// The new depth is greater.
-    Greater = sys::TRIRAST_DEPTH_GREATER as isize,
-    /// Both differ.
-    NotEqual = sys::TRIRAST_DEPTH_NOT_EQUAL as isize,
-    /// The new depth is greater or equal.
-    GreaterEqual = sys::TRIRAST_DEPTH_GREATER_EQUAL as isize,
-}
+use crate::{Blend, Cull, DepthTest, Topology};
 
 /// Some of the channels of a colour: `Channels::RED | Channels::ALPHA`.
 #[derive(Clone, Copy, Debug, Default, PartialEq, Eq, Hash)]

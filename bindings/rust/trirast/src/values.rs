@@ -2,12 +2,8 @@
 
 use std::fmt;
 
-use crate::canvas::SAMPLE_COUNTS;
+use crate::numbers::{HIGH, LOW, MAX_SIDE, ORIGINS, SAMPLE_COUNTS};
 use crate::{Origin, Position};
-
-/// Values in 1/256 pixel, which positions may have.
-const LOW: i64 = -8_388_608;
-const HIGH: i64 = 8_388_607;
 
 /// What was passed, and what may be.
 #[derive(Clone, Copy, Debug, PartialEq, Eq)]
@@ -44,10 +40,10 @@ impl fmt::Display for Values {
     fn fmt(&self, formatter: &mut fmt::Formatter<'_>) -> fmt::Result {
         match *self {
             Values::None => Ok(()),
-            Values::Canvas([width, height, samples]) => write!(
-                formatter,
-                "1 to 4096 pixels a side and {SAMPLE_COUNTS} samples a pixel, and not {width} by {height} and {samples}"
-            ),
+            Values::Canvas([width, height, samples]) => {
+                write!(formatter, "1 to {MAX_SIDE} pixels a side and {SAMPLE_COUNTS} samples a pixel, ")?;
+                write!(formatter, "and not {width} by {height} and {samples}")
+            }
             Values::Index { given, count } => write!(formatter, "0 to {}, and not {given}", count.saturating_sub(1)),
             Values::TileRows { given: [first, end], own: [own_first, own_end] } => {
                 write!(formatter, "{own_first} to {own_end}, and not {first} to {end}")
@@ -69,7 +65,8 @@ impl fmt::Display for Values {
                 write_position(formatter, at, origin)
             }
             Values::Origin(Origin { x, y }) => {
-                write!(formatter, "an origin of -32768 to 28672 pixels, and not {x} and {y}")
+                let [least, greatest] = ORIGINS;
+                write!(formatter, "an origin of {least} to {greatest} pixels, and not {x} and {y}")
             }
             Values::Ends { begin, end, count, of } => {
                 write!(formatter, "it begins at {begin} and ends at {end}, and there are {count} {of}")

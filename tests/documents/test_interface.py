@@ -1,0 +1,225 @@
+#!/usr/bin/env python3
+"""Tests that what is written from interface/numbers.toml and the header is what they say, that the header's comments
+and the crates have the same numbers, and that the second renderer has the same sample positions.
+
+    python3 -m pytest tests/documents/test_interface.py
+"""
+
+from __future__ import annotations
+
+import re
+from unittest import mock
+
+import pytest
+
+from tests.reference import renderer
+from tools.interface import __main__ as command
+from tools.interface import numbers, outputs
+from tools.interface.header import Function, functions_in, header, structs_in
+from tools.interface.numbers import Enumeration, interface
+from tools.places import text_of
+
+# What every call on a canvas checks first, in the words of the header: "the first check that fails".
+OF_EVERY_CALL = {"BadStructSize", "BadCanvas", "BadTileRows", "BadMemory"}
+NUMBERS = interface().enumerations
+
+
+def crate(*path: str) -> str:
+    return text_of("crates", *path)
+
+
+def numbers_in(text: str, arm: str) -> dict[str, int]:
+    """The numbers of names, of arms or equations of this form."""
+    return {name: int(number) for number, name in re.findall(arm, text, re.MULTILINE)}
+
+
+def own(enumeration: Enumeration) -> dict[str, int]:
+    """The numbers for which the bindings have names."""
+    return {number.name: number.value for number in enumeration.named}
+
+
+class TestWritten:
+    def test_nothing_is_stale(self) -> None:
+        pytest.importorskip("jinja2")
+        assert outputs.stale() == [] and command.main(["--check"]) == 0
+
+    def test_what_differs_is_stale(self) -> None:
+        pytest.importorskip("jinja2")
+        text = text_of(numbers.PATH)
+        for old, new, stale in (
+            ('"there are boxes, but fewer than polygons"', '"there are few boxes"', {
+                "bindings/rust/trirast/src/cause.rs", "docs/errors.md", "include/trirast.h",
+            }),
+            ("count = 2\n", "count = 3\n", {
+                "bindings/rust/trirast/src/numbers.rs", "include/trirast.h", "python/src/trirast/_numbers.py",
+                "web/interface.js",
+            }),
+        ):
+            assert text.count(old) == 1
+            changed = numbers.interface_of(text.replace(old, new))
+            with mock.patch.object(outputs, "interface", lambda: changed):
+                assert stale <= set(outputs.stale())
+
+    def test_a_file_has_each_block_once(self) -> None:
+        jinja2 = pytest.importorskip("jinja2")
+        template = jinja2.Template("{% block one %}1{% endblock %}")
+        lines = "a\n/* generated: one */\nold\n/* end of one */\nb\n"
+        assert outputs.with_parts(lines, template) == lines.replace("old", "1")
+        for wrong in ("a\n", lines.replace("end of one", "end of two")):
+            pytest.raises(ValueError, outputs.with_parts, wrong, template)
+
+    def test_a_number_has_one_name(self) -> None:
+        text = text_of(numbers.PATH)
+        twice = text.replace("[format.Bgra8]\nvalue = 2", "[format.Bgra8]\nvalue = 1")
+        assert twice != text
+        with pytest.raises(ValueError, match="format has a value twice"):
+            numbers.interface_of(twice)
+
+
+class TestHeader:
+    def test_declarations_are_read(self) -> None:
+        text = (
+            "/* A pair. More. */\ntypedef struct trirast_pair {\n    int32_t x, y; /* places; */\n"
+            "    const uint8_t (*colors)[4];\n} trirast_pair;\n\n"
+            "inline size_t trirast_f(const trirast_pair *pair,\n                        void *memory) {\n}\n"
+            "trirast_status trirast_g(void);\nstatic inline int trirast_h(int x) {\n}\n"
+        )
+        (pair,) = structs_in(text).values()
+        assert [(each.name, each.type, each.length) for each in pair.members] == [
+            ("x", "int32_t", 0), ("y", "int32_t", 0), ("colors", "uint8_t", 4)
+        ]
+        assert pair.about == "A pair." and pair.has_pointers
+        first, second = functions_in(text).values()
+        assert (first.name, first.is_inline, [each.name for each in first.parameters]) == (
+            "trirast_f", True, ["pair", "memory"]
+        )
+        assert (second.name, second.is_inline, second.parameters) == ("trirast_g", False, ())
+
+    def test_none_is_left_out(self) -> None:
+        text = re.sub(r"/\*.*?\*/", "", text_of("include", "trirast.h"), flags=re.DOTALL)
+        calls = set(re.findall(r"^(?:inline )?(?:const )?\w+ \*?(trirast_\w+)\(", text, re.MULTILINE))
+        assert set(header().functions) == calls and len(calls) > 40
+        assert set(header().structs) == set(re.findall(r"^typedef struct (\w+) \{$", text, re.MULTILINE))
+
+    @pytest.mark.parametrize("name", [each.name for each in header().public if each.result.type == "trirast_status"])
+    def test_a_comment_names_the_statuses_of_its_call(self, name: str) -> None:
+        function = header().functions[name]
+        name = name.removeprefix("trirast_")
+        listed = {each.name for each in NUMBERS["status"].numbers if name in interface().calls(each.calls)}
+        assert statuses_of(function) == listed
+
+
+def statuses_of(function: Function) -> set[str]:
+    """The statuses that a call returns after an error, by the comment above it in the header."""
+    text = text_of("include", "trirast.h")
+    place = re.search(rf"^(?:inline )?trirast_status {function.name}\(", text, re.MULTILINE)
+    assert place is not None
+    comment = text[: place.start()].rpartition("\n/* ")[2].rpartition("Returns ")[2]
+    names = {numbers.in_words(each.name): each.name for each in NUMBERS["status"].numbers}
+    found = {names[name] for name in re.findall(r"TRIRAST_STATUS_(\w+)", comment)} - {"Ok"}
+    if "the first check that fails" in comment and any(each.type == "trirast_canvas" for each in function.parameters):
+        found |= OF_EVERY_CALL
+    same = re.match(r"what (trirast_\w+) returns", comment)
+    return found | statuses_of(header().functions[same[1]]) if same else found
+
+
+class TestCauses:
+    @pytest.mark.parametrize("group", interface().order)
+    def test_the_order_has_those_that_the_calls_report(self, group: str) -> None:
+        calls = set(interface().calls([group]))
+        causes = NUMBERS["batch_cause"].numbers
+        reported = {cause.name for cause in causes if calls & set(interface().calls(cause.calls))}
+        ordered = {cause.name for cause, _when in interface().order[group]}
+        # Of polygons one line stands for all numbers of a state.
+        state = {cause.name for cause in causes if cause.note.endswith("such a state.")}
+        assert ordered == reported - (state - {"BadFillRule", "BadTopology"} if group == "polygons" else set())
+
+    def test_each_call_is_in_the_header(self) -> None:
+        for enumeration in NUMBERS.values():
+            for number in enumeration.every:
+                for call in interface().calls(number.calls):
+                    assert f"trirast_{call}" in header().functions
+
+    def test_counts_are_members(self) -> None:
+        members = {member.name for member in header().structs["trirast_polygons"].members}
+        assert all(set(cause.counts) <= members for cause in NUMBERS["batch_cause"].numbers)
+
+
+class TestCrates:
+    def test_statuses(self) -> None:
+        text, status = crate("c_abi", "src", "status.rt"), own(NUMBERS["status"])
+        del status["Ok"]
+        specs = crate("c_abi", "specs", "Statuses.antt")
+        for found in (
+            re.findall(r"^    (\w+) = (\d+),$", text, re.MULTILINE),
+            re.findall(r"^status_number (\w+) = (\d+)$", specs, re.MULTILINE),
+        ):
+            assert {name: int(number) for name, number in found} == status
+        assert dict(re.findall(r"^            (\d+) => Status::(\w+),$", text, re.MULTILINE)) == {
+            str(value): name for name, value in status.items()
+        }
+        assert dict(re.findall(r'Status::(\w+) => "(.*)",', text)) == {
+            each.name: each.text for each in NUMBERS["status"].numbers if each.value
+        }
+
+    def test_causes_of_lists(self) -> None:
+        every = {number.name: number.value for number in NUMBERS["list_cause"].every}
+        found = re.findall(r"^ +(\d+) => Some\(ReadKind::(\w+)\),$", crate("trirast_c", "src", "messages.rt"),
+                           re.MULTILINE)
+        assert {name: int(number) for number, name in found} == every
+
+    def test_causes_of_batches(self) -> None:
+        every = own(NUMBERS["batch_cause"])
+        found = re.findall(r"^    (\w+) = (\d+),$", crate("batch", "src", "fault.rt"), re.MULTILINE)
+        assert found and {name: int(number) for name, number in found}.items() <= every.items()
+        of_specs = re.findall(r"^number_of (\w+) = (\d+)$", crate("batch", "specs", "Causes.antt"), re.MULTILINE)
+        assert of_specs == found
+
+    def test_causes_of_polygons(self) -> None:
+        every = own(NUMBERS["batch_cause"])
+        found = re.findall(r"^array_fault \(?(\w+).* cause = (\d+);", crate("canvas_c", "specs", "PolygonChecks.antt"),
+                           re.MULTILINE)
+        names = {"Ring": "BadRing", "Polygon": "BadPolygon", "OutOfBand": "BadPosition", "CornersLeft": "LeftOver",
+                 "RingsLeft": "LeftOver"}
+        assert len(found) == 7 and all(every[names.get(name, name)] == int(number) for name, number in found)
+
+    def test_words_of_causes(self) -> None:
+        text = " ".join(crate("trirast_c", "src", "messages.rt").split())
+        found = re.findall(r'(\d+) => \( ?"([^"]*)", "([^"]*)",? ?\)', text)
+        assert {int(number): words for number, _element, words in found} == {
+            cause.value: cause.text for cause in NUMBERS["batch_cause"].numbers
+        }
+        for number, element, _words in found:
+            (cause,) = (each for each in NUMBERS["batch_cause"].numbers if each.value == int(number))
+            assert cause.element.split(" or ")[0] == element
+
+    def test_formats(self) -> None:
+        found = numbers_in(crate("canvas_c", "src", "images.rt"), r"^ +(\d+) => Some\(Format::(\w+)\),$")
+        assert found == own(NUMBERS["format"])
+
+    def test_factors_and_operations(self) -> None:
+        text = crate("batch", "src", "blend.rt").replace("Colour", "Color")
+        assert numbers_in(text, r"^ +(\d+) => BlendFactor::(\w+),$") == own(NUMBERS["factor"])
+        found = numbers_in(text, r"^ +(?:0 \| )?(\d+) => Some\(BlendOperation::(\w+)\),$")
+        assert found == own(NUMBERS["operation"])
+
+    @pytest.mark.parametrize("name", ["topology", "cull", "depth_test"])
+    def test_states(self, name: str) -> None:
+        (most,) = re.findall(rf"check \(d\.{name} ≤ (\d+)\)", crate("batch", "specs", "States.antt"))
+        assert [number.value for number in NUMBERS[name].numbers] == list(range(int(most) + 1))
+
+    def test_samples(self) -> None:
+        found = re.findall(r"^ +(\d+) => Some\(SampleCount::", crate("grid", "src", "sample_count.rt"), re.MULTILINE)
+        assert list(map(int, found)) == [pattern.count for pattern in interface().samples]
+
+
+class TestOthers:
+    def test_the_second_renderer_has_the_sample_positions(self) -> None:
+        assert {pattern.count: pattern.places for pattern in interface().samples} == renderer.PATTERNS
+        assert [pattern.count for pattern in interface().samples] == list(renderer.PATTERNS)
+
+    def test_each_number_is_of_an_interface_that_there_was(self) -> None:
+        (last,) = re.findall(r"^#define TRIRAST_INTERFACE (\d+)$", text_of("include", "trirast.h"), re.MULTILINE)
+        every = [number.since for enumeration in NUMBERS.values() for number in enumeration.every]
+        every += [limit.since for limit in interface().limits.values()]
+        assert all(1 <= since <= int(last) for since in every + [pattern.since for pattern in interface().samples])

@@ -1,0 +1,1 @@
+"""What is written from interface/numbers.toml and from the declarations of include/trirast.h."""
