@@ -23,6 +23,7 @@
 --   EndsAs: How a run ends: the picture's file was written, or the error explains what was.
 --
 -- Picture.antt
+--   rows_length: How many bytes the rows of pixels in these tile rows have.
 --   WritesRows: What was written is the bytes of the tile rows from `first` to before `end`.
 --   CutsRows: What was written is a beginning of the bytes of the tile rows from `first` on.
 --   ExplainsRows: What was written of the tile rows from `first` to before `end` before this error.

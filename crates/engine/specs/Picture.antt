@@ -1,7 +1,9 @@
 -- How a picture's file is written, tile row after tile row.
-use Rattle.std.specs.Prelude.{◌≡◌, ◌↔◌, ℕ, ◌+◌, ◌-◌, ◌<◌, ◌≤◌, List, length, take, Option, Result, OnOk, IfOk, IfErr, IsErrOf}
+use Rattle.std.specs.Prelude.{◌≡◌, ◌↔◌, ℕ, ◌+◌, ◌-◌, ◌*◌, ◌<◌, ◌≤◌, List, length, min, take, Option, Result, OnOk, IfOk, IfErr, IsErrOf}
 use Rattle.std.specs.Io.KnownBytes.{Keeps, Appends}
+use Rattle.grid.specs.Pixels.{side_of}
 use Rattle.grid.specs.declared.pixels.TileSide.{TileSide}
+use Rattle.model.specs.Picture.{output_pixel_bytes}
 use Rattle.model.specs.Scene.{Scene}
 use Rattle.tiling.specs.TileRow.{AreTileRows}
 use Rattle.engine.specs.Runs.{WritesTileRows, WritesFileUpTo}
@@ -9,6 +11,10 @@ use Rattle.engine.specs.declared.fault.Fault.{Fault}
 use Rattle.engine.specs.declared.fault.Fault.TheVariants.{OutOfMemory as NoMemory, WriteFailed as FailedWrite}
 use Rattle.engine.specs.declared.picture.PictureFault.{PictureFault}
 use Rattle.engine.specs.declared.picture.PictureFault.TheVariants.{NotBegun, OutOfMemory, WriteFailed}
+
+-- How many bytes the rows of pixels in these tile rows have.
+abbrev pub rows_length : Scene → TileSide → ℕ → ℕ → ℕ
+rows_length l side first end = output_pixel_bytes l.output * ((min l.height (side_of side * end) - side_of side * first) * l.width)
 
 -- What was written is the bytes of the tile rows from `first` to before `end`. With the bytes that were written before they are
 -- `count`.

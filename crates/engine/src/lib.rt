@@ -12,5 +12,5 @@ pub use fault::Fault;
 pub use input::read_input;
 pub use options::Options;
 pub use picture::{PictureFault, write_picture};
-pub use picture_bytes::{draw, draw_rows};
+pub use picture_bytes::{bytes_of_rows, draw, draw_rows};
 pub use runs::{read_list, run, run_with};

@@ -7,6 +7,7 @@ ghost use Rattle.engine.specs.declared.picture.PictureFault.TheVariants as pictu
 
 use crate::fault::Fault;
 use crate::options::Options;
+use crate::picture_bytes::bytes_of_rows;
 use bins::Bins;
 use model::DrawList;
 use picture_file::{Counted, WriteFault, ppm_rows, write_header};
@@ -176,8 +177,7 @@ fn write_rows<R: Threads + Wait + Sync, W: Write, G: Gate>(
     } else {
         rows_together(&tiling)
     };
-    let most_rows = (together * options.tile.pixels()).min(list.height());
-    let most_bytes = list.output().pixel_bytes() * list.width() * most_rows;
+    let most_bytes = bytes_of_rows(list, options.tile, 0, together.min(tiling.rows()));
     let Ok(mut bytes) = Vec::with_capacity(alloc, most_bytes as usize) else {
         return Err(PictureFault::NotBegun);
     };

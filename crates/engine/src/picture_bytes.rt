@@ -1,8 +1,9 @@
 //! The bytes of a picture, drawn on the calling thread alone: no thread is started, and none is waited for.
-ghost use Rattle.std.specs.Prelude.{◌≡◌, ◌≤◌, IfOk, OnOk};
+ghost use Rattle.std.specs.Prelude.{◌≡◌, ◌≤◌, ℕ, List, length, IfOk, OnOk};
 ghost use Rattle.tiling.specs.Grid.{tiles_over};
 ghost use Rattle.tiling.specs.TileRow.{AreTileRows, AddsTileRows};
 ghost use Rattle.picture_file.specs.File.{IsPictureFile};
+ghost use Rattle.engine.specs.Picture.{rows_length};
 
 use bins::Bins;
 use grid::{OutOfMemory, TileSide};
@@ -14,12 +15,17 @@ use tile::Store;
 use tile_rows::TileRows;
 use tiling::Tiling;
 
-/// How many bytes the rows of pixels in `rows` tile rows take at most.
-fn most_bytes(list: &DrawList, tile: TileSide, rows: u32) -> usize
-    ensures { result ≤ 50331648 }
+/// The number of bytes of the rows of pixels in these tile rows, from `first` to before `end`.
+pub fn bytes_of_rows(list: &DrawList, tile: TileSide, first: u32, end: u32) -> u64
+    requires order { first ≤ end }
+    requires within { end ≤ tiles_over list.now.height tile }
+    ensures length { result ≡ rows_length list.now tile first end }
+    ensures rows { (rows : List ℕ) → AreTileRows list.now tile first end rows → result ≡ length rows }
+    ensures most { result ≤ 50331648 }
 {
-    let pixel_rows = (u64::from(rows) * u64::from(tile.pixels())).min(u64::from(list.height()));
-    (u64::from(list.output().pixel_bytes() * list.width()) * pixel_rows) as usize
+    let top = tile.pixels() * first;
+    let bottom = list.height().min(tile.pixels() * end);
+    u64::from(list.output().pixel_bytes()) * u64::from(bottom.saturating_sub(top) * list.width())
 }
 
 /// Draws these tile rows, from `first` to before `end`, one by one, and appends the bytes of their rows of pixels.
@@ -59,7 +65,7 @@ pub fn draw_rows(
     requires within { end ≤ tiles_over list.now.height tile }
     ensures { IfOk result (λ bytes. AreTileRows list.now tile first end bytes.items) }
 {
-    let mut bytes = Vec::with_capacity(alloc, most_bytes(list, tile, end - first))?;
+    let mut bytes = Vec::with_capacity(alloc, bytes_of_rows(list, tile, first, end) as usize)?;
     push_tile_rows(alloc, list, tile, first, end, &mut bytes)?;
     Ok(bytes)
 }
@@ -70,7 +76,8 @@ pub fn draw(alloc: Global, list: &DrawList, tile: TileSide) -> Result<Vec<u8>, O
     ensures { IfOk result (λ file. IsPictureFile list.now file.items) }
 {
     let rows = Tiling::new(list.width(), list.height(), tile).rows();
-    let mut file = Vec::with_capacity(alloc, HEADER_BYTES + most_bytes(list, tile, rows))?;
+    let length = HEADER_BYTES + bytes_of_rows(list, tile, 0, rows) as usize;
+    let mut file = Vec::with_capacity(alloc, length)?;
     file.extend_from_slice(file_header(list).as_slice())?;
     push_tile_rows(alloc, list, tile, 0, rows, &mut file)?;
     Ok(file)

@@ -16,7 +16,6 @@
 --   file_length: How many bytes the file of a list's picture has: those of the header, and of each pixel.
 --   IsImageInfo: The width and height of a list's picture in pixels, and the bytes of a pixel, of the header and of the whole file.
 --   HoldsInfo: The image info of the list that the caller gave.
---   rows_length: How many bytes the rows of pixels in these tile rows have.
 --   file_checks: The checks of a list whose file is drawn: its bytes fit.
 --   picture_checks: The checks of a call that draws the file of a list.
 --   rows_checks: The checks of a call that draws tile rows of a list.

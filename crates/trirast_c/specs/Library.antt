@@ -10,6 +10,7 @@ use Rattle.model.specs.Scene.{Scene}
 use Rattle.tiling.specs.Grid.{tiles_over}
 use Rattle.tiling.specs.TileRow.{AreTileRows}
 use Rattle.picture_file.specs.File.{header_of, IsPictureFile}
+use Rattle.engine.specs.Picture.{rows_length}
 use Rattle.c_abi.specs.declared.status.Status.{Status}
 use Rattle.c_abi.specs.declared.status.Status.TheVariants.{OutOfMemory, BufferTooSmall, BadTileSize, BadTileRows}
 use Rattle.trirast_c.specs.Texts.{text_checks}
@@ -78,10 +79,6 @@ pub record HoldsInfo (Means : Scene → Type 0) (info : ImageInfo) : Type 0 wher
   pub is : IsImageInfo list info
 
 -- ---- the checks of calls
-
--- How many bytes the rows of pixels in these tile rows have.
-abbrev pub rows_length : Scene → TileSide → ℕ → ℕ → ℕ
-rows_length l side first end = output_pixel_bytes l.output * ((min l.height (side_of side * end) - side_of side * first) * l.width)
 
 -- The checks of a list whose file is drawn: its bytes fit. Then memory is allocated.
 abbrev pub file_checks : Scene → ℕ → Checks Status

@@ -1,35 +1,18 @@
 //! Tile rows of a list's picture, as bytes in the caller's buffer.
-ghost use Rattle.std.specs.Prelude.{◌≡◌, ◌≢◌, ◌<◌, ◌≤◌, ℕ, List, length, OnOk, OnErr, ⊤};
+ghost use Rattle.std.specs.Prelude.{◌≡◌, ◌≢◌, length, OnOk, OnErr, ⊤};
 ghost use Rattle.list_json.specs.Denotes.{Denotes};
-ghost use Rattle.tiling.specs.Grid.{tiles_over};
-ghost use Rattle.tiling.specs.TileRow.{AreTileRows};
 ghost use Rattle.c_abi.specs.Calls.{IsCall, IsReport};
 ghost use Rattle.trirast_c.specs.Texts.{IsFirstOfText};
-ghost use Rattle.trirast_c.specs.Library.{DrawsRows, rows_checks, rows_length};
+ghost use Rattle.trirast_c.specs.Library.{DrawsRows, rows_checks};
 
 use crate::buffer::put;
 use crate::text::list_of;
 use crate::tile_size::side_of;
 use c_abi::{CallError, Error, Status, report};
-use engine::draw_rows;
-use grid::TileSide;
-use list::DrawList;
+use engine::{bytes_of_rows, draw_rows};
 use std::alloc::Global;
 use std::ops::Range;
 use tiling::Tiling;
-
-/// The number of bytes of the rows of pixels in these tile rows.
-fn bytes_of_rows(list: &DrawList, side: TileSide, first: u32, end: u32) -> u64
-    requires order { first < end }
-    requires within { end ≤ tiles_over list.now.height side }
-    ensures length { result ≡ rows_length list.now side first end }
-    ensures rows { (rows : List ℕ) → AreTileRows list.now side first end rows → result ≡ length rows }
-{
-    let height = list.height();
-    let top = side.pixels() * first;
-    let bottom = height.min(side.pixels() * end);
-    u64::from(list.output().pixel_bytes()) * u64::from((bottom - top) * list.width())
-}
 
 /// Draws the rows of pixels in these tile rows into the buffer. They are drawn into memory of their own first, so that
 /// the buffer is unchanged if an allocation fails.

@@ -3,7 +3,8 @@ use Rattle.grid.specs.Pixels.{side_of}
 use Rattle.grid.specs.declared.pixels.TileSide.{TileSide}
 use Rattle.list_json.specs.Denotes.{Denotes}
 use Rattle.model.specs.Scene.{Scene}
-use Rattle.trirast_c.specs.Library.{HasTileRows, rows_length}
+use Rattle.engine.specs.Picture.{rows_length}
+use Rattle.trirast_c.specs.Library.{HasTileRows}
 use Rattle.trirast_c.proofs.picture_rows.draw_rows_into.Goals as goal
 use Rattle.trirast_c.proofs.picture_rows.draw_rows_into.Goals.{then-first-end-via-then-first-end, then-first-end-via-else-first-end+then-end-rows}
 

@@ -1,7 +1,7 @@
 use Rattle.std.proofs.Common.{◌*◌, ◌<◌, refl, arith}
 use Rattle.tiling.specs.Grid.{tiles_over}
 use Rattle.tiling.proofs.Intervals.{begin_fits}
-use Rattle.trirast_c.proofs.picture_rows.bytes_of_rows.Goals as goal
+use Rattle.engine.proofs.picture_bytes.bytes_of_rows.Goals as goal
 
 pub overflow_mul-top : goal.overflow_mul-top
 overflow_mul-top c =
