@@ -23,8 +23,9 @@ pub fn bytes_of_rows(list: &DrawList, tile: TileSide, first: u32, end: u32) -> u
     ensures rows { (rows : List ℕ) → AreTileRows list.now tile first end rows → result ≡ length rows }
     ensures most { result ≤ 50331648 }
 {
+    let height = list.height();
     let top = tile.pixels() * first;
-    let bottom = list.height().min(tile.pixels() * end);
+    let bottom = height.min(tile.pixels() * end);
     u64::from(list.output().pixel_bytes()) * u64::from(bottom.saturating_sub(top) * list.width())
 }
 
