@@ -17,8 +17,8 @@ HEADER = b"\0asm\1\0\0\0"
 CUSTOM, IMPORT, CODE = 0, 2, 10
 # Of the section of names: the names of functions.
 OF_FUNCTIONS = 1
-# The crates whose functions polygons alone need.
-UNUSED = ("painting::", "polygons::")
+# What polygons alone need: two crates, and blocks of up to four colours, which only polygons make.
+UNUSED = ("painting::", "polygons::", "blocks::palette::")
 # No locals, `unreachable` and `end`.
 TRAP = bytes((0x00, 0x00, 0x0B))
 
