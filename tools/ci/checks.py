@@ -81,35 +81,35 @@ INSTALLATION = (*EVERYTHING, "why", "installed")
 CHECKS = (
     Check(
         name="check-ci",
-        about="what `make test` and `.ci/run` count and refuse",
+        about="what `make test` and `.ci/run` count and reject",
         command="pytest tests/gate", seconds=8,
     ),
     Check(
         name="types",
-        about="types of the Python sources, by mypy in its strict form",
+        about="types of the Python sources, with mypy in its strict form",
         command="mypy", seconds=50,
         needs=("mypy",),
     ),
     Check(
         name="reference",
-        about="worked values of the second renderer",
+        about="worked values of the reference renderer",
         command="pytest tests/reference/test_renderer.py", seconds=3,
     ),
     Check(
         name="documents",
-        about="documents, the statement, must-fail edits and contracts against the sources; what is written from "
+        about="pages, the statement, must-fail edits and contracts against the sources; what is written from "
         "interface/numbers.toml; the length of lines and sentences",
         command="pytest tests/documents --ignore tests/documents/pages", seconds=12,
     ),
     Check(
         name="schema",
-        about="the JSON Schema on examples and refused lists",
+        about="the JSON Schema, on examples and invalid lists",
         command="tests.list.schema", seconds=20,
         needs=("python:jsonschema",),
     ),
     Check(
         name="acceptance",
-        about="the program's pictures, lines and statuses, by lists, arguments and devices that fail",
+        about="the program's images, lines and statuses, for lists, arguments and devices that fail",
         command="pytest tests/program", seconds=8,
         runs=("program", "why"),
     ),
@@ -120,14 +120,14 @@ CHECKS = (
     ),
     Check(
         name="compare",
-        about="generated lists, every byte against a second renderer",
+        about="generated lists, every byte against the reference renderer",
         command="tests.reference.compare --lists 600 --refused 300", seconds=60,
         long="--lists 4000 --refused 2000", long_seconds=300,
         runs=("program",),
     ),
     Check(
         name="compare-history",
-        about="histories of trirast_why against the second renderer, reason by reason, and the pictures",
+        about="histories and images of trirast_why against the reference renderer, reason by reason",
         command="tests.reference.compare_history --lists 100 --counted 100", seconds=22,
         long="--lists 500 --counted 500", long_seconds=130,
         runs=("program", "why"),
@@ -141,77 +141,76 @@ CHECKS = (
     ),
     Check(
         name="compare-canvas",
-        about="generated lists on canvases, split into batches, by Python and by C, against "
-        "program and second renderer",
+        about="generated lists on canvases, in batches, from Python and C, against the program and the reference "
+        "renderer",
         command="tests.reference.compare_canvas --lists 200", seconds=20,
         long="--lists 1000", long_seconds=90,
         runs=EVERYTHING, needs=COMPILER,
     ),
     Check(
         name="compare-polygons",
-        about="polygons, triangles and pictures on canvases that keep blocks in every way, against the rules sample "
-        "by sample",
+        about="polygons, triangles and images on canvases in every storage mode, against the rules sample by sample",
         command="tests.reference.compare_polygons --scenes 45", seconds=15,
         long="--scenes 450", long_seconds=110,
         runs=("library",), needs=("python:numpy",),
     ),
     Check(
         name="canvas-mutants",
-        about="mutants of the second renderer's canvases",
+        about="mutants of the reference renderer's canvases, which the comparison has to find",
         command="pytest tests/reference/canvas_mutants.py", seconds=25,
         runs=EVERYTHING, needs=COMPILER,
     ),
     Check(
         name="polygon-mutants",
-        about="mutants of a canvas that keeps blocks in ways, which the comparison of polygons has to find",
+        about="mutants of a canvas with storage modes, which the comparison of polygons has to find",
         command="pytest tests/reference/test_compare_polygons.py", seconds=45,
         needs=("python:numpy",),
     ),
     Check(
         name="check-golden",
-        about="how pictures are compared and recorded",
+        about="how images are compared and recorded",
         command="pytest tests/program/test_golden.py", seconds=3,
     ),
     Check(
         name="golden",
-        about="pictures of examples/ and tests/regressions/ by their checksums",
+        about="images of examples/ and tests/regressions/, by their checksums",
         command="tests.program.golden", seconds=37,
         runs=("program",),
     ),
     Check(
         name="mutants",
-        about="mutants of the second renderer, which the comparison has to find",
+        about="mutants of the reference renderer, which the comparison has to find",
         command="pytest tests/reference/mutants.py", seconds=25,
         runs=("program",),
     ),
     Check(
         name="check-conformance",
-        about="the comparison with drivers, by mutants and by recorded answers",
+        about="the comparison with drivers, with mutants and recorded answers",
         command="pytest conformance", seconds=90,
         long="-m 'long or not long'", long_seconds=295,
     ),
     Check(
         name="injection",
-        about="mistakes after failed allocations, by mutants",
+        about="mistakes after failed allocations, with mutants",
         command="pytest tests/program/test_injection.py", seconds=20,
         needs=COMPILER,
     ),
     Check(
         name="allocation-failures",
-        about="the program where allocations fail",
+        about="the program, where allocations fail",
         command="pytest tests/program/allocation_failures.py -k 'not Draws and not Tiles'", seconds=22,
         runs=("program",), needs=COMPILER,
     ),
     Check(
         name="allocation-failures-inside",
-        about="tiles and readers by themselves where allocations fail, and tiles beside the reference crate",
+        about="tiles and readers, where allocations fail, and tiles against the reference crate",
         command="pytest tests/program/allocation_failures.py tests/program/test_tiles.py -k 'Draws or Tiles'",
         seconds=15,
         runs=("readers",), needs=COMPILER,
     ),
     Check(
         name="fuzz-reader",
-        about="made-up texts, right, nearly right and cut, by both readers of draw lists",
+        about="fuzzed texts, valid, nearly valid and cut, in both readers of draw lists",
         command="tests.list.fuzz_reader --texts 20000", seconds=4,
         long="--texts 1000000", long_seconds=150,
         runs=("readers",),
@@ -224,14 +223,14 @@ CHECKS = (
     ),
     Check(
         name="check-library",
-        about="library, header, packages in Python and Rust and examples against the program",
+        about="the library, the header, the packages for Python and Rust, and the examples, against the program",
         command="pytest tests/library", seconds=350,
         long="-m 'long or not long'", long_seconds=390,
         runs=INSTALLATION, needs=COMPILER,
     ),
     Check(
         name="pages",
-        about="each command and example of README and docs/, run as it stands",
+        about="each command and example of README and docs/, run as it is printed",
         command="pytest tests/documents/pages", seconds=50,
         runs=INSTALLATION, needs=COMPILER,
     ),
@@ -250,23 +249,22 @@ CHECKS = (
     ),
     Check(
         name="shade",
-        about="shading in C and C++: weights and pictures beside exact ones, the same bytes by "
-        "every compiler, mutants",
+        about="shading in C and C++: weights and images against exact ones, the same bytes by every compiler, mutants",
         command="pytest tests/shade", seconds=85,
         long="-m 'long or not long'", long_seconds=600,
         runs=("library",), needs=(*COMPILER, "g++"),
     ),
     Check(
         name="guarded",
-        about="random calls on canvases between guard pages, beside a plain renderer, random clipping and shading "
-        "under sanitizers, and the mistakes that TRIRAST_CHECKS reports",
+        about="random calls on canvases between guard pages, against a plain renderer; clipping and shading under "
+        "sanitizers; what TRIRAST_CHECKS reports",
         command="pytest tests/guarded", seconds=80,
         long="-m 'long or not long'", long_seconds=1300,
         runs=("library",), needs=(*COMPILER, "g++"),
     ),
     Check(
         name="fuzz-package",
-        about="calls of the Python package that are made up, each picture against a plain one",
+        about="fuzzed calls of the Python package, each image against a plain one",
         command="tests.python.fuzz_package --calls 400", seconds=4,
         long="--calls 10000", long_seconds=200,
         runs=EVERYTHING, needs=COMPILER,
@@ -279,7 +277,7 @@ CHECKS = (
     ),
     Check(
         name="check-poster",
-        about="posters against the program, stopped, damaged and resumed",
+        about="posters against the program: interrupted, damaged and resumed",
         command="pytest tests/posters", seconds=260,
         long="--long -m 'long or not long'", long_seconds=1400,
         runs=EVERYTHING, needs=(*COMPILER, "python:numpy"),
