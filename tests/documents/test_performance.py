@@ -37,7 +37,7 @@ def test_frames_beside_llvmpipe() -> None:
         [f"`{scene}`", one[2].split()[0], one[3], one[5], four[5]]
         for scene, one, four in ((scene, found[scene, "1"], found[scene, "4"]) for scene in scenes)
     ]
-    assert f"On four threads it takes {span([row[4] for row in table('Compared with llvmpipe')])}" in flat()
+    assert f"With four threads each, it takes {span([row[4] for row in table('Compared with llvmpipe')])}" in flat()
 
 
 def test_polygons_beside_cairo() -> None:
