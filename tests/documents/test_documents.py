@@ -172,7 +172,7 @@ class Names(unittest.TestCase):
     def test_sample_patterns(self) -> None:
         table = text_of("docs/rules.md").split("## Sample positions")[1].split("\n\n")[2]
         listed = {
-            int(count): re.findall(r"\((-?\d), (-?\d)\)", positions) for count, positions in list(rows(table))[1:]
+            int(count): re.findall(r"\((-?\d),(-?\d)\)", positions) for count, positions in list(rows(table))[1:]
         }
         found = {count: tuple((int(x), int(y)) for x, y in positions) for count, positions in listed.items()}
         self.assertEqual(found, renderer.PATTERNS)
