@@ -6,7 +6,7 @@ import os
 import re
 from typing import Any
 
-from tools.interface import layout
+from tools.interface import lines, of_c, of_page, of_python, of_rust
 from tools.interface.header import header
 from tools.interface.numbers import interface
 from tools.places import TOP, text_of
@@ -39,11 +39,12 @@ def environment() -> Any:
         loader=jinja2.FileSystemLoader(FOLDER), undefined=jinja2.StrictUndefined, trim_blocks=True, lstrip_blocks=True,
         keep_trailing_newline=True, autoescape=False,
     )
-    found.filters.update({name: value for name, value in vars(layout).items() if callable(value)})
+    for module in (lines, of_c, of_page, of_python, of_rust):
+        found.filters.update({name: value for name, value in vars(module).items() if callable(value)})
     of_header = text_of("include", "trirast.h")
     found.globals.update(
         interface=interface(), header=header(), **interface().enumerations, limits=interface().limits,
-        samples=interface().samples, structs=header().structs, functions=header().public, layout=layout,
+        samples=interface().samples, structs=header().structs, functions=header().public,
         defined=dict(re.findall(r'^#define TRIRAST_(\w+) "?([\w.]+)"?$', of_header, re.MULTILINE)),
     )
     return found
