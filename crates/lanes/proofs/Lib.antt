@@ -4,5 +4,6 @@ pub mod LaneNumbers
 pub mod Lanes
 pub mod Lanewise
 pub mod Flat
+pub mod Given
 pub mod Groups
 pub mod Rows

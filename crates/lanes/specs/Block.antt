@@ -5,7 +5,6 @@ use Rattle.planes.specs.Multiple.{IsSixteenth}
 use Rattle.grid.specs.Triangle.{Covers}
 use Rattle.shade.specs.declared.sample.CanvasSample.{CanvasSample}
 use Rattle.shade.specs.declared.placed.Placed.{Placed}
-use Rattle.shade.specs.Canvas.{IsCanvasDrawnAt}
 use Rattle.planes.specs.Group.{position_in}
 use Rattle.lanes.specs.declared.block_samples.BlockSamples.{BlockSamples}
 
@@ -26,9 +25,9 @@ pub record IsOnScreen (p : Position) : Type 0 where
 abbrev pub CoversMask : Placed → Position → ℕ → Type 0
 CoversMask t p mask = (k : ℕ) → k < 64 → IsBitSet mask k → Covers t.tri.a t.tri.b t.tri.c (position_in p k)
 
--- Of the n samples from k on those in the mask are drawn, and all other samples are unchanged.
-pub record AreDrawn (t : Placed) (p : Position) (mask : ℕ) (old new : BlockSamples) (k n : ℕ) : Type 0 where
-  pub drawn : (j : ℕ) → k ≤ j → j < k + n → IsBitSet mask j → IsCanvasDrawnAt t (position_in p j) (stored_at old j) (stored_at new j)
+-- Of the n samples from k on those in the mask become what D says of their points, and all other samples are unchanged.
+pub record AreDrawn (D : Position → CanvasSample → CanvasSample → Type 0) (p : Position) (mask : ℕ) (old new : BlockSamples) (k n : ℕ) : Type 0 where
+  pub drawn : (j : ℕ) → k ≤ j → j < k + n → IsBitSet mask j → D (position_in p j) (stored_at old j) (stored_at new j)
   pub kept : (j : ℕ) → k ≤ j → j < k + n → ¬ IsBitSet mask j → stored_at new j ≡ stored_at old j
   pub below : (j : ℕ) → j < k → stored_at new j ≡ stored_at old j
   pub above : (j : ℕ) → k + n ≤ j → j < 64 → stored_at new j ≡ stored_at old j

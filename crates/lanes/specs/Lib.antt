@@ -1,16 +1,22 @@
 -- The definitions of this crate, each file behind those that it uses; `python3 -m tools.definitions` writes these lines.
 --
+-- Fragment.antt
+--   FlatFragment: One colour and one depth for all samples, and the state in which they are drawn.
+--   Takes: What a sample becomes that takes the fragment, by the depth test, the write mask and the blending of its state.
+--
 -- Block.antt
 --   stored_at: The stored sample of pixel k, counted row by row.
 --   IsOnScreen: A block whose first sample is at p lies on the screen, which is 4096 by 4096 pixels.
 --   CoversMask: The triangle covers the samples in the mask, of a block whose first sample is at p.
---   AreDrawn: Of the n samples from k on those in the mask are drawn, and all other samples are unchanged.
+--   AreDrawn: Of the n samples from k on those in the mask become what D says of their points, and all other samples are unchanged.
 --
 -- BlockMask.antt
 --   first_of: Where sample s of the part, of the first pixel of the block, lies.
 --   plane_of: The samples s of a part of a block, as they are stored.
 --   CoversBlock: The triangle covers the samples in the masks of a block.
---   IsBlockDrawn: The samples in the masks of a block are drawn, and the others are unchanged.
+--   IsBlockDrawnBy: The samples in the masks of a block become what D says of their points, and the others are unchanged.
+--   IsBlockDrawn: The triangle is drawn at the samples in the masks of a block, and the others are unchanged.
+--   IsBlockMerged: The samples in the masks of a block take the fragment, and the others are unchanged.
 --
 -- Lanes.antt
 --   IsMaskLane: A lane of a mask says whether P holds: all its bits are set if it does, and none if it does not.
@@ -32,8 +38,14 @@
 --   HasSmallSum: Two terms of at most 255 * 255 each, of bytes with these factors, add up to at most 255 * 255.
 --
 -- Sources.antt
+--   NeedsNoDepth: The depth has no part in a merge: each depth passes, and none is stored.
+--   HasDepthAt: The plane has the triangle's depth z at a point that the triangle covers.
+--   GivesDepth: The source gives this depth at a point, if it has a part in the merge.
+--   HasColour: The fragment has this red, green and blue if they are written, and this alpha if the merge reads it.
+--   HasColourAt: The planes have the colour of the triangle's fragment at a point that the triangle covers.
+--   GivesColour: The source gives the fragment's colour at a point in the channels that are written, and its alpha if the merge reads it.
+--   TakesGiven: The sample at a point takes each fragment that the sources give there.
 --   IsFlat: The three vertices have the same value v.
---   NeedsNoDepth: The depth has no part in what the triangle draws: each depth passes, and none is stored.
 --   IsDepthOf: The source gives the triangle's depth.
 --   IsFlatColour: The vertices have the same red, green and blue if they are written, and the same alpha if the draw reads it.
 --   IsColourOf: The source gives the triangle's colour in the channels that are written, and its alpha if the draw reads it.
@@ -49,10 +61,8 @@
 --   WritesEachColour: The merge writes red, green and blue.
 --   WritesColours: The merge writes red, green and blue, and alpha or not.
 --   WritesNoColour: The merge writes neither red, green and blue nor alpha.
---   IsMergeMode: Samples can be merged in this mode: one after another always, and sixteen at once by the equation of the merge.
---   IsDrawnBy: The triangle can be drawn sixteen samples at once by this depth and this colour, and its draw blends by the known equation.
---   IsDrawModeOf: The triangle can be drawn in this mode, by this depth and this colour if sixteen samples are drawn at once.
---   AreSourcesOf: What a triangle is drawn by: the merge of its draw, its depth and its colour.
+--   IsMergeMode: Samples can be merged sixteen at once in this mode, by the equation of the merge.
+--   IsReady: The triangle can be drawn in this mode by this depth and this colour.
 --   known_of: The colour equation of a draw list's `over`, or of its `none`.
 --
 -- Merging.antt
@@ -69,6 +79,7 @@
 -- Sums.antt
 --   AreSums: Lane i is the sum of what f is of n samples at pixel i.
 
+pub mod Fragment
 pub mod Block
 pub mod BlockMask
 pub mod Lanes

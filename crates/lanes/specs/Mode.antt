@@ -1,12 +1,10 @@
 -- How a triangle is drawn.
-use Rattle.std.specs.Prelude.{◌≡◌, Bool, true, false, [], ◌∷◌}
+use Rattle.std.specs.Prelude.{◌≡◌, Bool, true, false, [], ◌∷◌, Option, None, Some}
 use Rattle.shade.specs.declared.placed.Placed.{Placed}
 use Rattle.shade.specs.declared.sample.Merge.{Merge}
 use Rattle.shade.specs.declared.equation.Equation.{Equation}
 use Rattle.shade.specs.declared.known.KnownEquation.{KnownEquation}
 use Rattle.shade.specs.declared.known.KnownEquation.TheVariants.{Replace, Over, Other}
-use Rattle.lanes.specs.declared.sources.DepthSource.{DepthSource}
-use Rattle.lanes.specs.declared.sources.ColourSource.{ColourSource}
 use Rattle.lanes.specs.declared.mode.DepthMode.{DepthMode}
 use Rattle.lanes.specs.declared.mode.DepthMode.TheVariants.{Unused, Flat, Plane}
 use Rattle.lanes.specs.declared.mode.ColourMode.{ColourMode}
@@ -17,11 +15,11 @@ use Rattle.lanes.specs.declared.mode.Depth.{Depth}
 use Rattle.lanes.specs.declared.mode.Colour.{Colour}
 use Rattle.shade.specs.Presets.{AreAlike, IsKnown, replace, premultiplied_over}
 use Rattle.planes.specs.AttributePlane.{IsDepthPlane, AreColourPlanes}
-use Rattle.lanes.specs.Sources.{NeedsNoDepth, IsFlat, IsFlatColour, IsDepthOf, IsColourOf}
+use Rattle.lanes.specs.Sources.{NeedsNoDepth, IsFlat, IsFlatColour}
 
 -- What has to hold so that a triangle's depth can be computed in this mode.
 abbrev pub IsDepthMode : Placed → DepthMode → Type 0
-IsDepthMode t Unused = NeedsNoDepth t
+IsDepthMode t Unused = NeedsNoDepth t.state.merge
 IsDepthMode t (Flat z) = IsFlat t.z z
 IsDepthMode t Plane = Unit {0}
 
@@ -69,11 +67,10 @@ pub record WritesNoColour (m : Merge) : Type 0 where
   pub colours : m.write ≡ false ∷ false ∷ false ∷ []
   pub without_alpha : m.blend.write_alpha ≡ false
 
--- Samples can be merged in this mode: one after another always, and sixteen at once by the equation of the merge. The two
+-- Samples can be merged sixteen at once in this mode, by the equation of the merge. The two
 -- equations of draw lists have modes of their own, in which red, green and blue are written, and alpha is not, or by the blend state
 -- of this equation. Any equation has a mode in which red, green and blue are written, and that of `none` one in which nothing but depths is.
 abbrev pub IsMergeMode : Merge → DrawMode → Type 0
-IsMergeMode m draw.Each = Unit {0}
 IsMergeMode m draw.Replace = IsKnown Replace m.blend.colour × WritesColours false false m
 IsMergeMode m draw.Over = IsKnown Over m.blend.colour × WritesColours true false m
 IsMergeMode m draw.ReplaceWithAlpha = IsKnown Replace m.blend.colour × WritesColours false true m
@@ -82,28 +79,10 @@ IsMergeMode m draw.Blend = WritesEachColour m
 IsMergeMode m draw.Depths = IsKnown Replace m.blend.colour × WritesNoColour m
 IsMergeMode m (draw.Otherwise known) = IsKnown known m.blend.colour
 
--- The triangle can be drawn sixteen samples at once by this depth and this colour, and its draw blends by the known equation.
-pub record IsDrawnBy (t : Placed) (known : KnownEquation) (depth : Depth) (colour : Colour) : Type 0 where
-  pub known_of : IsKnown known t.state.merge.blend.colour
-  pub depth_of : IsDepthBy t depth
-  pub colour_of : IsColourBy t colour
-
--- The triangle can be drawn in this mode, by this depth and this colour if sixteen samples are drawn at once.
-abbrev pub IsDrawModeOf : Placed → DrawMode → Depth → Colour → Type 0
-IsDrawModeOf t draw.Each depth colour = Unit {0}
-IsDrawModeOf t draw.Replace depth colour = IsDrawnBy t Replace depth colour × WritesColours false false t.state.merge
-IsDrawModeOf t draw.Over depth colour = IsDrawnBy t Over depth colour × WritesColours true false t.state.merge
-IsDrawModeOf t draw.ReplaceWithAlpha depth colour = IsDrawnBy t Replace depth colour × WritesColours false true t.state.merge
-IsDrawModeOf t draw.OverWithAlpha depth colour = IsDrawnBy t Over depth colour × WritesColours true true t.state.merge
-IsDrawModeOf t draw.Blend depth colour = IsDrawnBy t Other depth colour × WritesEachColour t.state.merge
-IsDrawModeOf t draw.Depths depth colour = IsDrawnBy t Replace depth colour × WritesNoColour t.state.merge
-IsDrawModeOf t (draw.Otherwise known) depth colour = IsDrawnBy t known depth colour
-
--- What a triangle is drawn by: the merge of its draw, its depth and its colour.
-pub record AreSourcesOf (t : Placed) (merge : Merge) (depth : DepthSource) (colour : ColourSource) : Type 0 where
-  pub merge_of : t.state.merge ≡ merge
-  pub depth_of : IsDepthOf t depth
-  pub colour_of : IsColourOf t colour
+-- The triangle can be drawn in this mode by this depth and this colour. Without a mode it is drawn sample by sample, which every triangle can be.
+abbrev pub IsReady : Placed → Option DrawMode → Depth → Colour → Type 0
+IsReady t None depth colour = Unit {0}
+IsReady t (Some mode) depth colour = IsMergeMode t.state.merge mode × IsDepthBy t depth × IsColourBy t colour
 
 -- The colour equation of a draw list's `over`, or of its `none`.
 abbrev pub known_of : Bool → KnownEquation

@@ -1,15 +1,14 @@
-//! How a triangle is drawn at the samples of a block.
+//! How the samples of a block are drawn.
 ghost use Rattle.std.specs.Prelude.{◌≡◌, ℕ, ◌+◌, ◌*◌, ◌<◌, IsBitSet, IsTrue, false, length};
 ghost use Rattle.grid.specs.Samples.{part_size};
-ghost use Rattle.shade.specs.declared.placed.Placed.{Placed as Triangle};
 ghost use Rattle.shade.specs.Presets.{IsKnown};
-ghost use Rattle.shade.specs.declared.known.KnownEquation.TheVariants.{Replace, Other};
-ghost use Rattle.planes.specs.Group.{position_in};
-ghost use Rattle.lanes.specs.Block.{IsOnScreen, CoversMask, AreDrawn};
-ghost use Rattle.lanes.specs.BlockMask.{CoversBlock, IsBlockDrawn};
+ghost use Rattle.shade.specs.declared.known.KnownEquation.TheVariants.{Replace};
+ghost use Rattle.lanes.specs.declared.sources.DepthSource.TheVariants.{Unused};
+ghost use Rattle.lanes.specs.Block.{IsOnScreen, AreDrawn};
+ghost use Rattle.lanes.specs.BlockMask.{CoversBlock, IsBlockDrawn, IsBlockDrawnBy};
 ghost use Rattle.lanes.specs.Lanes.{IsMask};
-ghost use Rattle.lanes.specs.Mode.{AreSourcesOf, IsDrawnBy, IsColourBy, WritesEachColour, WritesColours, WritesNoColour, known_of};
-ghost use Rattle.lanes.specs.Sources.{NeedsNoDepth};
+ghost use Rattle.lanes.specs.Mode.{IsMergeMode, WritesEachColour, WritesColours, WritesNoColour, known_of};
+ghost use Rattle.lanes.specs.Sources.{TakesGiven};
 
 use crate::block_mask::BlockMask;
 use crate::block_samples::BlockSamples;
@@ -17,12 +16,12 @@ use crate::group::draw_group;
 use crate::interpolants::Interpolants;
 use crate::known::{whole, with_known, writing_all, writing_no_colour};
 use crate::lane_mask::lanes_of_mask;
-use crate::mode::{Colour, ColourMode, Depth, DepthMode, DrawMode};
+use crate::mode::DrawMode;
 use crate::one_by_one::draw_each;
 use crate::sources::{ColourSource, DepthSource};
 use grid::Point;
 use planes::Corrections;
-use shade::{KnownEquation, Merge, Placed};
+use shade::{KnownEquation, Merge};
 use std::simd::prelude::*;
 
 /// Whether some pixel of a group of two rows is in the mask.
@@ -64,8 +63,7 @@ fn draw_rows<const ANY: bool>(
     requires group { group < 4 }
     requires on_screen { IsOnScreen p }
     requires whole { IsTrue whole → (k : ℕ) → k < 64 → IsBitSet mask k }
-    ensures { (t : Triangle) → AreSourcesOf t merge.now depth.now colour.now → CoversMask t p mask
-        → AreDrawn t p mask samples.old samples.new (16 * group) 16 }
+    ensures { AreDrawn (TakesGiven merge.now depth.now colour.now) p mask samples.old samples.new (16 * group) 16 }
 {
     if !whole && !has_some(mask, group) {
         return;
@@ -99,8 +97,7 @@ fn draw_block<const ANY: bool>(
 )
     requires on_screen { IsOnScreen p }
     requires whole { IsTrue whole → (k : ℕ) → k < 64 → IsBitSet mask k }
-    ensures { (t : Triangle) → AreSourcesOf t merge.now depth.now colour.now → CoversMask t p mask
-        → AreDrawn t p mask samples.old samples.new 0 64 }
+    ensures { AreDrawn (TakesGiven merge.now depth.now colour.now) p mask samples.old samples.new 0 64 }
 {
     for group in 0..4u64 {
         draw_rows::<ANY>(
@@ -139,8 +136,7 @@ fn draw_by_mask<const ANY: bool>(
     corrections: &mut Corrections,
 )
     requires { IsOnScreen p }
-    ensures { (t : Triangle) → AreSourcesOf t merge.now depth.now colour.now → CoversMask t p mask
-        → AreDrawn t p mask samples.old samples.new 0 64 }
+    ensures { AreDrawn (TakesGiven merge.now depth.now colour.now) p mask samples.old samples.new 0 64 }
 {
     let whole = is_whole(mask);
     if whole || mask != 0 {
@@ -159,8 +155,7 @@ fn draw_planes<const ANY: bool>(
     corrections: &mut Corrections,
 )
     requires { length samples.old ≡ part_size mask.now.count }
-    ensures drawn { (t : Triangle) → AreSourcesOf t merge.now depth.now colour.now → CoversBlock t mask.now
-        → IsBlockDrawn t mask.now samples.old samples.new }
+    ensures drawn { IsBlockDrawnBy (TakesGiven merge.now depth.now colour.now) mask.now samples.old samples.new }
     ensures samples { length samples.new ≡ length samples.old }
 {
     for s in 0..mask.count.part_size() {
@@ -182,51 +177,51 @@ fn draw_planes<const ANY: bool>(
 /// stands in line.
 #[inline(never)]
 fn draw_by_sources<const OVER: bool, const ALPHA: bool>(
-    placed: &Placed,
-    depth: &Depth,
-    colour: &Colour,
+    merge: &Merge,
+    depth: &DepthSource<'_>,
+    colour: &ColourSource<'_>,
     mask: &BlockMask,
     samples: &mut [BlockSamples],
     corrections: &mut Corrections,
 )
-    requires by { IsDrawnBy placed.now (known_of OVER) depth.now colour.now }
-    requires all { WritesColours OVER ALPHA placed.now.state.merge }
+    requires known { IsKnown (known_of OVER) merge.now.blend.colour }
+    requires all { WritesColours OVER ALPHA merge.now }
     requires samples { length samples.old ≡ part_size mask.now.count }
-    ensures drawn { CoversBlock placed.now mask.now → IsBlockDrawn placed.now mask.now samples.old samples.new }
+    ensures drawn { IsBlockDrawnBy (TakesGiven merge.now depth.now colour.now) mask.now samples.old samples.new }
     ensures samples { length samples.new ≡ length samples.old }
 {
-    let merge = &whole::<OVER, ALPHA>(&placed.state.merge);
-    match colour.mode {
-        ColourMode::Flat(rgba) => {
-            let colour = &ColourSource::Flat(rgba);
-            match depth.mode {
-                DepthMode::Unused => {
+    let merge = &whole::<OVER, ALPHA>(merge);
+    match colour {
+        ColourSource::Flat(rgba) => {
+            let colour = &ColourSource::Flat(*rgba);
+            match depth {
+                DepthSource::Unused => {
                     let depth = &DepthSource::Unused;
                     draw_planes::<false>(merge, depth, colour, mask, samples, corrections);
                 }
-                DepthMode::Flat(z) => {
-                    let depth = &DepthSource::Flat(z);
+                DepthSource::Flat(z) => {
+                    let depth = &DepthSource::Flat(*z);
                     draw_planes::<false>(merge, depth, colour, mask, samples, corrections);
                 }
-                DepthMode::Plane => {
-                    let depth = &DepthSource::Plane(placed, &depth.plane);
+                DepthSource::Plane(placed, plane) => {
+                    let depth = &DepthSource::Plane(placed, plane);
                     draw_planes::<false>(merge, depth, colour, mask, samples, corrections);
                 }
             }
         }
-        ColourMode::Planes => {
-            let colour = &ColourSource::Planes(placed, &colour.planes);
-            match depth.mode {
-                DepthMode::Unused => {
+        ColourSource::Planes(placed, planes) => {
+            let colour = &ColourSource::Planes(placed, planes);
+            match depth {
+                DepthSource::Unused => {
                     let depth = &DepthSource::Unused;
                     draw_planes::<false>(merge, depth, colour, mask, samples, corrections);
                 }
-                DepthMode::Flat(z) => {
-                    let depth = &DepthSource::Flat(z);
+                DepthSource::Flat(z) => {
+                    let depth = &DepthSource::Flat(*z);
                     draw_planes::<false>(merge, depth, colour, mask, samples, corrections);
                 }
-                DepthMode::Plane => {
-                    let depth = &DepthSource::Plane(placed, &depth.plane);
+                DepthSource::Plane(placed, plane) => {
+                    let depth = &DepthSource::Plane(placed, plane);
                     draw_planes::<false>(merge, depth, colour, mask, samples, corrections);
                 }
             }
@@ -238,29 +233,27 @@ fn draw_by_sources<const OVER: bool, const ALPHA: bool>(
 /// has no part. Each source of colour has code of its own.
 #[inline(never)]
 fn draw_blended_alone<const ALPHA: bool>(
-    placed: &Placed,
-    colour: &Colour,
+    merge: &Merge,
+    colour: &ColourSource<'_>,
     mask: &BlockMask,
     samples: &mut [BlockSamples],
     corrections: &mut Corrections,
 )
-    requires depth { NeedsNoDepth placed.now }
-    requires colour { IsColourBy placed.now colour.now }
-    requires all { WritesEachColour placed.now.state.merge }
-    requires alpha { placed.now.state.merge.blend.write_alpha ≡ ALPHA }
+    requires all { WritesEachColour merge.now }
+    requires alpha { merge.now.blend.write_alpha ≡ ALPHA }
     requires samples { length samples.old ≡ part_size mask.now.count }
-    ensures drawn { CoversBlock placed.now mask.now → IsBlockDrawn placed.now mask.now samples.old samples.new }
+    ensures drawn { IsBlockDrawnBy (TakesGiven merge.now Unused colour.now) mask.now samples.old samples.new }
     ensures samples { length samples.new ≡ length samples.old }
 {
-    let merge = &writing_all::<ALPHA>(&placed.state.merge);
+    let merge = &writing_all::<ALPHA>(merge);
     let depth = &DepthSource::Unused;
-    match colour.mode {
-        ColourMode::Flat(rgba) => {
-            let colour = &ColourSource::Flat(rgba);
+    match colour {
+        ColourSource::Flat(rgba) => {
+            let colour = &ColourSource::Flat(*rgba);
             draw_planes::<true>(merge, depth, colour, mask, samples, corrections);
         }
-        ColourMode::Planes => {
-            let colour = &ColourSource::Planes(placed, &colour.planes);
+        ColourSource::Planes(placed, planes) => {
+            let colour = &ColourSource::Planes(placed, planes);
             draw_planes::<true>(merge, depth, colour, mask, samples, corrections);
         }
     }
@@ -270,31 +263,27 @@ fn draw_blended_alone<const ALPHA: bool>(
 /// source of colour has code of its own.
 #[inline(never)]
 fn draw_blended(
-    placed: &Placed,
-    depth: &Depth,
-    colour: &Colour,
+    merge: &Merge,
+    depth: &DepthSource<'_>,
+    colour: &ColourSource<'_>,
     mask: &BlockMask,
     samples: &mut [BlockSamples],
     corrections: &mut Corrections,
 )
-    requires by { IsDrawnBy placed.now Other depth.now colour.now }
-    requires all { WritesEachColour placed.now.state.merge }
+    requires all { WritesEachColour merge.now }
     requires samples { length samples.old ≡ part_size mask.now.count }
-    ensures drawn { CoversBlock placed.now mask.now → IsBlockDrawn placed.now mask.now samples.old samples.new }
+    ensures drawn { IsBlockDrawnBy (TakesGiven merge.now depth.now colour.now) mask.now samples.old samples.new }
     ensures samples { length samples.new ≡ length samples.old }
 {
-    let merge = &placed.state.merge;
-    match depth.mode {
-        DepthMode::Unused => {
+    match depth {
+        DepthSource::Unused => {
             if merge.blend.write_alpha {
-                draw_blended_alone::<true>(placed, colour, mask, samples, corrections);
+                draw_blended_alone::<true>(merge, colour, mask, samples, corrections);
             } else {
-                draw_blended_alone::<false>(placed, colour, mask, samples, corrections);
+                draw_blended_alone::<false>(merge, colour, mask, samples, corrections);
             }
         }
-        DepthMode::Flat(_) | DepthMode::Plane => {
-            let depth = &depth.source(placed);
-            let colour = &colour.source(placed);
+        DepthSource::Flat(_) | DepthSource::Plane(_, _) => {
             draw_planes::<true>(merge, depth, colour, mask, samples, corrections);
         }
     }
@@ -303,32 +292,31 @@ fn draw_blended(
 /// Draws a block's samples by a merge that writes nothing but depths. Each source of depth has code of its own.
 #[inline(never)]
 fn draw_depths(
-    placed: &Placed,
-    depth: &Depth,
-    colour: &Colour,
+    merge: &Merge,
+    depth: &DepthSource<'_>,
+    colour: &ColourSource<'_>,
     mask: &BlockMask,
     samples: &mut [BlockSamples],
     corrections: &mut Corrections,
 )
-    requires by { IsDrawnBy placed.now Replace depth.now colour.now }
-    requires none { WritesNoColour placed.now.state.merge }
+    requires known { IsKnown Replace merge.now.blend.colour }
+    requires none { WritesNoColour merge.now }
     requires samples { length samples.old ≡ part_size mask.now.count }
-    ensures drawn { CoversBlock placed.now mask.now → IsBlockDrawn placed.now mask.now samples.old samples.new }
+    ensures drawn { IsBlockDrawnBy (TakesGiven merge.now depth.now colour.now) mask.now samples.old samples.new }
     ensures samples { length samples.new ≡ length samples.old }
 {
-    let merge = &writing_no_colour(&placed.state.merge);
-    let colour = &colour.source(placed);
-    match depth.mode {
-        DepthMode::Unused => {
+    let merge = &writing_no_colour(merge);
+    match depth {
+        DepthSource::Unused => {
             let depth = &DepthSource::Unused;
             draw_planes::<false>(merge, depth, colour, mask, samples, corrections);
         }
-        DepthMode::Flat(z) => {
-            let depth = &DepthSource::Flat(z);
+        DepthSource::Flat(z) => {
+            let depth = &DepthSource::Flat(*z);
             draw_planes::<false>(merge, depth, colour, mask, samples, corrections);
         }
-        DepthMode::Plane => {
-            let depth = &DepthSource::Plane(placed, &depth.plane);
+        DepthSource::Plane(placed, plane) => {
+            let depth = &DepthSource::Plane(placed, plane);
             draw_planes::<false>(merge, depth, colour, mask, samples, corrections);
         }
     }
@@ -338,21 +326,18 @@ fn draw_depths(
 #[inline(never)]
 fn draw_otherwise(
     known: KnownEquation,
-    placed: &Placed,
-    depth: &Depth,
-    colour: &Colour,
+    merge: &Merge,
+    depth: &DepthSource<'_>,
+    colour: &ColourSource<'_>,
     mask: &BlockMask,
     samples: &mut [BlockSamples],
     corrections: &mut Corrections,
 )
-    requires by { IsDrawnBy placed.now known depth.now colour.now }
+    requires known { IsKnown known merge.now.blend.colour }
     requires samples { length samples.old ≡ part_size mask.now.count }
-    ensures drawn { CoversBlock placed.now mask.now → IsBlockDrawn placed.now mask.now samples.old samples.new }
+    ensures drawn { IsBlockDrawnBy (TakesGiven merge.now depth.now colour.now) mask.now samples.old samples.new }
     ensures samples { length samples.new ≡ length samples.old }
 {
-    let merge = &placed.state.merge;
-    let depth = &depth.source(placed);
-    let colour = &colour.source(placed);
     match known {
         KnownEquation::Replace => {
             let merge = &with_known(KnownEquation::Replace, merge);
@@ -362,7 +347,65 @@ fn draw_otherwise(
             let merge = &with_known(KnownEquation::Over, merge);
             draw_planes::<false>(merge, depth, colour, mask, samples, corrections);
         }
-        KnownEquation::Other => draw_planes::<true>(
+        KnownEquation::Other => {
+            draw_planes::<true>(merge, depth, colour, mask, samples, corrections);
+        }
+    }
+}
+
+/// Draws what the sources give at the samples of a block that are in the mask, in a mode for the merge.
+#[inline(always)]
+pub(crate) fn draw_by_mode(
+    mode: DrawMode,
+    merge: &Merge,
+    depth: &DepthSource<'_>,
+    colour: &ColourSource<'_>,
+    mask: &BlockMask,
+    samples: &mut [BlockSamples],
+    corrections: &mut Corrections,
+)
+    requires mode { IsMergeMode merge.now mode }
+    requires samples { length samples.old ≡ part_size mask.now.count }
+    ensures drawn { IsBlockDrawnBy (TakesGiven merge.now depth.now colour.now) mask.now samples.old samples.new }
+    ensures samples { length samples.new ≡ length samples.old }
+{
+    match mode {
+        DrawMode::Replace => draw_by_sources::<false, false>(
+            merge,
+            depth,
+            colour,
+            mask,
+            samples,
+            corrections,
+        ),
+        DrawMode::Over => draw_by_sources::<true, false>(
+            merge,
+            depth,
+            colour,
+            mask,
+            samples,
+            corrections,
+        ),
+        DrawMode::ReplaceWithAlpha => draw_by_sources::<false, true>(
+            merge,
+            depth,
+            colour,
+            mask,
+            samples,
+            corrections,
+        ),
+        DrawMode::OverWithAlpha => draw_by_sources::<true, true>(
+            merge,
+            depth,
+            colour,
+            mask,
+            samples,
+            corrections,
+        ),
+        DrawMode::Blend => draw_blended(merge, depth, colour, mask, samples, corrections),
+        DrawMode::Depths => draw_depths(merge, depth, colour, mask, samples, corrections),
+        DrawMode::Otherwise(known) => draw_otherwise(
+            known,
             merge,
             depth,
             colour,
@@ -388,52 +431,15 @@ impl Interpolants {
         ensures drawn { IsBlockDrawn self.now mask.now samples.old samples.new }
         ensures samples { length samples.new ≡ length samples.old }
     {
-        let (placed, depth, colour) = (&self.placed, &self.depth, &self.colour);
+        let placed = &self.placed;
         match self.mode {
-            DrawMode::Each => draw_each(placed, mask, samples),
-            DrawMode::Replace => draw_by_sources::<false, false>(
-                placed,
-                depth,
-                colour,
-                mask,
-                samples,
-                corrections,
-            ),
-            DrawMode::Over => draw_by_sources::<true, false>(
-                placed,
-                depth,
-                colour,
-                mask,
-                samples,
-                corrections,
-            ),
-            DrawMode::ReplaceWithAlpha => draw_by_sources::<false, true>(
-                placed,
-                depth,
-                colour,
-                mask,
-                samples,
-                corrections,
-            ),
-            DrawMode::OverWithAlpha => draw_by_sources::<true, true>(
-                placed,
-                depth,
-                colour,
-                mask,
-                samples,
-                corrections,
-            ),
-            DrawMode::Blend => draw_blended(placed, depth, colour, mask, samples, corrections),
-            DrawMode::Depths => draw_depths(placed, depth, colour, mask, samples, corrections),
-            DrawMode::Otherwise(known) => draw_otherwise(
-                known,
-                placed,
-                depth,
-                colour,
-                mask,
-                samples,
-                corrections,
-            ),
+            None => draw_each(placed, mask, samples),
+            Some(mode) => {
+                let depth = &self.depth.source(placed);
+                let colour = &self.colour.source(placed);
+                let merge = &placed.state.merge;
+                draw_by_mode(mode, merge, depth, colour, mask, samples, corrections);
+            }
         }
     }
 }

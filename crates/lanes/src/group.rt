@@ -1,16 +1,13 @@
 //! Sixteen samples of a block drawn at once: two rows of eight pixels.
 ghost use Rattle.std.specs.Prelude.{◌≡◌, ◌⊎◌, ℕ, if◌then◌else◌, ◌+◌, ◌<◌, ◌≤◌, length, slice_index};
 ghost use Rattle.std.specs.Simd.Lanes.{Each1};
-ghost use Rattle.grid.specs.Triangle.{Covers};
 ghost use Rattle.shade.specs.Merging.{IsWritten};
 ghost use Rattle.lanes.specs.Merging.{IsTested, AreByteFragments, ReadsColours, TakeColours, AreMerged, AreColoured};
-ghost use Rattle.shade.specs.declared.placed.Placed.{Placed as Triangle};
-ghost use Rattle.shade.specs.Placed.{IsInterpolated};
-ghost use Rattle.shade.specs.Canvas.{IsAlphaMerged, IsCanvasDrawnAt};
+ghost use Rattle.shade.specs.Canvas.{IsAlphaMerged};
 ghost use Rattle.planes.specs.Group.{position_in, IsGroupOnScreen};
 ghost use Rattle.lanes.specs.Block.{stored_at};
 ghost use Rattle.lanes.specs.Operands.{AreByteLanes, AreByteColours, AreColourBytes};
-ghost use Rattle.lanes.specs.Sources.{IsDepthOf, IsColourOf};
+ghost use Rattle.lanes.specs.Sources.{GivesDepth, TakesGiven};
 
 use crate::blend::{alpha_lanes, blended_colours, listed_colours};
 use crate::block_samples::BlockSamples;
@@ -237,8 +234,7 @@ fn test_depths_of(
 ) -> u16x16
     requires room { at + 16 ≤ length stored.old }
     requires on_screen { IsGroupOnScreen (record { x = x; y = y }) }
-    ensures set { (t : Triangle) (i z : ℕ) → IsDepthOf t source.now → t.state.merge ≡ merge.now → i < 16 → slice_index mask i ≡ 65535 → Covers t.tri.a t.tri.b t.tri.c (position_in (record { x = x; y = y }) i)
-        → IsInterpolated t (position_in (record { x = x; y = y }) i) t.z z
+    ensures set { (i z : ℕ) → GivesDepth merge.now source.now (position_in (record { x = x; y = y }) i) z → i < 16 → slice_index mask i ≡ 65535
         → IsTested merge.now z (slice_index stored.old (at + i)) (slice_index stored.new (at + i))
         (slice_index result i) }
     ensures clear { (i : ℕ) → i < 16 → slice_index mask i ≡ 0 →
@@ -259,8 +255,8 @@ fn test_depths_of(
     }
 }
 
-/// Draws the triangle at sixteen samples of a block from a place on, where the mask is set; the first of them is at (x,
-/// y). With `ANY` every blend equation is in line.
+/// Draws what the sources give at sixteen samples of a block from a place on, where the mask is set. The first of them is
+/// at (x, y). With `ANY` every blend equation is in line.
 #[inline(always)]
 pub(crate) fn draw_group<const ANY: bool>(
     merge: &Merge,
@@ -275,9 +271,8 @@ pub(crate) fn draw_group<const ANY: bool>(
 )
     requires room { at + 16 ≤ 64 }
     requires on_screen { IsGroupOnScreen (record { x = x; y = y }) }
-    ensures set { (t : Triangle) (i : ℕ) → t.state.merge ≡ merge.now → IsDepthOf t depth.now → IsColourOf t colour.now → i < 16 → slice_index mask i ≡ 65535
-        → Covers t.tri.a t.tri.b t.tri.c (position_in (record { x = x; y = y }) i)
-        → IsCanvasDrawnAt t (position_in (record { x = x; y = y }) i) (stored_at samples.old (at + i))
+    ensures set { (i : ℕ) → i < 16 → slice_index mask i ≡ 65535
+        → TakesGiven merge.now depth.now colour.now (position_in (record { x = x; y = y }) i) (stored_at samples.old (at + i))
         (stored_at samples.new (at + i)) }
     ensures clear { (i : ℕ) → i < 16 → slice_index mask i ≡ 0 →
         stored_at samples.new (at + i) ≡ stored_at samples.old (at + i) }

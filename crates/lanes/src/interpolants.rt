@@ -12,20 +12,21 @@ use std::marker::Model;
 #[derive(Debug, Drop)]
 pub struct Interpolants {
     pub(crate) placed: Placed,
-    pub(crate) mode: DrawMode,
+    /// `None` if it is drawn sample by sample, by the definition: a value changes too fast from pixel to pixel for a plane.
+    pub(crate) mode: Option<DrawMode>,
     pub(crate) depth: Depth,
     pub(crate) colour: Colour,
 }
 
 impl Model for Interpolants {
     ghost use Rattle.shade.specs.declared.placed.Placed.{Placed as Triangle};
-    ghost use Rattle.lanes.specs.Mode.{IsDrawModeOf};
+    ghost use Rattle.lanes.specs.Mode.{IsReady};
 
     ghost Value = { Triangle };
 
     ghost view = { λ i. i.placed };
 
-    ghost invariant = { λ i. IsDrawModeOf i.placed i.mode i.depth i.colour };
+    ghost invariant = { λ i. IsReady i.placed i.mode i.depth i.colour };
 }
 
 /// The doubled area of a triangle that has one, with its reciprocal.
@@ -44,7 +45,7 @@ impl Interpolants {
     {
         Interpolants {
             placed: *placed,
-            mode: DrawMode::Each,
+            mode: None,
             depth: Depth {
                 mode: DepthMode::Unused,
                 plane: DepthPlane::none(),
@@ -100,7 +101,7 @@ impl Interpolants {
         if !by_plane && !by_planes {
             *self = Interpolants {
                 placed: *placed,
-                mode: DrawMode::of(merge),
+                mode: Some(DrawMode::of(merge)),
                 depth: Depth {
                     mode: depth,
                     plane: DepthPlane::none(),
@@ -121,7 +122,7 @@ impl Interpolants {
         }
         *self = Interpolants {
             placed: *placed,
-            mode: DrawMode::of(merge),
+            mode: Some(DrawMode::of(merge)),
             depth: Depth {
                 mode: depth,
                 plane: DepthPlane::of_used(by_plane, &depth_slope, reciprocal, search),

@@ -8,6 +8,7 @@ mod block;
 mod block_mask;
 mod block_samples;
 mod factors;
+mod fragment;
 mod group;
 mod interpolants;
 mod known;
@@ -22,6 +23,7 @@ mod sources;
 
 pub use block_mask::BlockMask;
 pub use block_samples::BlockSamples;
+pub use fragment::Fragment;
 pub use interpolants::Interpolants;
 pub use one_by_one::sample_position;
 pub use resolve::{means_of_four, means_of_sums, sums};

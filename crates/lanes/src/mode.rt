@@ -1,8 +1,8 @@
-//! The mode in which a triangle is drawn, which is chosen once for all its samples.
+//! The mode in which samples are drawn, which is chosen once for all of them.
 ghost use Rattle.std.specs.Prelude.{◌≡◌, ◌<◌, IsTrue, true, slice_index};
 ghost use Rattle.shade.specs.Placed.{channel, rgba_of};
 ghost use Rattle.lanes.specs.Mode.{IsDepthBy, IsColourBy, IsAlphaKnown, IsMergeMode, WritesEachColour, WritesColours, WritesNoColour};
-ghost use Rattle.lanes.specs.Sources.{IsDepthOf, IsColourOf, IsFlat};
+ghost use Rattle.lanes.specs.Sources.{IsDepthOf, IsColourOf, IsFlat, NeedsNoDepth};
 
 use crate::sources::{ColourSource, DepthSource};
 use planes::{ColourPlanes, DepthPlane};
@@ -28,24 +28,22 @@ pub(crate) enum ColourMode {
     Planes,
 }
 
-/// How a triangle is drawn.
+/// How sixteen samples are merged at once.
 #[derive(Clone, Copy, Debug)]
 pub(crate) enum DrawMode {
-    /// One sample after another by the definition: a value changes too fast from pixel to pixel for a plane.
-    Each,
-    /// Sixteen samples at once; the colour takes the place of the stored one.
+    /// The colour takes the place of the stored one.
     Replace,
-    /// Sixteen samples at once; the colour is laid over the stored one.
+    /// The colour is laid over the stored one.
     Over,
-    /// Sixteen samples at once; the colour takes the place of the stored one, and so does alpha.
+    /// The colour takes the place of the stored one, and so does alpha.
     ReplaceWithAlpha,
-    /// Sixteen samples at once; the colour is laid over the stored one, and so is alpha.
+    /// The colour is laid over the stored one, and so is alpha.
     OverWithAlpha,
-    /// Sixteen samples at once; the colour is blended with the stored one by any equation.
+    /// The colour is blended with the stored one by any equation.
     Blend,
-    /// Sixteen samples at once, of which nothing but depths is written.
+    /// Nothing but depths is written.
     Depths,
-    /// Sixteen samples at once, by a merge that leaves a colour channel.
+    /// The merge leaves a colour channel.
     Otherwise(KnownEquation),
 }
 
@@ -105,8 +103,16 @@ fn writes_colours(merge: &Merge, over: bool, alpha: bool) -> bool
         && (!alpha || is_alpha_known(over, &merge.blend.alpha))
 }
 
+/// Whether the depth has no part in a merge: each depth passes, and none is stored.
+#[inline(always)]
+pub(crate) fn needs_no_depth(merge: &Merge) -> bool
+    ensures { IsTrue result → NeedsNoDepth merge.now }
+{
+    merge.test == DepthTest::Always && !merge.depth_write
+}
+
 impl DrawMode {
-    /// The mode for a merge, if samples are drawn sixteen at once.
+    /// The mode for a merge.
     #[inline(always)]
     pub(crate) fn of(merge: &Merge) -> DrawMode
         ensures { IsMergeMode merge.now result }
@@ -132,8 +138,7 @@ impl DepthMode {
     pub(crate) fn of(placed: &Placed) -> DepthMode
         ensures { IsDepthMode placed.now result }
     {
-        let merge = placed.state.merge;
-        if merge.test == DepthTest::Always && !merge.depth_write {
+        if needs_no_depth(&placed.state.merge) {
             return DepthMode::Unused;
         }
         let [a, b, c] = placed.z;

@@ -1,6 +1,7 @@
 //! A triangle drawn at the samples of a block, one after another by the definition.
 ghost use Rattle.std.specs.Prelude.{◌≡◌, ◌+◌, ◌*◌, ◌<◌, length};
 ghost use Rattle.grid.specs.Samples.{part_size};
+ghost use Rattle.shade.specs.Canvas.{IsCanvasDrawnAt};
 ghost use Rattle.planes.specs.Group.{position_in};
 ghost use Rattle.lanes.specs.Block.{IsOnScreen, CoversMask, AreDrawn};
 ghost use Rattle.lanes.specs.BlockMask.{CoversBlock, IsBlockDrawn};
@@ -27,7 +28,7 @@ fn draw_rows_each(triangle: &Placed, p: Point, mask: u64, group: u64, samples: &
     requires group { group < 4 }
     requires on_screen { IsOnScreen p }
     requires covered { CoversMask triangle.now p mask }
-    ensures { AreDrawn triangle.now p mask samples.old samples.new (16 * group) 16 }
+    ensures { AreDrawn (IsCanvasDrawnAt triangle.now) p mask samples.old samples.new (16 * group) 16 }
 {
     if !has_some(mask, group) {
         return;
@@ -49,7 +50,7 @@ fn draw_rows_each(triangle: &Placed, p: Point, mask: u64, group: u64, samples: &
 fn draw_plane_each(triangle: &Placed, p: Point, mask: u64, samples: &mut BlockSamples)
     requires on_screen { IsOnScreen p }
     requires covered { CoversMask triangle.now p mask }
-    ensures { AreDrawn triangle.now p mask samples.old samples.new 0 64 }
+    ensures { AreDrawn (IsCanvasDrawnAt triangle.now) p mask samples.old samples.new 0 64 }
 {
     if mask == 0 {
         return;

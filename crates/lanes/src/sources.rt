@@ -1,12 +1,9 @@
-//! How depth and colour of a triangle are computed at sixteen samples at once: two rows of eight pixels.
+//! How depth and colour are computed at sixteen samples at once: two rows of eight pixels.
 ghost use Rattle.std.specs.Prelude.{◌≡◌, ◌≤◌, ◌<◌, ℕ, length, slice_index};
 ghost use Rattle.std.specs.Simd.Lanes.{Each1};
-ghost use Rattle.grid.specs.Triangle.{Covers};
-ghost use Rattle.shade.specs.declared.placed.Placed.{Placed as Triangle};
-ghost use Rattle.shade.specs.Placed.{channel, IsInterpolated};
+ghost use Rattle.shade.specs.declared.sample.Shaded.{Shaded as Fragment};
 ghost use Rattle.planes.specs.Group.{position_in, IsGroupOnScreen};
 ghost use Rattle.shade.specs.Merging.{Writes, ReadsAlpha};
-ghost use Rattle.lanes.specs.Sources.{IsFlatColour};
 
 use planes::{ColourPlanes, Colours, Corrections, DepthPlane};
 use shade::{Merge, Placed};
@@ -17,7 +14,7 @@ use std::simd::prelude::*;
 pub(crate) enum DepthSource<'a> {
     /// Each depth passes and none is stored, so there is no need of it.
     Unused,
-    /// The three vertices have this depth.
+    /// This depth at all samples.
     Flat(u16),
     /// The plane of the triangle.
     Plane(&'a Placed, &'a DepthPlane),
@@ -26,7 +23,7 @@ pub(crate) enum DepthSource<'a> {
 /// How colour and alpha are computed.
 #[derive(Clone, Copy, Debug)]
 pub(crate) enum ColourSource<'a> {
-    /// The three vertices have this in each channel that the draw reads.
+    /// This colour at all samples, in each channel that is read.
     Flat([u8; 4]),
     /// The planes of the triangle.
     Planes(&'a Placed, &'a ColourPlanes),
@@ -53,10 +50,10 @@ fn flat_colours(rgba: [u8; 4]) -> Colours
 }
 
 impl<'a> ColourSource<'a> {
-    ghost use Rattle.lanes.specs.Sources.{IsColourOf};
+    ghost use Rattle.lanes.specs.Sources.{GivesColour};
 
-    /// The colours at sixteen samples, the first of which is at (x, y), each at most 255: right wherever the triangle
-    /// covers the sample, in what the merge of its draw reads.
+    /// The colours at sixteen samples, the first of which is at (x, y), each at most 255: those of the fragment that the
+    /// source gives, in what the merge reads.
     #[inline(always)]
     pub(crate) fn values(
         &self,
@@ -70,14 +67,14 @@ impl<'a> ColourSource<'a> {
             (length result.a ≡ 16) }
         ensures bytes { Each1 (λ n. n ≤ 255) result.r × Each1 (λ n. n ≤ 255) result.g × Each1 (λ n. n ≤ 255) result.b ×
             Each1 (λ n. n ≤ 255) result.a }
-        ensures red { (t : Triangle) (i : ℕ) → t.state.merge ≡ merge.now → Writes merge.now 0 → IsColourOf t self.now → i < 16 → Covers t.tri.a t.tri.b t.tri.c (position_in (record { x = x; y = y }) i)
-            → IsInterpolated t (position_in (record { x = x; y = y }) i) (channel t 0) (slice_index result.r i) }
-        ensures green { (t : Triangle) (i : ℕ) → t.state.merge ≡ merge.now → Writes merge.now 1 → IsColourOf t self.now → i < 16 → Covers t.tri.a t.tri.b t.tri.c (position_in (record { x = x; y = y }) i)
-            → IsInterpolated t (position_in (record { x = x; y = y }) i) (channel t 1) (slice_index result.g i) }
-        ensures blue { (t : Triangle) (i : ℕ) → t.state.merge ≡ merge.now → Writes merge.now 2 → IsColourOf t self.now → i < 16 → Covers t.tri.a t.tri.b t.tri.c (position_in (record { x = x; y = y }) i)
-            → IsInterpolated t (position_in (record { x = x; y = y }) i) (channel t 2) (slice_index result.b i) }
-        ensures alpha { (t : Triangle) (i : ℕ) → t.state.merge ≡ merge.now → ReadsAlpha merge.now → IsColourOf t self.now → i < 16 → Covers t.tri.a t.tri.b t.tri.c (position_in (record { x = x; y = y }) i)
-            → IsInterpolated t (position_in (record { x = x; y = y }) i) (channel t 3) (slice_index result.a i) }
+        ensures red { (f : Fragment) (i : ℕ) → Writes merge.now 0 → GivesColour merge.now self.now (position_in (record { x = x; y = y }) i) f → i < 16
+            → slice_index result.r i ≡ f.r }
+        ensures green { (f : Fragment) (i : ℕ) → Writes merge.now 1 → GivesColour merge.now self.now (position_in (record { x = x; y = y }) i) f → i < 16
+            → slice_index result.g i ≡ f.g }
+        ensures blue { (f : Fragment) (i : ℕ) → Writes merge.now 2 → GivesColour merge.now self.now (position_in (record { x = x; y = y }) i) f → i < 16
+            → slice_index result.b i ≡ f.b }
+        ensures alpha { (f : Fragment) (i : ℕ) → ReadsAlpha merge.now → GivesColour merge.now self.now (position_in (record { x = x; y = y }) i) f → i < 16
+            → slice_index result.a i ≡ f.a }
     {
         match self {
             ColourSource::Flat(rgba) => flat_colours(*rgba),

@@ -1,14 +1,12 @@
 -- A block that is drawn whole, of which one plane is as good as its own.
 use Rattle.std.proofs.Common.{◌≡◌, ◌∙◌, inl, inr, refl, sym, subst, ap, arith, ℕ, ◌+◌, ◌<◌, List, take, drop, slice_index}
 use Rattle.std.specs.Prelude.{slice_index_or}
-use Rattle.grid.specs.Position.{Position}
 use Rattle.grid.specs.Samples.{count_of}
 use Rattle.grid.specs.declared.sample_count.SampleCount.{SampleCount}
 use Rattle.lanes.specs.declared.block_samples.BlockSamples.{BlockSamples}
 use Rattle.lanes.specs.Block.{stored_at}
-use Rattle.shade.specs.declared.placed.Placed.{Placed}
 use Rattle.shade.specs.declared.sample.CanvasSample.{CanvasSample}
-use Rattle.shade.specs.Canvas.{IsCanvasDrawnAt}
+use Rattle.lanes.specs.Fragment.{FlatFragment, Takes}
 use Rattle.blocks.specs.declared.way.Way.TheVariants.{Own}
 use Rattle.canvas.specs.Hidden.{ReplacesColours}
 use Rattle.blocks.specs.Layout.{block_in_tile, pixel_in_block, place_by, stored_in_tile, way_in_tile, IsSameTile}
@@ -18,23 +16,20 @@ use Rattle.canvas.proofs.Shown.{always, merged_alike}
 use Rattle.blocks.proofs.TilePlanes.{by_way, cases_eq}
 use Rattle.painting.specs.Parts.{DrawsAlike, KeepsOtherBlocks}
 
--- the triangle that replaces colours makes the same of samples of the same depth and alpha
-pub drawn_alike : (t : Placed) (count : SampleCount) (p : Position) (x y made : CanvasSample) → ReplacesColours t.state count → y.z ≡ x.z → y.alpha ≡ x.alpha → IsCanvasDrawnAt t p x made → IsCanvasDrawnAt t p y made
-drawn_alike t count p x y made replaces depth alpha drawn =
-    let merged = drawn.2.passed (always t.state.merge.test drawn.0.z x.z replaces.passes) in (
-      drawn.0,
-      drawn.1,
-      record {
-        passed = λ _. merged_alike t.state count drawn.0 x y made replaces depth alpha merged;
-        failed = λ fails. absurd (fails (always t.state.merge.test drawn.0.z y.z replaces.passes));
-      },
-    )
+-- the fragment that replaces colours makes the same of samples of the same depth and alpha
+pub drawn_alike : (f : FlatFragment) (count : SampleCount) (x y made : CanvasSample) → ReplacesColours f.state count → y.z ≡ x.z → y.alpha ≡ x.alpha → Takes f x made → Takes f y made
+drawn_alike f count x y made replaces depth alpha drawn =
+    let merged = drawn.passed (always f.state.merge.test f.shaded.z x.z replaces.passes) in
+    record {
+      passed = λ _. merged_alike f.state count f.shaded x y made replaces depth alpha merged;
+      failed = λ fails. absurd (fails (always f.state.merge.test f.shaded.z y.z replaces.passes));
+    }
 
 -- the same samples, which may be kept in another way
-pub same_alike : (t : Placed) (count : SampleCount) (old new : List BlockSamples) → IsSameTile count old new → DrawsAlike t count old new
-same_alike t count old new same i j s p made h = subst (λ (x : CanvasSample). IsCanvasDrawnAt t p x made) (same i j s h)
+pub same_alike : (f : FlatFragment) (count : SampleCount) (old new : List BlockSamples) → IsSameTile count old new → DrawsAlike f count old new
+same_alike f count old new same i j s made h = subst (λ (x : CanvasSample). Takes f x made) (same i j s h)
 
-module _ (t : Placed) (count : SampleCount) (k first n : ℕ) (old new : List BlockSamples) (replaces : ReplacesColours t.state count) (own : way_in_tile old k ≡ Own) (at : first ≡ place_by count Own k 0) (many : n ≡ count_of count)
+module _ (f : FlatFragment) (count : SampleCount) (k first n : ℕ) (old new : List BlockSamples) (replaces : ReplacesColours f.state count) (own : way_in_tile old k ≡ Own) (at : first ≡ place_by count Own k 0) (many : n ≡ count_of count)
     (same : (s : ℕ) → s < n → ((slice_index_or (take n (drop first old)) s none).z ≡ (slice_index_or (take n (drop first old)) 0 none).z) × ((slice_index_or (take n (drop first old)) s none).alpha ≡ (slice_index_or (take n (drop first old)) 0 none).alpha))
     (made : (i j s : ℕ) → s < count_of count → block_in_tile i j ≡ k → stored_in_tile count new i j s ≡ stored_at (slice_index_or old first none) (pixel_in_block i j))
     (others : KeepsOtherBlocks k count old new) where
@@ -71,9 +66,9 @@ module _ (t : Placed) (count : SampleCount) (k first n : ℕ) (old new : List Bl
         ∙ ap (λ (alpha : List ℕ). slice_index alpha (pixel_in_block i j)) (same s (omega (arith, h, many))).1
         ∙ sym (ap (λ (x : CanvasSample). x.alpha) new_is)
 
-  pub replaced_alike : DrawsAlike t count old new
-  replaced_alike i j s p result h drawn =
+  pub replaced_alike : DrawsAlike f count old new
+  replaced_alike i j s result h drawn =
       elim (cases_eq (block_in_tile i j) k) [
-        | inl here ↦ drawn_alike t count p (stored_in_tile count new i j s) (stored_in_tile count old i j s) result replaces (same_depth i j s h here) (same_alpha i j s h here) drawn
-        | inr other ↦ subst (λ (x : CanvasSample). IsCanvasDrawnAt t p x result) (others i j s h other) drawn
+        | inl here ↦ drawn_alike f count (stored_in_tile count new i j s) (stored_in_tile count old i j s) result replaces (same_depth i j s h here) (same_alpha i j s h here) drawn
+        | inr other ↦ subst (λ (x : CanvasSample). Takes f x result) (others i j s h other) drawn
       ]

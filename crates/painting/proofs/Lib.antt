@@ -1,4 +1,4 @@
-pub mod Screen
+pub mod Merged
 pub mod Joined
 pub mod SampleParts
 pub mod BlockParts

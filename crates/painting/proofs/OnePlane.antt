@@ -1,19 +1,18 @@
 -- A plane of a tile that stands for all samples of its pixels.
 use Rattle.std.proofs.Common.{true, false, refl, ◌≡◌, ◌≢◌, inl, inr, sym, subst, ap, ◌∙◌, arith, zero, suc, ℕ, ◌+◌, ◌-◌, ◌*◌, ◌/◌, ◌%◌, ◌^◌, ◌<◌, ◌≤◌, List, [], ◌∷◌, length, take, drop, slice_index, IsBitSet}
 use Rattle.std.specs.Prelude.{slice_index_or}
-use Rattle.grid.specs.Samples.{count_of, sample_position}
+use Rattle.grid.specs.Samples.{count_of}
 use Rattle.grid.specs.declared.pixels.PixelBox.{PixelBox}
 use Rattle.grid.specs.declared.pixels.TileSide.TheVariants.{T8, T64}
 use Rattle.grid.specs.declared.sample_count.SampleCount.TheVariants.{One}
 use Rattle.lanes.specs.declared.block_samples.BlockSamples.{BlockSamples}
 use Rattle.lanes.specs.Block.{stored_at}
-use Rattle.shade.specs.declared.placed.Placed.{Placed}
 use Rattle.shade.specs.declared.sample.CanvasSample.{CanvasSample}
 use Rattle.shade.specs.declared.state.State.{State}
-use Rattle.shade.specs.Canvas.{IsCanvasDrawnAt}
 use Rattle.shade.proofs.Resolved.{some_samples}
+use Rattle.lanes.specs.Fragment.{FlatFragment, Takes}
 use Rattle.raster.specs.declared.tile.Tile.{Tile}
-use Rattle.raster.specs.Drawing.{IsChosen, IsInSquare, LiesIn, DrawsMasks}
+use Rattle.raster.specs.Drawing.{IsChosen, IsInSquare, LiesIn, MergesMasks}
 use Rattle.raster.specs.Region.{HoldsTile}
 use Rattle.raster.specs.Samples.{IsSampleOf, place_of as place_in, stored as in_tile}
 use Rattle.raster.proofs.Rows.{word_full}
@@ -27,8 +26,7 @@ use Rattle.grid.specs.declared.sample_count.SampleCount.{SampleCount}
 use Rattle.painting.specs.declared.masks.Masks.{Masks}
 use Rattle.painting.specs.Parts.{block_mask, number_in_tile, AllowsTile, IsAllowed, IsInBlock, IsKeptAt, HasNoMasks, KeepsPlanesBut, DrawsPlane, TilePaints, DrawsAlike, KeepsOtherBlocks}
 use Rattle.painting.proofs.Joined.{tile_same}
-use Rattle.painting.proofs.Screen.{IsAlikeOverScreen}
-use Rattle.painting.proofs.Tiles.{on_screen, in_block, of_block}
+use Rattle.painting.proofs.Tiles.{in_block, of_block}
 
 -- the state lets each sample of the tile be drawn
 pub allowed_all : (state : State) (tile : Tile) → AllowsTile state tile → (row column s : ℕ) → IsSampleOf tile row column s → IsAllowed state tile row column s
@@ -54,9 +52,9 @@ zero_word : (s k : ℕ) → s < 1 → k < 64 → IsBitSet (slice_index ones s) k
 zero_word zero k h low = word_full k low
 zero_word (suc s) k h low = absurd (omega (arith, h))
 
--- The triangle is drawn at the one plane of a tile of one block, with one sample a pixel.
-module _ (t : Placed) (o : Tile) (bx by : ℕ) (xs part : List BlockSamples) (at_block : (o.bx ≡ bx) × (o.by ≡ by) × (o.side ≡ T8) × (o.count ≡ One)) (on_screen : (8 * bx < 4096) × (8 * by < 4096))
-    (alike : IsAlikeOverScreen t) (scissor : HoldsTile t.state.scissor o) (in_mask : t.state.sample_mask / 2 ^ 0 % 2 ≡ 1) (draws : DrawsMasks t o bx by 0 ones xs part) where
+-- The fragment is drawn at the one plane of a tile of one block, with one sample a pixel.
+module _ (f : FlatFragment) (o : Tile) (bx by : ℕ) (xs part : List BlockSamples) (at_block : (o.bx ≡ bx) × (o.by ≡ by) × (o.side ≡ T8) × (o.count ≡ One))
+    (scissor : HoldsTile f.state.scissor o) (in_mask : f.state.sample_mask / 2 ^ 0 % 2 ≡ 1) (draws : MergesMasks f o bx by 0 ones xs part) where
   module _ (p : ℕ) (low : p < 64) where
     in_o : IsSampleOf o (p / 8) (p % 8) 0
     in_o = record { high = rw at_block.2 (omega (arith, low)); wide = rw at_block.2 (omega arith); is_sample = rw at_block.3 (omega arith) }
@@ -72,7 +70,7 @@ module _ (t : Placed) (o : Tile) (bx by : ℕ) (xs part : List BlockSamples) (at
         ap (λ k. stored_at (slice_index_or ys k none) (8 * (p / 8 % 8) + p % 8 % 8)) place_is
         ∙ ap (λ q. stored_at (in_list ys 0) q) same_pixel
 
-    chosen : IsChosen t.state o bx by 0 ones (p / 8) (p % 8) 0
+    chosen : IsChosen f.state o bx by 0 ones (p / 8) (p % 8) 0
     chosen = record {
       part = record {
         square = record {
@@ -87,13 +85,10 @@ module _ (t : Placed) (o : Tile) (bx by : ℕ) (xs part : List BlockSamples) (at
       allowed = record { in_scissor = scissor (p / 8) (p % 8) in_o.high in_o.wide; in_mask = in_mask };
     }
 
-  pub plane_drawn : DrawsPlane t (in_list xs 0) (in_list part 0)
-  plane_drawn count i j s p wide high low =
-      let drawn = draws.drawn (p / 8) (p % 8) 0 (in_o p low) (chosen p low) in
-      let moved = alike o.count count (8 * o.bx + p % 8) (8 * o.by + p / 8) 0 i j s _ _ (let e = at_block.0 in omega (arith, e, on_screen.0)) (let e = at_block.1 in omega (arith, e, on_screen.1, low)) wide high drawn in
-      let there = sample_position i j s count in
-      subst (λ (x : CanvasSample). IsCanvasDrawnAt t there x (stored_at (in_list part 0) p)) (in_plane p low xs)
-      (subst (λ (y : CanvasSample). IsCanvasDrawnAt t there (in_tile o xs (p / 8) (p % 8) 0) y) (in_plane p low part) moved)
+  pub plane_drawn : DrawsPlane f (in_list xs 0) (in_list part 0)
+  plane_drawn p low =
+      subst (λ (x : CanvasSample). Takes f x (stored_at (in_list part 0) p)) (in_plane p low xs)
+      (subst (λ (y : CanvasSample). Takes f (in_tile o xs (p / 8) (p % 8) 0) y) (in_plane p low part) (draws.drawn (p / 8) (p % 8) 0 (in_o p low) (chosen p low)))
 
 -- the same places, if a plane without masks is changed
 pub same_places : (count : SampleCount) (q : ℕ) (xs after : List BlockSamples) → 1 ≤ q → KeepsPlanesBut q xs after → HasNoMasks count xs q → (i j s : ℕ) → place_in_tile count (in_list after) i j s ≡ place_in_tile count (in_list xs) i j s
@@ -102,9 +97,9 @@ same_places count q xs after first others no_masks i j s =
     ap (λ (state : BlockSamples). sample_place count (way_of state k) (in_list after) k (pixel_in_block i j) s) (others 0 (λ e. omega (arith, e, first)))
     ∙ same_place_by count (way_in_tile xs k) xs after k (pixel_in_block i j) s ((λ masked. ap (λ plane. mask_of plane s) (others (masks_place count k) ((no_masks k (omega arith)).0 masked))), (λ four. ap (λ plane. mask_of (masks_from (first_further count) plane) s) (others (more_place count k) ((no_masks k (omega arith)).1 four))))
 
--- ---- plane q of a tile, put back with the triangle drawn at it
-module _ (t : Placed) (tile : Tile) (side : tile.side ≡ T64) (q : ℕ) (xs part : List BlockSamples) (n : ℕ) (single : n ≡ 1) (first : 1 ≤ q) (fits : q + n ≤ length xs) (long : length part ≡ n)
-    (no_masks : HasNoMasks tile.count xs q) (draws : DrawsPlane t (in_list (take n (drop q xs)) 0) (in_list part 0)) where
+-- ---- plane q of a tile, put back with the fragment drawn at it
+module _ (f : FlatFragment) (tile : Tile) (side : tile.side ≡ T64) (q : ℕ) (xs part : List BlockSamples) (n : ℕ) (single : n ≡ 1) (first : 1 ≤ q) (fits : q + n ≤ length xs) (long : length part ≡ n)
+    (no_masks : HasNoMasks tile.count xs q) (draws : DrawsPlane f (in_list (take n (drop q xs)) 0) (in_list part 0)) where
   abbrev pub after : List BlockSamples
   after = put xs part q n
 
@@ -121,9 +116,6 @@ module _ (t : Placed) (tile : Tile) (side : tile.side ≡ T64) (q : ℕ) (xs par
   same_here = same_places tile.count q xs after first others_kept no_masks
 
   module _ (row column s : ℕ) (h : IsSampleOf tile row column s) where
-    seen : (8 * tile.bx + column < 4096) × (8 * tile.by + row < 4096)
-    seen = on_screen tile side tile.bx tile.by row column s h
-
     -- the sample's number in its plane
     abbrev slot_there : ℕ
     slot_there = slot_by (way_in_tile xs (block_in_tile column row)) (block_in_tile column row) (pixel_in_block column row)
@@ -135,15 +127,14 @@ module _ (t : Placed) (tile : Tile) (side : tile.side ≡ T64) (q : ℕ) (xs par
 
     -- a sample that is kept there
     pub drawn_there : place_in_tile tile.count (in_list xs) column row s ≡ q
-        → IsCanvasDrawnAt t (sample_position (8 * tile.bx + column) (8 * tile.by + row) s tile.count) (stored_in_tile tile.count xs column row s) (stored_in_tile tile.count after column row s)
+        → Takes f (stored_in_tile tile.count xs column row s) (stored_in_tile tile.count after column row s)
     drawn_there at =
         let pixel : ℕ = slot_there in
         let old_is : stored_in_tile tile.count xs column row s ≡ stored_at (in_list xs q) pixel = ap (λ k. stored_at (in_list xs k) pixel) at in
         let new_is : stored_in_tile tile.count after column row s ≡ stored_at (in_list after q) pixel = same_slot ∙ ap (λ k. stored_at (in_list after k) pixel) (same_here column row s ∙ at) in
-        let there = sample_position (8 * tile.bx + column) (8 * tile.by + row) s tile.count in
-        subst (λ (x : CanvasSample). IsCanvasDrawnAt t there x (stored_in_tile tile.count after column row s)) (ap (λ (p : BlockSamples). stored_at p pixel) old_plane ∙ sym old_is)
-        (subst (λ (y : CanvasSample). IsCanvasDrawnAt t there (stored_at (in_list (take n (drop q xs)) 0) pixel) y) (ap (λ (p : BlockSamples). stored_at p pixel) new_plane ∙ sym new_is)
-        (draws tile.count (8 * tile.bx + column) (8 * tile.by + row) s pixel seen.0 seen.1 (slot_below (way_in_tile xs (block_in_tile column row)) (block_in_tile column row) (pixel_in_block column row) (omega arith) (omega arith))))
+        subst (λ (x : CanvasSample). Takes f x (stored_in_tile tile.count after column row s)) (ap (λ (p : BlockSamples). stored_at p pixel) old_plane ∙ sym old_is)
+        (subst (λ (y : CanvasSample). Takes f (stored_at (in_list (take n (drop q xs)) 0) pixel) y) (ap (λ (p : BlockSamples). stored_at p pixel) new_plane ∙ sym new_is)
+        (draws pixel (slot_below (way_in_tile xs (block_in_tile column row)) (block_in_tile column row) (pixel_in_block column row) (omega arith) (omega arith))))
 
     -- a sample that is kept elsewhere
     pub kept_elsewhere : place_in_tile tile.count (in_list xs) column row s ≢ q → stored_in_tile tile.count after column row s ≡ stored_in_tile tile.count xs column row s
@@ -153,7 +144,7 @@ module _ (t : Placed) (tile : Tile) (side : tile.side ≡ T64) (q : ℕ) (xs par
         ∙ ap (λ k. stored_at (in_list after k) pixel) (same_here column row s)
         ∙ ap (λ (p : BlockSamples). stored_at p pixel) (others_kept (place_in_tile tile.count (in_list xs) column row s) other)
 
-  pub plane_painted : TilePaints t tile (IsKeptAt tile.count xs q) xs after
+  pub plane_painted : TilePaints f tile (IsKeptAt tile.count xs q) xs after
   plane_painted = record { met = λ row column s h at. drawn_there row column s h at; missed = λ row column s h other. kept_elsewhere row column s h other }
 
 -- ---- of a block that is kept in one plane
@@ -182,15 +173,15 @@ no_masks_at count xs way k n l own here more m small = (
       ]),
 )
 
-module _ (t : Placed) (tile : Tile) (side : tile.side ≡ T64) (bx by : ℕ) (block : LiesIn tile bx by 8) (xs after : List BlockSamples) (single : way_in_tile xs (number_in_tile tile bx by) ≡ Single)
-    (paints : TilePaints t tile (IsKeptAt tile.count xs (place_by tile.count Single (number_in_tile tile bx by) 0)) xs after) where
-  pub single_painted : TilePaints t tile (IsInSquare tile bx by 8) xs after
+module _ (f : FlatFragment) (tile : Tile) (side : tile.side ≡ T64) (bx by : ℕ) (block : LiesIn tile bx by 8) (xs after : List BlockSamples) (single : way_in_tile xs (number_in_tile tile bx by) ≡ Single)
+    (paints : TilePaints f tile (IsKeptAt tile.count xs (place_by tile.count Single (number_in_tile tile bx by) 0)) xs after) where
+  pub single_painted : TilePaints f tile (IsInSquare tile bx by 8) xs after
   single_painted =
       let left = block.left in
       let right = rw side at block.right in
       let top = block.top in
       let bottom = rw side at block.bottom in
-      tile_same t tile (IsKeptAt tile.count xs (place_by tile.count Single (number_in_tile tile bx by) 0)) (IsInSquare tile bx by 8) xs after paints
+      tile_same f tile (IsKeptAt tile.count xs (place_by tile.count Single (number_in_tile tile bx by) 0)) (IsInSquare tile bx by 8) xs after paints
       (λ row column s h q.
       let here = in_block tile side bx by row column s h q in
       ap (λ m. sample_place tile.count (way_in_tile xs m) (in_list xs) m (pixel_in_block column row) s) here
@@ -201,27 +192,27 @@ module _ (t : Placed) (tile : Tile) (side : tile.side ≡ T64) (bx by : ℕ) (bl
       ])
 
 -- ---- of a tile all of whose blocks are kept as the one to which it was cleared
-module _ (t : Placed) (tile : Tile) (xs after : List BlockSamples) (cleared : (k : ℕ) → k < 64 → way_in_tile xs k ≡ Cleared) (allows : AllowsTile t.state tile)
-    (paints : TilePaints t tile (IsKeptAt tile.count xs 1) xs after) where
-  pub whole_painted : TilePaints t tile (IsAllowed t.state tile) xs after
+module _ (f : FlatFragment) (tile : Tile) (xs after : List BlockSamples) (cleared : (k : ℕ) → k < 64 → way_in_tile xs k ≡ Cleared) (allows : AllowsTile f.state tile)
+    (paints : TilePaints f tile (IsKeptAt tile.count xs 1) xs after) where
+  pub whole_painted : TilePaints f tile (IsAllowed f.state tile) xs after
   whole_painted =
-      tile_same t tile (IsKeptAt tile.count xs 1) (IsAllowed t.state tile) xs after paints
+      tile_same f tile (IsKeptAt tile.count xs 1) (IsAllowed f.state tile) xs after paints
       (λ row column s h p. ap (λ (way : Way). sample_place tile.count way (in_list xs) (block_in_tile column row) (pixel_in_block column row) s) (cleared (block_in_tile column row) (omega arith)))
-      (λ row column s h at. allowed_all t.state tile allows row column s h)
+      (λ row column s h at. allowed_all f.state tile allows row column s h)
 
 -- ---- of a block all of whose bits are set
-module _ (t : Placed) (tile : Tile) (side : tile.side ≡ T64) (bx by : ℕ) (block : LiesIn tile bx by 8) (masks : Masks) (k : ℕ) (allows : AllowsTile t.state tile)
+module _ (f : FlatFragment) (tile : Tile) (side : tile.side ≡ T64) (bx by : ℕ) (block : LiesIn tile bx by 8) (masks : Masks) (k : ℕ) (allows : AllowsTile f.state tile)
     (full : (s bit : ℕ) → s < count_of tile.count → bit < 64 → IsBitSet (block_mask masks k (by - tile.by) s) bit) (old mid new : List BlockSamples)
-    (alike : DrawsAlike t tile.count old mid) (others : KeepsOtherBlocks (number_in_tile tile bx by) tile.count old mid) (paints : TilePaints t tile (IsInSquare tile bx by 8) mid new) where
+    (alike : DrawsAlike f tile.count old mid) (others : KeepsOtherBlocks (number_in_tile tile bx by) tile.count old mid) (paints : TilePaints f tile (IsInSquare tile bx by 8) mid new) where
   module _ (row column s : ℕ) (h : IsSampleOf tile row column s) where
-    in_full : IsInSquare tile bx by 8 row column s → IsInBlock t.state tile bx by masks k row column s
+    in_full : IsInSquare tile bx by 8 row column s → IsInBlock f.state tile bx by masks k row column s
     in_full q =
         let low = block.top in
         let line : by - tile.by ≡ row / 8 = omega (arith, q.top, q.bottom, low) in
         record {
           square = q;
           in_masks = subst (λ r. IsBitSet (block_mask masks k r s) (8 * (row % 8) + column % 8)) line (full s (8 * (row % 8) + column % 8) h.is_sample (omega arith));
-          allowed = allowed_all t.state tile allows row column s h;
+          allowed = allowed_all f.state tile allows row column s h;
         }
 
     in_number : block_in_tile column row ≡ number_in_tile tile bx by → IsInSquare tile bx by 8 row column s
@@ -230,9 +221,9 @@ module _ (t : Placed) (tile : Tile) (side : tile.side ≡ T64) (bx by : ℕ) (bl
         let bottom = rw side at block.bottom in
         of_block tile side bx by row column s h block.left (omega (arith, right)) block.top (omega (arith, bottom)) here
 
-  pub full_painted : TilePaints t tile (IsInBlock t.state tile bx by masks k) old new
+  pub full_painted : TilePaints f tile (IsInBlock f.state tile bx by masks k) old new
   full_painted = record {
-    met = λ row column s h p. alike column row s _ _ h.is_sample (paints.met row column s h p.square);
+    met = λ row column s h p. alike column row s _ h.is_sample (paints.met row column s h p.square);
     missed = λ row column s h other.
         paints.missed row column s h (λ q. other (in_full row column s h q))
         ∙ others column row s h.is_sample (λ here. other (in_full row column s h (in_number row column s h here)));

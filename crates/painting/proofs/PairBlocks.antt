@@ -3,15 +3,14 @@ use Rattle.std.proofs.Common.{refl, ◌≡◌, ◌≢◌, ◌∙◌, inl, inr, s
 use Rattle.std.specs.Prelude.{◌==◌, if◌then◌else◌}
 use Rattle.std.specs.Int.{bit_at}
 use Rattle.std.proofs.lemmas.Bool.Decides.{eqb_tells}
-use Rattle.grid.specs.Samples.{count_of, sample_position}
+use Rattle.grid.specs.Samples.{count_of}
 use Rattle.grid.specs.declared.pixels.TileSide.TheVariants.{T64}
 use Rattle.grid.specs.declared.sample_count.SampleCount.{SampleCount}
 use Rattle.lanes.specs.declared.block_samples.BlockSamples.{BlockSamples}
 use Rattle.lanes.specs.Block.{stored_at}
-use Rattle.shade.specs.declared.placed.Placed.{Placed}
 use Rattle.shade.specs.declared.sample.CanvasSample.{CanvasSample}
-use Rattle.shade.specs.Canvas.{IsCanvasDrawnAt}
 use Rattle.shade.proofs.Resolved.{some_samples}
+use Rattle.lanes.specs.Fragment.{FlatFragment, Takes}
 use Rattle.raster.specs.declared.tile.Tile.{Tile}
 use Rattle.raster.specs.Drawing.{IsInSquare, LiesIn}
 use Rattle.raster.specs.Samples.{IsSampleOf}
@@ -28,7 +27,7 @@ use Rattle.painting.specs.Parts.{block_mask, number_in_tile, AllowsTile, IsInWor
 use Rattle.painting.proofs.BlocksAlike.{drawn_alike}
 use Rattle.painting.proofs.Joined.{tile_same, tile_joined}
 use Rattle.painting.proofs.OnePlane.{allowed_all, no_masks_at, place_apart, same_places}
-use Rattle.painting.proofs.Tiles.{on_screen, in_block, of_block}
+use Rattle.painting.proofs.Tiles.{in_block, of_block}
 
 -- ---- the planes of a pair
 pub no_masks_first : (count : SampleCount) (xs : List BlockSamples) (k : ℕ) → 4 ≤ count_of count → HasNoMasks count xs (place_by count Pair k 0)
@@ -61,7 +60,7 @@ module _ (tile : Tile) (side : tile.side ≡ T64) (bx by : ℕ) (block : LiesIn 
       of_block tile side bx by row column s h block.left (omega (arith, right)) block.top (omega (arith, bottom)) here
 
 -- its samples in the masks of all samples of a pixel are those that are drawn
-module _ (t : Placed) (tile : Tile) (bx by : ℕ) (block : LiesIn tile bx by 8) (masks : Masks) (k : ℕ) (allows : AllowsTile t.state tile) (words : List ℕ)
+module _ (f : FlatFragment) (tile : Tile) (bx by : ℕ) (block : LiesIn tile bx by 8) (masks : Masks) (k : ℕ) (allows : AllowsTile f.state tile) (words : List ℕ)
     (are : (s : ℕ) → s < count_of tile.count → slice_index words s ≡ block_mask masks k (by - tile.by) s) (old new : List BlockSamples) where
   word_is : (row column s : ℕ) → IsSampleOf tile row column s → IsInSquare tile bx by 8 row column s → slice_index words s ≡ block_mask masks k (row / 8) s
   word_is row column s h q =
@@ -69,29 +68,29 @@ module _ (t : Placed) (tile : Tile) (bx by : ℕ) (block : LiesIn tile bx by 8) 
       let line : by - tile.by ≡ row / 8 = omega (arith, q.top, q.bottom, low) in
       are s h.is_sample ∙ ap (λ r. block_mask masks k r s) line
 
-  in_words_of : (row column s : ℕ) → IsSampleOf tile row column s → IsInBlock t.state tile bx by masks k row column s → IsInWords tile bx by words row column s
+  in_words_of : (row column s : ℕ) → IsSampleOf tile row column s → IsInBlock f.state tile bx by masks k row column s → IsInWords tile bx by words row column s
   in_words_of row column s h p = record {
     square = p.square;
     in_words = subst (λ w. bit_at w (pixel_in_block column row) ≡ 1) (sym (word_is row column s h p.square)) (is_one (block_mask masks k (row / 8) s) (pixel_in_block column row) p.in_masks);
   }
 
-  in_block_of : (row column s : ℕ) → IsSampleOf tile row column s → IsInWords tile bx by words row column s → IsInBlock t.state tile bx by masks k row column s
+  in_block_of : (row column s : ℕ) → IsSampleOf tile row column s → IsInWords tile bx by words row column s → IsInBlock f.state tile bx by masks k row column s
   in_block_of row column s h p = record {
     square = p.square;
     in_masks = is_set (block_mask masks k (row / 8) s) (pixel_in_block column row) (subst (λ w. bit_at w (pixel_in_block column row) ≡ 1) (word_is row column s h p.square) p.in_words);
-    allowed = allowed_all t.state tile allows row column s h;
+    allowed = allowed_all f.state tile allows row column s h;
   }
 
-  pub words_painted : TilePaints t tile (IsInWords tile bx by words) old new → TilePaints t tile (IsInBlock t.state tile bx by masks k) old new
-  words_painted paints = tile_same t tile (IsInWords tile bx by words) (IsInBlock t.state tile bx by masks k) old new paints in_words_of in_block_of
+  pub words_painted : TilePaints f tile (IsInWords tile bx by words) old new → TilePaints f tile (IsInBlock f.state tile bx by masks k) old new
+  words_painted paints = tile_same f tile (IsInWords tile bx by words) (IsInBlock f.state tile bx by masks k) old new paints in_words_of in_block_of
 
-  pub block_painted : TilePaints t tile (IsInBlock t.state tile bx by masks k) old new → TilePaints t tile (IsInWords tile bx by words) old new
-  block_painted paints = tile_same t tile (IsInBlock t.state tile bx by masks k) (IsInWords tile bx by words) old new paints in_block_of in_words_of
+  pub block_painted : TilePaints f tile (IsInBlock f.state tile bx by masks k) old new → TilePaints f tile (IsInWords tile bx by words) old new
+  block_painted paints = tile_same f tile (IsInBlock f.state tile bx by masks k) (IsInWords tile bx by words) old new paints in_block_of in_words_of
 
 -- ---- drawn in the second plane, which has the samples in the masks
-module _ (t : Placed) (tile : Tile) (side : tile.side ≡ T64) (bx by : ℕ) (block : LiesIn tile bx by 8) (words : List ℕ) (mid new : List BlockSamples) (some : 4 ≤ count_of tile.count)
+module _ (f : FlatFragment) (tile : Tile) (side : tile.side ≡ T64) (bx by : ℕ) (block : LiesIn tile bx by 8) (words : List ℕ) (mid new : List BlockSamples) (some : 4 ≤ count_of tile.count)
     (pair : way_in_tile mid (number_in_tile tile bx by) ≡ Pair) (has : HasMasks tile.count (number_in_tile tile bx by) words mid)
-    (paints : TilePaints t tile (IsKeptAt tile.count mid (place_by tile.count Pair (number_in_tile tile bx by) (count_of tile.count / 2))) mid new) where
+    (paints : TilePaints f tile (IsKeptAt tile.count mid (place_by tile.count Pair (number_in_tile tile bx by) (count_of tile.count / 2))) mid new) where
   abbrev number : ℕ
   number = number_in_tile tile bx by
 
@@ -110,9 +109,9 @@ module _ (t : Placed) (tile : Tile) (side : tile.side ≡ T64) (bx by : ℕ) (bl
         ];
       }
 
-  pub pair_painted : TilePaints t tile (IsInWords tile bx by words) mid new
+  pub pair_painted : TilePaints f tile (IsInWords tile bx by words) mid new
   pair_painted =
-      tile_same t tile (IsKeptAt tile.count mid (place_by tile.count Pair number (count_of tile.count / 2))) (IsInWords tile bx by words) mid new paints
+      tile_same f tile (IsKeptAt tile.count mid (place_by tile.count Pair number (count_of tile.count / 2))) (IsInWords tile bx by words) mid new paints
       (λ row column s h p.
       let p_in : ℕ = pixel_in_block column row in
       pair_place tile.count mid column row s number (in_block tile side bx by row column s h p.square) pair
@@ -124,19 +123,19 @@ module _ (t : Placed) (tile : Tile) (side : tile.side ≡ T64) (bx by : ℕ) (bl
       ])
 
 -- ---- drawn in both planes
-module _ (t : Placed) (tile : Tile) (side : tile.side ≡ T64) (bx by : ℕ) (block : LiesIn tile bx by 8) (old mid new : List BlockSamples) (some : 4 ≤ count_of tile.count)
+module _ (f : FlatFragment) (tile : Tile) (side : tile.side ≡ T64) (bx by : ℕ) (block : LiesIn tile bx by 8) (old mid new : List BlockSamples) (some : 4 ≤ count_of tile.count)
     (pair : way_in_tile old (number_in_tile tile bx by) ≡ Pair) (others : KeepsPlanesBut (place_by tile.count Pair (number_in_tile tile bx by) 0) old mid)
-    (first : TilePaints t tile (IsKeptAt tile.count old (place_by tile.count Pair (number_in_tile tile bx by) 0)) old mid)
-    (second : TilePaints t tile (IsKeptAt tile.count mid (place_by tile.count Pair (number_in_tile tile bx by) (count_of tile.count / 2))) mid new) where
+    (first : TilePaints f tile (IsKeptAt tile.count old (place_by tile.count Pair (number_in_tile tile bx by) 0)) old mid)
+    (second : TilePaints f tile (IsKeptAt tile.count mid (place_by tile.count Pair (number_in_tile tile bx by) (count_of tile.count / 2))) mid new) where
   abbrev its : ℕ
   its = number_in_tile tile bx by
 
   same_mid : (i j s : ℕ) → place_in_tile tile.count (in_list mid) i j s ≡ place_in_tile tile.count (in_list old) i j s
   same_mid = same_places tile.count (place_by tile.count Pair its 0) old mid (omega arith) others (no_masks_first tile.count old its some)
 
-  pub both_painted : TilePaints t tile (IsInSquare tile bx by 8) old new
+  pub both_painted : TilePaints f tile (IsInSquare tile bx by 8) old new
   both_painted =
-      tile_joined t tile (IsKeptAt tile.count old (place_by tile.count Pair its 0)) (IsKeptAt tile.count mid (place_by tile.count Pair its (count_of tile.count / 2))) (IsInSquare tile bx by 8) old mid new first second
+      tile_joined f tile (IsKeptAt tile.count old (place_by tile.count Pair its 0)) (IsKeptAt tile.count mid (place_by tile.count Pair its (count_of tile.count / 2))) (IsInSquare tile bx by 8) old mid new first second
       (λ row column s h p q. let same = same_mid column row s in omega (arith, p, q, same, some))
       (λ row column s h q.
       let marks = masks_in tile.count (in_list old) its in
@@ -156,11 +155,11 @@ module _ (t : Placed) (tile : Tile) (side : tile.side ≡ T64) (bx by : ℕ) (bl
       ])
 
 -- ---- stored in place of the samples in the masks
-module _ (t : Placed) (tile : Tile) (side : tile.side ≡ T64) (bx by : ℕ) (block : LiesIn tile bx by 8) (words : List ℕ) (plane : BlockSamples) (old new : List BlockSamples)
-    (pair : way_in_tile old (number_in_tile tile bx by) ≡ Pair) (replaces : ReplacesColours t.state tile.count)
+module _ (f : FlatFragment) (tile : Tile) (side : tile.side ≡ T64) (bx by : ℕ) (block : LiesIn tile bx by 8) (words : List ℕ) (plane : BlockSamples) (old new : List BlockSamples)
+    (pair : way_in_tile old (number_in_tile tile bx by) ≡ Pair) (replaces : ReplacesColours f.state tile.count)
     (same : ((in_list old (place_by tile.count Pair (number_in_tile tile bx by) 0)).z ≡ (in_list old (place_by tile.count Pair (number_in_tile tile bx by) (count_of tile.count / 2))).z)
     × ((in_list old (place_by tile.count Pair (number_in_tile tile bx by) 0)).alpha ≡ (in_list old (place_by tile.count Pair (number_in_tile tile bx by) (count_of tile.count / 2))).alpha))
-    (drawn : DrawsPlane t (in_list old (place_by tile.count Pair (number_in_tile tile bx by) 0)) plane)
+    (drawn : DrawsPlane f (in_list old (place_by tile.count Pair (number_in_tile tile bx by) 0)) plane)
     (made : AreReplaced tile.count (number_in_tile tile bx by) words plane old new) (others : KeepsOtherSamples tile.count (number_in_tile tile bx by) old new) where
   abbrev this : ℕ
   this = number_in_tile tile bx by
@@ -175,33 +174,29 @@ module _ (t : Placed) (tile : Tile) (side : tile.side ≡ T64) (bx by : ℕ) (bl
     abbrev pixel : ℕ
     pixel = pixel_in_block column row
 
-    seen : (8 * tile.bx + column < 4096) × (8 * tile.by + row < 4096)
-    seen = on_screen tile side bx by row column s h
-
     -- the stored sample is that of one of the two planes
-    drawn_over : block_in_tile column row ≡ this → IsCanvasDrawnAt t (sample_position (8 * tile.bx + column) (8 * tile.by + row) s tile.count) (stored_in_tile tile.count old column row s) (stored_at plane pixel)
+    drawn_over : block_in_tile column row ≡ this → Takes f (stored_in_tile tile.count old column row s) (stored_at plane pixel)
     drawn_over here =
         let marks = masks_in tile.count (in_list old) this in
-        let position = sample_position (8 * tile.bx + column) (8 * tile.by + row) s tile.count in
-        let over_first = drawn tile.count (8 * tile.bx + column) (8 * tile.by + row) s pixel seen.0 seen.1 (omega arith) in
-        let over_second = drawn_alike t tile.count position (stored_at first_plane pixel) (stored_at second_plane pixel) (stored_at plane pixel) replaces
+        let over_first = drawn pixel (omega arith) in
+        let over_second = drawn_alike f tile.count (stored_at first_plane pixel) (stored_at second_plane pixel) (stored_at plane pixel) replaces
         (ap (λ (z : List ℕ). slice_index z pixel) (sym same.0)) (ap (λ (alpha : List ℕ). slice_index alpha pixel) (sym same.1)) over_first in
         let place = pair_place tile.count old column row s this here pair in
         let stored_is : stored_in_tile tile.count old column row s ≡ stored_at (in_list old (place_in_tile tile.count (in_list old) column row s)) pixel =
         ap (λ way. stored_at (in_list old (place_in_tile tile.count (in_list old) column row s)) (slot_by way (block_in_tile column row) pixel)) (ap (way_in_tile old) here ∙ pair) in
-        let drawn_at = λ (n : ℕ) (e : place_in_tile tile.count (in_list old) column row s ≡ n). subst (λ (x : CanvasSample). IsCanvasDrawnAt t position x (stored_at plane pixel)) (sym (stored_is ∙ ap (λ n. stored_at (in_list old n) pixel) e)) in
+        let drawn_at = λ (n : ℕ) (e : place_in_tile tile.count (in_list old) column row s ≡ n). subst (λ (x : CanvasSample). Takes f x (stored_at plane pixel)) (sym (stored_is ∙ ap (λ n. stored_at (in_list old n) pixel) e)) in
         elim (cases_eq (bit_at (mask_in marks s) pixel) 1) [
           | inl set ↦ drawn_at _ (place ∙ ap (place_by tile.count Pair this) (with_bit tile.count marks (more_in tile.count (in_list old) this) pixel s set)) over_second
           | inr clear ↦ drawn_at _ (place ∙ ap (place_by tile.count Pair this) (without_bit tile.count marks (more_in tile.count (in_list old) this) pixel s clear)) over_first
         ]
 
     in_words_is : IsInWords tile bx by words row column s
-        → IsCanvasDrawnAt t (sample_position (8 * tile.bx + column) (8 * tile.by + row) s tile.count) (stored_in_tile tile.count old column row s) (stored_in_tile tile.count new column row s)
+        → Takes f (stored_in_tile tile.count old column row s) (stored_in_tile tile.count new column row s)
     in_words_is p =
         let here = in_block tile side bx by row column s h p.square in
         let new_is : stored_in_tile tile.count new column row s ≡ stored_at plane pixel =
         made column row s h.is_sample here ∙ ap (λ b. if b == 1 then stored_at plane pixel else stored_in_tile tile.count old column row s) p.in_words in
-        subst (λ (y : CanvasSample). IsCanvasDrawnAt t (sample_position (8 * tile.bx + column) (8 * tile.by + row) s tile.count) (stored_in_tile tile.count old column row s) y) (sym new_is) (drawn_over here)
+        subst (λ (y : CanvasSample). Takes f (stored_in_tile tile.count old column row s) y) (sym new_is) (drawn_over here)
 
     not_in_words : ¬ IsInWords tile bx by words row column s → stored_in_tile tile.count new column row s ≡ stored_in_tile tile.count old column row s
     not_in_words missed =
@@ -213,5 +208,5 @@ module _ (t : Placed) (tile : Tile) (side : tile.side ≡ T64) (bx by : ℕ) (bl
           ]
         ]
 
-  pub replaced_painted : TilePaints t tile (IsInWords tile bx by words) old new
+  pub replaced_painted : TilePaints f tile (IsInWords tile bx by words) old new
   replaced_painted = record { met = λ row column s h p. in_words_is row column s h p; missed = λ row column s h other. not_in_words row column s h other }

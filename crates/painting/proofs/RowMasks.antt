@@ -23,7 +23,7 @@ use Rattle.canvas.specs.Window.{moved_state}
 use Rattle.painting.specs.declared.masks.Masks.{Masks}
 use Rattle.painting.specs.declared.polygon.Polygon.{Polygon}
 use Rattle.painting.specs.Painting.{IsInScissor, shape_of}
-use Rattle.painting.specs.Parts.{over_screen, AreMasksOfRow, IsFlagged, MeetsHere, RowsPaint}
+use Rattle.painting.specs.Parts.{seen_fragment, AreMasksOfRow, IsFlagged, MeetsHere, RowsPaint}
 use Rattle.painting.proofs.Joined.{rows_same}
 
 -- the state as seen from the origin lets the same samples be drawn
@@ -95,22 +95,22 @@ module _ (polygon : Polygon) (origin : Origin) (c : Canvas) (row first many each
         ↔ PolygonCovers polygon.rule (shape_of polygon).rings (screen_sample (pos i +ℤ origin.x) (pos j +ℤ origin.y) s c.count)
     said = rw columns (are i j s h left right)
 
-    meets_flagged : IsFlagged (over_screen polygon origin).state first many masks i j s → MeetsHere polygon origin c.count i j s
+    meets_flagged : IsFlagged (seen_fragment polygon origin).state first many masks i j s → MeetsHere polygon origin c.count i j s
     meets_flagged p = record {
       covered = said.0 p.in_masks;
       in_scissor = allows_here polygon.state origin.x origin.y i j s thin short (record { in_scissor = p.allowed.in_scissor; in_mask = p.allowed.in_mask });
       in_mask = p.allowed.in_mask;
     }
 
-    flagged_met : MeetsHere polygon origin c.count i j s → IsFlagged (over_screen polygon origin).state first many masks i j s
+    flagged_met : MeetsHere polygon origin c.count i j s → IsFlagged (seen_fragment polygon origin).state first many masks i j s
     flagged_met m =
         let allowed = here_allows polygon.state origin.x origin.y i j s thin short m.in_scissor m.in_mask in
         record { left = omega (arith, left); right = omega (arith, right); in_masks = said.1 m.covered; allowed = record { in_scissor = allowed.in_scissor; in_mask = allowed.in_mask } }
 
   pub all_met : (held : (i j s : ℕ) → IsStoredIn c row (row + 1) i j s → MeetsHere polygon origin c.count i j s → (first ≤ i / 8) × (i / 8 < first + many)) (old new : List BlockSamples)
-      → RowsPaint (over_screen polygon origin) c row (row + 1) (IsFlagged (over_screen polygon origin).state first many masks) old new
-      → RowsPaint (over_screen polygon origin) c row (row + 1) (MeetsHere polygon origin c.count) old new
+      → RowsPaint (seen_fragment polygon origin) c row (row + 1) (IsFlagged (seen_fragment polygon origin).state first many masks) old new
+      → RowsPaint (seen_fragment polygon origin) c row (row + 1) (MeetsHere polygon origin c.count) old new
   all_met held old new paints =
-      rows_same (over_screen polygon origin) c row (row + 1) (IsFlagged (over_screen polygon origin).state first many masks) (MeetsHere polygon origin c.count) old new paints
+      rows_same (seen_fragment polygon origin) c row (row + 1) (IsFlagged (seen_fragment polygon origin).state first many masks) (MeetsHere polygon origin c.count) old new paints
       (λ i j s h m. let place = held i j s h m in flagged_met i j s h place.0 place.1 m)
       (λ i j s h p. meets_flagged i j s h (omega (arith, p.left)) (omega (arith, p.right)) p)

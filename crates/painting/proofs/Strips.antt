@@ -1,14 +1,11 @@
 -- The columns of blocks of a tile row, one after another.
 use Rattle.std.proofs.Common.{◌≡◌, ◌≢◌, ◌⊎◌, inl, inr, refl, sym, subst, ap, ◌∙◌, arith, ℕ, ◌+◌, ◌-◌, ◌*◌, ◌/◌, ◌%◌, ◌<◌, ◌≤◌, List, length, take, drop, IsBitSet}
 use Rattle.std.proofs.lemmas.Bool.{cases_lt}
-use Rattle.grid.specs.Position.{Position}
-use Rattle.grid.specs.Samples.{sample_position}
 use Rattle.grid.specs.declared.pixels.TileSide.TheVariants.{T64}
 use Rattle.grid.specs.declared.sample_count.SampleCount.{SampleCount}
 use Rattle.lanes.specs.declared.block_samples.BlockSamples.{BlockSamples}
-use Rattle.shade.specs.declared.placed.Placed.{Placed}
 use Rattle.shade.specs.declared.sample.CanvasSample.{CanvasSample}
-use Rattle.shade.specs.Canvas.{IsCanvasDrawnAt}
+use Rattle.lanes.specs.Fragment.{FlatFragment, Takes}
 use Rattle.raster.specs.declared.tile.Tile.{Tile}
 use Rattle.raster.specs.Samples.{IsSampleOf}
 use Rattle.canvas.specs.declared.canvas.Canvas.{Canvas}
@@ -40,8 +37,8 @@ cases_eq a b =
       | inr from ↦ elim (cases_lt b a) [ inl more ↦ inr (λ e. omega (arith, e, more)) | inr to ↦ inl (omega (arith, from, to)) ]
     ]
 
-module _ (t : Placed) (c : Canvas) (row column : ℕ) (tile : Tile) (is : IsTileAt c column row tile) (Q : ℕ → ℕ → ℕ → Type 0) (mid part : List BlockSamples) (n a : ℕ) (room : a + n ≤ length mid) (long : length part ≡ n)
-    (many : n ≡ planes_of_tile c.count) (at : a ≡ column * planes_of_tile c.count) (paints : TilePaints t tile Q (take n (drop a mid)) part) where
+module _ (f : FlatFragment) (c : Canvas) (row column : ℕ) (tile : Tile) (is : IsTileAt c column row tile) (Q : ℕ → ℕ → ℕ → Type 0) (mid part : List BlockSamples) (n a : ℕ) (room : a + n ≤ length mid) (long : length part ≡ n)
+    (many : n ≡ planes_of_tile c.count) (at : a ≡ column * planes_of_tile c.count) (paints : TilePaints f tile Q (take n (drop a mid)) part) where
   module _ (i j s : ℕ) (h : IsStoredIn c row (row + 1) i j s) where
     in_row : j / 64 ≡ row
     in_row = omega (arith, h.from, h.below)
@@ -61,14 +58,10 @@ module _ (t : Placed) (c : Canvas) (row column : ℕ) (tile : Tile) (is : IsTile
     new_is : i / 64 ≡ column → stored_in_tile tile.count part (i % 64) (j % 64) s ≡ stored c row (put mid part a n) i j s
     new_is same = within tile.count c.count part i j s is.3 ∙ sym (tile_put c i j s mid part n a room long row in_row column many at h.is_sample same)
 
-    met : i / 64 ≡ column → Q (j % 64) (i % 64) s → IsCanvasDrawnAt t (sample_position i j s c.count) (stored c row mid i j s) (stored c row (put mid part a n) i j s)
+    met : i / 64 ≡ column → Q (j % 64) (i % 64) s → Takes f (stored c row mid i j s) (stored c row (put mid part a n) i j s)
     met same q =
-        let drawn = paints.met (j % 64) (i % 64) s in_tile q in
-        let there : IsCanvasDrawnAt t (sample_position i j s c.count) (stored_in_tile tile.count (take n (drop a mid)) (i % 64) (j % 64) s) (stored_in_tile tile.count part (i % 64) (j % 64) s) =
-        subst (λ (p : Position). IsCanvasDrawnAt t p (stored_in_tile tile.count (take n (drop a mid)) (i % 64) (j % 64) s) (stored_in_tile tile.count part (i % 64) (j % 64) s))
-        (λ k. sample_position (across same k) (down k) s (is.3 k)) drawn in
-        subst (λ (x : CanvasSample). IsCanvasDrawnAt t (sample_position i j s c.count) x (stored c row (put mid part a n) i j s)) (old_is same)
-        (subst (λ (y : CanvasSample). IsCanvasDrawnAt t (sample_position i j s c.count) (stored_in_tile tile.count (take n (drop a mid)) (i % 64) (j % 64) s) y) (new_is same) there)
+        subst (λ (x : CanvasSample). Takes f x (stored c row (put mid part a n) i j s)) (old_is same)
+        (subst (λ (y : CanvasSample). Takes f (stored_in_tile tile.count (take n (drop a mid)) (i % 64) (j % 64) s) y) (new_is same) (paints.met (j % 64) (i % 64) s in_tile q))
 
     missed : ¬ ((i / 64 ≡ column) × Q (j % 64) (i % 64) s) → stored c row (put mid part a n) i j s ≡ stored c row mid i j s
     missed other =
@@ -77,22 +70,22 @@ module _ (t : Placed) (c : Canvas) (row column : ℕ) (tile : Tile) (is : IsTile
           | inr apart ↦ tile_kept c i j s mid part n a room long row in_row column many at h.is_sample apart
         ]
 
-  pub tile_in_row : RowsPaint t c row (row + 1) (λ i j s. (i / 64 ≡ column) × Q (j % 64) (i % 64) s) mid (put mid part a n)
+  pub tile_in_row : RowsPaint f c row (row + 1) (λ i j s. (i / 64 ≡ column) × Q (j % 64) (i % 64) s) mid (put mid part a n)
   tile_in_row = record { met = λ i j s h q. met i j s h q.0 q.1; missed = missed }
 
 -- ---- one column of blocks more
-module _ (t : Placed) (c : Canvas) (row first k : ℕ) (masks : Masks) (tile : Tile) (is : IsTileAt c ((first + k) / 8) row tile) where
+module _ (f : FlatFragment) (c : Canvas) (row first k : ℕ) (masks : Masks) (tile : Tile) (is : IsTileAt c ((first + k) / 8) row tile) where
   abbrev bx : ℕ
   bx = first + k
 
   abbrev Before : ℕ → ℕ → ℕ → Type 0
-  Before i j s = IsFlagged t.state first k masks i j s
+  Before i j s = IsFlagged f.state first k masks i j s
 
   abbrev After : ℕ → ℕ → ℕ → Type 0
-  After i j s = IsFlagged t.state first (k + 1) masks i j s
+  After i j s = IsFlagged f.state first (k + 1) masks i j s
 
   abbrev Here : ℕ → ℕ → ℕ → Type 0
-  Here i j s = (i / 64 ≡ bx / 8) × IsInColumn t.state tile bx 8 masks k (j % 64) (i % 64) s
+  Here i j s = (i / 64 ≡ bx / 8) × IsInColumn f.state tile bx 8 masks k (j % 64) (i % 64) s
 
   module _ (i j s : ℕ) (h : IsStoredIn c row (row + 1) i j s) where
     abbrev bit : ℕ
@@ -138,11 +131,11 @@ module _ (t : Placed) (c : Canvas) (row first k : ℕ) (masks : Masks) (tile : T
         }
 
   module _ (old mid part : List BlockSamples) (n a : ℕ) (room : a + n ≤ length mid) (long : length part ≡ n) (many : n ≡ planes_of_tile c.count) (at : a ≡ bx / 8 * planes_of_tile c.count)
-      (before : RowsPaint t c row (row + 1) Before old mid) (paints : TilePaints t tile (IsInColumn t.state tile bx 8 masks k) (take n (drop a mid)) part) where
-    pub one_column_more : RowsPaint t c row (row + 1) After old (put mid part a n)
+      (before : RowsPaint f c row (row + 1) Before old mid) (paints : TilePaints f tile (IsInColumn f.state tile bx 8 masks k) (take n (drop a mid)) part) where
+    pub one_column_more : RowsPaint f c row (row + 1) After old (put mid part a n)
     one_column_more =
-        rows_joined t c row (row + 1) Before Here After old mid (put mid part a n) before
-        (tile_in_row t c row (bx / 8) tile is (IsInColumn t.state tile bx 8 masks k) mid part n a room long many at paints)
+        rows_joined f c row (row + 1) Before Here After old mid (put mid part a n) before
+        (tile_in_row f c row (bx / 8) tile is (IsInColumn f.state tile bx 8 masks k) mid part n a room long many at paints)
         (λ i j s h p q. let l = p.right in let column : 8 * tile.bx + i % 64 ≡ i = omega (arith, is.0, q.0) in let m = q.1.left in omega (arith, l, m, column))
         (λ i j s h r. elim (cases_lt i (8 * (first + k))) [ inl less ↦ inl (before_after i j s h less r) | inr more ↦ inr (here_after i j s h more r) ])
         (λ i j s h p. after_before i j s h p)

@@ -2,11 +2,9 @@
 use Rattle.std.proofs.Common.{◌≡◌, inl, inr, refl, sym, subst, ap, ◌∙◌, arith, ℕ, ◌+◌, ◌-◌, ◌*◌, ◌/◌, ◌<◌, ◌≤◌, List, [], ◌∷◌, length, take, drop, slice_index, pos, ◌+ℤ◌}
 use Rattle.std.proofs.lemmas.Bool.{cases_lt}
 use Rattle.std.proofs.lemmas.List.{get_or-take, get_or_past, length-take}
-use Rattle.grid.specs.Samples.{sample_position}
 use Rattle.lanes.specs.declared.block_samples.BlockSamples.{BlockSamples}
-use Rattle.shade.specs.declared.placed.Placed.{Placed}
 use Rattle.shade.specs.declared.sample.CanvasSample.{CanvasSample}
-use Rattle.shade.specs.Canvas.{IsCanvasDrawnAt}
+use Rattle.lanes.specs.Fragment.{FlatFragment, Takes}
 use Rattle.polygons.specs.Rings.{HoldsInside, rings_from}
 use Rattle.polygons.specs.Polygon.{polygon_edges}
 use Rattle.polygons.specs.declared.extent.Extent.{Extent}
@@ -19,10 +17,10 @@ use Rattle.blocks.proofs.Cut.{put, put_here, put_elsewhere}
 use Rattle.canvas.proofs.Places.{row_of as in_row, row_put, row_kept}
 use Rattle.painting.specs.declared.polygon.Polygon.{Polygon}
 use Rattle.painting.specs.declared.window.Window.{Window}
-use Rattle.painting.specs.Painting.{ArePainted, MeetsSample, PaintAll, Shape, shape_of}
-use Rattle.painting.specs.Parts.{over_screen, LiesInRows, MeetsHere, RowsPaint, HoldsSamples}
+use Rattle.painting.specs.Painting.{ArePainted, MeetsSample, PaintAll, Shape, fragment_of, shape_of}
+use Rattle.painting.specs.Parts.{seen_fragment, LiesInRows, MeetsHere, RowsPaint, HoldsSamples}
 use Rattle.painting.proofs.Joined.{rows_joined}
-use Rattle.painting.proofs.Screen.{applied}
+use Rattle.painting.proofs.Merged.{by_alpha}
 use Rattle.painting.proofs.Strips.{cases_eq}
 
 -- ---- one tile row of several
@@ -81,13 +79,13 @@ row_not_met shape origin c row top bottom old few lies apart i j s h =
     apart (omega (arith, inside.0, below), omega (arith, inside.1, from)) in
     (stored c row old i j s, record { met = λ m. absurd (none m); missed = λ n. refl }, refl)
 
-module _ (t : Placed) (c : Canvas) (first end row : ℕ) (from : first ≤ row) (Q : ℕ → ℕ → ℕ → Type 0) (mid part : List BlockSamples) (n a : ℕ) (room : a + n ≤ length mid) (long : length part ≡ n) (many : n ≡ planes_of_row c)
-    (at : a ≡ (row - first) * planes_of_row c) (paints : RowsPaint t c row (row + 1) Q (take n (drop a mid)) part) where
+module _ (f : FlatFragment) (c : Canvas) (first end row : ℕ) (from : first ≤ row) (Q : ℕ → ℕ → ℕ → Type 0) (mid part : List BlockSamples) (n a : ℕ) (room : a + n ≤ length mid) (long : length part ≡ n) (many : n ≡ planes_of_row c)
+    (at : a ≡ (row - first) * planes_of_row c) (paints : RowsPaint f c row (row + 1) Q (take n (drop a mid)) part) where
   module _ (i j s : ℕ) (h : IsStoredIn c first end i j s) where
-    met : j / 64 ≡ row → Q i j s → IsCanvasDrawnAt t (sample_position i j s c.count) (stored c first mid i j s) (stored c first (put mid part a n) i j s)
+    met : j / 64 ≡ row → Q i j s → Takes f (stored c first mid i j s) (stored c first (put mid part a n) i j s)
     met same q =
-        subst (λ (x : CanvasSample). IsCanvasDrawnAt t (sample_position i j s c.count) x (stored c first (put mid part a n) i j s)) (old_is c first end row from mid part n a room long many at i j s h same)
-        (subst (λ (y : CanvasSample). IsCanvasDrawnAt t (sample_position i j s c.count) (stored c row (take n (drop a mid)) i j s) y) (new_is c first end row from mid part n a room long many at i j s h same) (paints.met i j s (here c first end row from mid part n a room long many at i j s h same) q))
+        subst (λ (x : CanvasSample). Takes f x (stored c first (put mid part a n) i j s)) (old_is c first end row from mid part n a room long many at i j s h same)
+        (subst (λ (y : CanvasSample). Takes f (stored c row (take n (drop a mid)) i j s) y) (new_is c first end row from mid part n a room long many at i j s h same) (paints.met i j s (here c first end row from mid part n a room long many at i j s h same) q))
 
     missed : ¬ ((j / 64 ≡ row) × Q i j s) → stored c first (put mid part a n) i j s ≡ stored c first mid i j s
     missed other =
@@ -96,16 +94,16 @@ module _ (t : Placed) (c : Canvas) (first end row : ℕ) (from : first ≤ row) 
           | inr apart ↦ elsewhere c first end row from mid part n a room long many at i j s h apart
         ]
 
-  row_in_rows : RowsPaint t c first end (λ i j s. (j / 64 ≡ row) × Q i j s) mid (put mid part a n)
+  row_in_rows : RowsPaint f c first end (λ i j s. (j / 64 ≡ row) × Q i j s) mid (put mid part a n)
   row_in_rows = record { met = λ i j s h q. met i j s h q.0 q.1; missed = missed }
 
   -- the rows before this one have been painted
   abbrev pub Before : ℕ → ℕ → ℕ → ℕ → Type 0
   Before next i j s = (j / 64 < next) × Q i j s
 
-  pub one_row_more : (old : List BlockSamples) → RowsPaint t c first end (Before row) old mid → RowsPaint t c first end (Before (row + 1)) old (put mid part a n)
+  pub one_row_more : (old : List BlockSamples) → RowsPaint f c first end (Before row) old mid → RowsPaint f c first end (Before (row + 1)) old (put mid part a n)
   one_row_more old before =
-      rows_joined t c first end (Before row) (λ i j s. (j / 64 ≡ row) × Q i j s) (Before (row + 1)) old mid (put mid part a n) before row_in_rows
+      rows_joined f c first end (Before row) (λ i j s. (j / 64 ≡ row) × Q i j s) (Before (row + 1)) old mid (put mid part a n) before row_in_rows
       (λ i j s h p q. let l = p.0 in let e = q.0 in omega (arith, l, e))
       (λ i j s h r. elim (cases_lt (j / 64) row) [ inl less ↦ inl (less, r.1) | inr more ↦ inr (omega (arith, more, r.0), r.1) ])
       (λ i j s h p. (omega (arith, p.0), p.1))
@@ -120,20 +118,16 @@ module _ (polygon : Polygon) (origin : Origin) (c : Canvas) (extent : Extent) (w
       window i j s h.column (omega (arith, few, below)) (holds polygon.rule _ m.covered)
 
 -- ---- the samples as the polygon makes them
-pub polygon_painted : (polygon : Polygon) (origin : Origin) (c : Canvas) (first end : ℕ) (old new : List BlockSamples) → end ≤ rows_of c
-    → RowsPaint (over_screen polygon origin) c first end (MeetsHere polygon origin c.count) old new → ArePainted (shape_of polygon ∷ []) origin c first end old new
-polygon_painted polygon origin c first end old new few paints i j s h =
-    let wide = c.width_fits in
-    let high = c.height_fits in
-    let column = h.column in
-    let below = h.below in (
-      stored c first new i j s,
-      record {
-        met = λ m. applied polygon origin c.count i j s _ _ (omega (arith, wide, column)) (omega (arith, few, high, below)) (paints.met i j s h m);
-        missed = λ n. paints.missed i j s h n;
-      },
-      refl,
-    )
+pub polygon_painted : (polygon : Polygon) (origin : Origin) (c : Canvas) (first end : ℕ) (old new : List BlockSamples)
+    → RowsPaint (seen_fragment polygon origin) c first end (MeetsHere polygon origin c.count) old new → ArePainted (shape_of polygon ∷ []) origin c first end old new
+polygon_painted polygon origin c first end old new paints i j s h = (
+  stored c first new i j s,
+  record {
+    met = λ m. by_alpha polygon.state.merge (fragment_of (shape_of polygon)) _ _ (paints.met i j s h m);
+    missed = λ n. paints.missed i j s h n;
+  },
+  refl,
+)
 
 -- ---- parts of scratch memory
 pub zeros_of_part : (xs : List (List ℕ)) (n : ℕ) → AreZeros xs → AreZeros (take n xs)

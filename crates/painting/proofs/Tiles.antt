@@ -6,12 +6,11 @@ use Rattle.grid.specs.Samples.{count_of, sample_position}
 use Rattle.grid.specs.declared.pixels.TileSide.TheVariants.{T64}
 use Rattle.lanes.specs.declared.block_samples.BlockSamples.{BlockSamples}
 use Rattle.lanes.specs.Block.{stored_at}
-use Rattle.shade.specs.declared.placed.Placed.{Placed}
 use Rattle.shade.specs.declared.sample.CanvasSample.{CanvasSample}
-use Rattle.shade.specs.Canvas.{IsCanvasDrawnAt}
 use Rattle.shade.proofs.Resolved.{some_samples, few_samples}
+use Rattle.lanes.specs.Fragment.{FlatFragment, Takes}
 use Rattle.raster.specs.declared.tile.Tile.{Tile}
-use Rattle.raster.specs.Drawing.{IsChosen, IsInSquare, DrawsMasks}
+use Rattle.raster.specs.Drawing.{IsChosen, IsInSquare, MergesMasks}
 use Rattle.raster.specs.Samples.{IsSampleOf, place_of as place_in, stored as in_tile}
 use Rattle.blocks.specs.declared.way.Way.{Way}
 use Rattle.blocks.specs.declared.way.Way.TheVariants.{Cleared, Single, Pair, Own, Flat, FlatPair, FlatFour}
@@ -67,8 +66,8 @@ way_cases P a b c d e f g FlatPair = f
 way_cases P a b c d e f g FlatFour = g
 
 -- ---- drawn in the planes of a block
-module _ (t : Placed) (tile : Tile) (side : tile.side ≡ T64) (bx by from : ℕ) (masks : List ℕ) (old part : List BlockSamples) (n a : ℕ) (many : a + n ≡ planes_of_tile tile.count) (at : a ≡ 1 + count_of tile.count)
-    (fits : a + n ≤ length old) (whole : length part ≡ n) (own : way_in_tile old (number_in_tile tile bx by) ≡ Own) (draws : DrawsMasks t tile bx by from masks (take n (drop a old)) part) where
+module _ (f : FlatFragment) (tile : Tile) (side : tile.side ≡ T64) (bx by from : ℕ) (masks : List ℕ) (old part : List BlockSamples) (n a : ℕ) (many : a + n ≡ planes_of_tile tile.count) (at : a ≡ 1 + count_of tile.count)
+    (fits : a + n ≤ length old) (whole : length part ≡ n) (own : way_in_tile old (number_in_tile tile bx by) ≡ Own) (draws : MergesMasks f tile bx by from masks (take n (drop a old)) part) where
   abbrev new : List BlockSamples
   new = put old part a n
 
@@ -97,7 +96,7 @@ module _ (t : Placed) (tile : Tile) (side : tile.side ≡ T64) (bx by from : ℕ
     in_new r small = ap (λ (xs : List BlockSamples). in_tile tile xs row column r) (sym (own_put old part n a fits whole)) ∙ in_own r small new
 
     -- an own plane in which nothing was drawn at this pixel
-    same_own : (r : ℕ) → (small : r < count_of tile.count) → ¬ IsChosen t.state tile bx by from masks row column r
+    same_own : (r : ℕ) → (small : r < count_of tile.count) → ¬ IsChosen f.state tile bx by from masks row column r
         → stored_at (slice_index_or new (1 + (block + 1) * count_of tile.count + r) none) (pixel_in_block column row) ≡ stored_at (slice_index_or old (1 + (block + 1) * count_of tile.count + r) none) (pixel_in_block column row)
     same_own r small other = sym (in_new r small) ∙ draws.kept row column r (record { high = h.high; wide = h.wide; is_sample = small }) other ∙ in_own r small old
 
@@ -121,7 +120,7 @@ module _ (t : Placed) (tile : Tile) (side : tile.side ≡ T64) (bx by from : ℕ
     same_pixel_there : pixel_in_block column_there row_there ≡ p
     same_pixel_there = omega (arith, low)
 
-    not_chosen : ¬ IsChosen t.state tile bx by from masks row_there column_there r
+    not_chosen : ¬ IsChosen f.state tile bx by from masks row_there column_there r
     not_chosen chosen = other (ap (way_in_tile old) (sym same_block_there ∙ in_block tile side bx by row_there column_there r there chosen.part.square) ∙ own)
 
     same_in_block : stored_at (in_list new (1 + (block_in_tile column row + 1) * count_of tile.count + r)) p ≡ stored_at (in_list old (1 + (block_in_tile column row + 1) * count_of tile.count + r)) p
@@ -141,17 +140,16 @@ module _ (t : Placed) (tile : Tile) (side : tile.side ≡ T64) (bx by from : ℕ
         → stored_in_tile tile.count xs column row s ≡ stored_at (slice_index_or xs (place_by tile.count way here_block s) none) here_pixel
     at_way xs way other same e = by_way tile.count xs way column row s other (ap (λ (state : BlockSamples). way_of state here_block) same ∙ e)
 
-    met : IsChosen t.state tile bx by from masks row column s
-        → IsCanvasDrawnAt t (sample_position (8 * tile.bx + column) (8 * tile.by + row) s tile.count) (stored_in_tile tile.count old column row s) (stored_in_tile tile.count new column row s)
+    met : IsChosen f.state tile bx by from masks row column s
+        → Takes f (stored_in_tile tile.count old column row s) (stored_in_tile tile.count new column row s)
     met chosen =
         let here : way_in_tile old here_block ≡ Own = ap (way_in_tile old) (in_block tile side bx by row column s h chosen.part.square) ∙ own in
-        let p = sample_position (8 * tile.bx + column) (8 * tile.by + row) s tile.count in
-        subst (λ (x : CanvasSample). IsCanvasDrawnAt t p x (stored_in_tile tile.count new column row s)) (in_own row column s h s h.is_sample old ∙ sym (at_way old Own refl refl here))
-        (subst (λ (y : CanvasSample). IsCanvasDrawnAt t p (in_tile tile (take n (drop a old)) row column s) y) (in_new row column s h s h.is_sample ∙ sym (at_way new Own refl same_state here))
+        subst (λ (x : CanvasSample). Takes f x (stored_in_tile tile.count new column row s)) (in_own row column s h s h.is_sample old ∙ sym (at_way old Own refl refl here))
+        (subst (λ (y : CanvasSample). Takes f (in_tile tile (take n (drop a old)) row column s) y) (in_new row column s h s h.is_sample ∙ sym (at_way new Own refl same_state here))
         (draws.drawn row column s h chosen))
 
     abbrev Missed : Way → Type 0
-    Missed way = way_in_tile old here_block ≡ way → ¬ IsChosen t.state tile bx by from masks row column s → stored_in_tile tile.count new column row s ≡ stored_in_tile tile.count old column row s
+    Missed way = way_in_tile old here_block ≡ way → ¬ IsChosen f.state tile bx by from masks row column s → stored_in_tile tile.count new column row s ≡ stored_in_tile tile.count old column row s
 
     missed_cleared : Missed Cleared
     missed_cleared e other =
@@ -215,8 +213,8 @@ module _ (t : Placed) (tile : Tile) (side : tile.side ≡ T64) (bx by from : ℕ
     missed_own : Missed Own
     missed_own e other = at_way new Own refl same_state e ∙ same_own row column s h s h.is_sample other ∙ sym (at_way old Own refl refl e)
 
-    missed : ¬ IsChosen t.state tile bx by from masks row column s → stored_in_tile tile.count new column row s ≡ stored_in_tile tile.count old column row s
+    missed : ¬ IsChosen f.state tile bx by from masks row column s → stored_in_tile tile.count new column row s ≡ stored_in_tile tile.count old column row s
     missed = way_cases Missed missed_cleared missed_single missed_pair missed_own missed_flat missed_flat_pair missed_flat_four (way_in_tile old here_block) refl
 
-  pub tile_painted : TilePaints t tile (IsChosen t.state tile bx by from masks) old new
+  pub tile_painted : TilePaints f tile (IsChosen f.state tile bx by from masks) old new
   tile_painted = record { met = λ row column s h chosen. met row column s h chosen; missed = λ row column s h other. missed row column s h other }

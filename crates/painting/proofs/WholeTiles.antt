@@ -3,7 +3,7 @@ use Rattle.std.proofs.Common.{◌≡◌, inl, inr, arith, ℕ, ◌+◌, ◌-◌,
 use Rattle.std.proofs.lemmas.Bool.{cases_lt}
 use Rattle.grid.specs.Samples.{count_of}
 use Rattle.lanes.specs.declared.block_samples.BlockSamples.{BlockSamples}
-use Rattle.shade.specs.declared.placed.Placed.{Placed}
+use Rattle.lanes.specs.Fragment.{FlatFragment}
 use Rattle.raster.specs.declared.tile.Tile.{Tile}
 use Rattle.canvas.specs.declared.canvas.Canvas.{Canvas}
 use Rattle.blocks.specs.Layout.{planes_of_tile}
@@ -15,16 +15,16 @@ use Rattle.painting.proofs.Joined.{rows_joined}
 use Rattle.painting.proofs.Strips.{IsTileAt, tile_in_row}
 
 -- ---- eight columns of blocks more
-module _ (t : Placed) (c : Canvas) (row first k : ℕ) (masks : Masks) (tile : Tile) (is : IsTileAt c ((first + k) / 8) row tile) (begins : (first + k) % 8 ≡ 0)
+module _ (f : FlatFragment) (c : Canvas) (row first k : ℕ) (masks : Masks) (tile : Tile) (is : IsTileAt c ((first + k) / 8) row tile) (begins : (first + k) % 8 ≡ 0)
     (full : (column r s bit : ℕ) → k ≤ column → column < k + 8 → r < 8 → s < count_of c.count → bit < 64 → IsBitSet (block_mask masks column r s) bit) where
   abbrev Before : ℕ → ℕ → ℕ → Type 0
-  Before i j s = IsFlagged t.state first k masks i j s
+  Before i j s = IsFlagged f.state first k masks i j s
 
   abbrev After : ℕ → ℕ → ℕ → Type 0
-  After i j s = IsFlagged t.state first (k + 8) masks i j s
+  After i j s = IsFlagged f.state first (k + 8) masks i j s
 
   abbrev Here : ℕ → ℕ → ℕ → Type 0
-  Here i j s = (i / 64 ≡ (first + k) / 8) × IsAllowed t.state tile (j % 64) (i % 64) s
+  Here i j s = (i / 64 ≡ (first + k) / 8) × IsAllowed f.state tile (j % 64) (i % 64) s
 
   module _ (i j s : ℕ) (h : IsStoredIn c row (row + 1) i j s) where
     line : 8 * tile.by + j % 64 ≡ j
@@ -55,11 +55,11 @@ module _ (t : Placed) (c : Canvas) (row first k : ℕ) (masks : Masks) (tile : T
         }
 
   module _ (old mid part : List BlockSamples) (n a : ℕ) (room : a + n ≤ length mid) (long : length part ≡ n) (many : n ≡ planes_of_tile c.count) (at : a ≡ (first + k) / 8 * planes_of_tile c.count)
-      (before : RowsPaint t c row (row + 1) Before old mid) (paints : TilePaints t tile (IsAllowed t.state tile) (take n (drop a mid)) part) where
-    pub one_tile_more : RowsPaint t c row (row + 1) After old (put mid part a n)
+      (before : RowsPaint f c row (row + 1) Before old mid) (paints : TilePaints f tile (IsAllowed f.state tile) (take n (drop a mid)) part) where
+    pub one_tile_more : RowsPaint f c row (row + 1) After old (put mid part a n)
     one_tile_more =
-        rows_joined t c row (row + 1) Before Here After old mid (put mid part a n) before
-        (tile_in_row t c row ((first + k) / 8) tile is (IsAllowed t.state tile) mid part n a room long many at paints)
+        rows_joined f c row (row + 1) Before Here After old mid (put mid part a n) before
+        (tile_in_row f c row ((first + k) / 8) tile is (IsAllowed f.state tile) mid part n a room long many at paints)
         (λ i j s h p q. let l = p.right in omega (arith, l, q.0, begins))
         (λ i j s h r. elim (cases_lt i (8 * (first + k))) [ inl less ↦ inl (before_after i j s h less r) | inr more ↦ inr (here_after i j s h more r) ])
         (λ i j s h p. after_before i j s h p)

@@ -1,4 +1,4 @@
--- How triangles change the samples that they cover.
+-- How fragments change the samples that take them.
 use Rattle.std.specs.Prelude.{false, ◌≡◌}
 use Rattle.grid.specs.declared.sample_count.SampleCount.{SampleCount}
 use Rattle.shade.specs.declared.depth.DepthTest.TheVariants.{Always}
@@ -8,14 +8,14 @@ use Rattle.shade.specs.Presets.{over}
 use Rattle.shade.specs.Merging.{Writes}
 use Rattle.canvas.specs.Hidden.{ReplacesColours}
 
--- A triangle in this state gives its colour to each sample that it covers, and changes neither depth nor alpha.
+-- A fragment in this state gives its colour to each sample that takes it, and changes neither depth nor alpha.
 pub record ReplacesAlone (state : State) (count : SampleCount) : Type 0 where
   pub colours : ReplacesColours state count
   pub depth : state.merge.depth_write ≡ false
   pub alpha : state.merge.blend.write_alpha ≡ false
 
--- A triangle with this merge blends its colour over that of each sample, and changes neither depth nor alpha. This is source-over of
--- Porter and Duff 1984, by the triangle's alpha.
+-- A fragment with this merge blends its colour over that of each sample, and changes neither depth nor alpha. This is source-over of
+-- Porter and Duff 1984, by the fragment's alpha.
 pub record BlendsAlone (merge : Merge) : Type 0 where
   pub passes : merge.test ≡ Always
   pub red : Writes merge 0

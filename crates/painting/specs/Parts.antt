@@ -1,21 +1,16 @@
 -- Parts of a canvas that are painted one after another, by masks.
-use Rattle.std.specs.Prelude.{false, ◌≡◌, ◌≢◌, ◌↔◌, ℕ, ◌+◌, ◌-◌, ◌*◌, ◌/◌, ◌%◌, ◌^◌, ◌<◌, ◌≤◌, ◌==◌, if◌then◌else◌, pos, negsuc, ◌+ℤ◌, List, [], ◌∷◌, slice_index, IsBitSet}
+use Rattle.std.specs.Prelude.{false, ◌≡◌, ◌≢◌, ◌↔◌, ℕ, ◌+◌, ◌-◌, ◌*◌, ◌/◌, ◌%◌, ◌^◌, ◌<◌, ◌≤◌, ◌==◌, if◌then◌else◌, pos, ◌+ℤ◌, List, slice_index, IsBitSet}
 use Rattle.std.specs.Int.{bit_at}
-use Rattle.grid.specs.Position.{Position}
-use Rattle.grid.specs.Samples.{count_of, parts_of, sample_position}
-use Rattle.grid.specs.Triangle.{Covers}
-use Rattle.grid.specs.declared.cull.Cull.TheVariants.{None as NoCulling}
+use Rattle.grid.specs.Samples.{count_of, parts_of}
 use Rattle.grid.specs.declared.sample_count.SampleCount.{SampleCount}
 use Rattle.shade.specs.declared.equation.Equation.{Equation}
 use Rattle.shade.specs.declared.factor.BlendFactor.{BlendFactor}
 use Rattle.shade.specs.declared.factor.BlendFactor.TheVariants.{Zero, One, SourceColour, InverseSourceColour, SourceAlpha, InverseSourceAlpha, StoredAlpha, InverseStoredAlpha, StoredColour, InverseStoredColour, SourceAlphaSaturated, Constant, InverseConstant}
-use Rattle.shade.specs.declared.placed.Placed.{Placed}
 use Rattle.shade.specs.declared.sample.CanvasSample.{CanvasSample}
 use Rattle.shade.specs.declared.sample.Merge.{Merge}
 use Rattle.shade.specs.declared.state.State.{State}
-use Rattle.shade.specs.Canvas.{IsCanvasDrawnAt}
-use Rattle.shade.specs.Placed.{rgba_of}
 use Rattle.lanes.specs.declared.block_samples.BlockSamples.{BlockSamples}
+use Rattle.lanes.specs.Fragment.{FlatFragment, Takes}
 use Rattle.polygons.specs.declared.extent.Extent.{Extent}
 use Rattle.polygons.specs.declared.rule.Rule.{Rule}
 use Rattle.polygons.specs.Cells.{flags_by, mask_at}
@@ -40,7 +35,7 @@ use Rattle.canvas.specs.Window.{moved_state}
 use Rattle.painting.specs.declared.masks.Masks.{Masks}
 use Rattle.painting.specs.declared.polygon.Polygon.{Polygon}
 use Rattle.painting.specs.declared.window.Window.{Window}
-use Rattle.painting.specs.Painting.{MeetsSample, Shape, shape_of}
+use Rattle.painting.specs.Painting.{MeetsSample, Shape, fragment_of, shape_of}
 
 -- A factor of colours that are opaque, without alpha: what is multiplied by alpha stays, and nothing is left beside it.
 abbrev pub opaque_factor : BlendFactor → BlendFactor
@@ -70,45 +65,32 @@ equation_by alpha e = record { source = factor_by alpha e.source; stored = facto
 abbrev pub merge_by : ℕ → Merge → Merge
 merge_by alpha m = record m { blend = record m.blend { colour = equation_by alpha m.blend.colour } }
 
--- A triangle that covers the screen, in the colour, at the depth and in the state of the polygon. Its scissor is as seen from the origin,
--- and its merge is that for its alpha.
-abbrev pub over_screen : Polygon → Origin → Placed
-over_screen polygon origin = record {
-  tri = record { a = record { x = negsuc 0; y = negsuc 0 }; b = record { x = pos 8388607; y = negsuc 0 }; c = record { x = negsuc 0; y = pos 8388607 } };
-  z = polygon.z ∷ polygon.z ∷ polygon.z ∷ [];
-  rgba = polygon.rgba ∷ polygon.rgba ∷ polygon.rgba ∷ [];
-  state = record (moved_state origin.x origin.y polygon.state) { cull = NoCulling; merge = merge_by (slice_index polygon.rgba 3) polygon.state.merge };
+-- The polygon's fragment as it is merged. Its scissor is as seen from the origin, and its merge is that for its alpha.
+abbrev pub seen_fragment : Polygon → Origin → FlatFragment
+seen_fragment polygon origin = record {
+  shaded = fragment_of (shape_of polygon);
+  state = record (moved_state origin.x origin.y polygon.state) { merge = merge_by (slice_index polygon.rgba 3) polygon.state.merge };
 }
 
--- The triangle covers each sample of the screen, which is 4096 by 4096 pixels.
-abbrev pub CoversScreen : Placed → Type 0
-CoversScreen t = (count : SampleCount) (i j s : ℕ) → i < 4096 → j < 4096 → Covers t.tri.a t.tri.b t.tri.c (sample_position i j s count)
-
--- The triangle covers the screen, in one colour and at one depth.
-pub record FillsScreen (t : Placed) : Type 0 where
-  pub tri : t.tri ≡ record { a = record { x = negsuc 0; y = negsuc 0 }; b = record { x = pos 8388607; y = negsuc 0 }; c = record { x = negsuc 0; y = pos 8388607 } }
-  pub z : (slice_index t.z 1 ≡ slice_index t.z 0) × (slice_index t.z 2 ≡ slice_index t.z 0)
-  pub rgba : (rgba_of t 1 ≡ rgba_of t 0) × (rgba_of t 2 ≡ rgba_of t 0)
-
--- The triangle is drawn at those samples of the tile that are in this part, and the others are unchanged.
-pub record TilePaints (t : Placed) (tile : Tile) (part : ℕ → ℕ → ℕ → Type 0) (old new : List BlockSamples) : Type 0 where
+-- The fragment is drawn at those samples of the tile that are in this part, and the others are unchanged.
+pub record TilePaints (f : FlatFragment) (tile : Tile) (part : ℕ → ℕ → ℕ → Type 0) (old new : List BlockSamples) : Type 0 where
   pub met : (row column s : ℕ) → IsSampleOf tile row column s → part row column s
-      → IsCanvasDrawnAt t (sample_position (8 * tile.bx + column) (8 * tile.by + row) s tile.count) (stored_in_tile tile.count old column row s) (stored_in_tile tile.count new column row s)
+      → Takes f (stored_in_tile tile.count old column row s) (stored_in_tile tile.count new column row s)
   pub missed : (row column s : ℕ) → IsSampleOf tile row column s → ¬ part row column s → stored_in_tile tile.count new column row s ≡ stored_in_tile tile.count old column row s
 
--- What the triangle makes of a sample of the tile's new planes, it makes of that of its old planes too.
-abbrev pub DrawsAlike : Placed → SampleCount → List BlockSamples → List BlockSamples → Type 0
-DrawsAlike t count old new =
-    (i j s : ℕ) (p : Position) (made : CanvasSample) → s < count_of count
-    → IsCanvasDrawnAt t p (stored_in_tile count new i j s) made → IsCanvasDrawnAt t p (stored_in_tile count old i j s) made
+-- What the fragment makes of a sample of the tile's new planes, it makes of that of its old planes too.
+abbrev pub DrawsAlike : FlatFragment → SampleCount → List BlockSamples → List BlockSamples → Type 0
+DrawsAlike f count old new =
+    (i j s : ℕ) (made : CanvasSample) → s < count_of count
+    → Takes f (stored_in_tile count new i j s) made → Takes f (stored_in_tile count old i j s) made
 
 -- The samples of all blocks of the tile but block k are unchanged.
 abbrev pub KeepsOtherBlocks : ℕ → SampleCount → List BlockSamples → List BlockSamples → Type 0
 KeepsOtherBlocks k count old new = (i j s : ℕ) → s < count_of count → block_in_tile i j ≢ k → stored_in_tile count new i j s ≡ stored_in_tile count old i j s
 
--- The triangle is drawn at those samples of the tile rows that are in this part, and the others are unchanged.
-pub record RowsPaint (t : Placed) (c : Canvas) (first end : ℕ) (part : ℕ → ℕ → ℕ → Type 0) (old new : List BlockSamples) : Type 0 where
-  pub met : (i j s : ℕ) → IsStoredIn c first end i j s → part i j s → IsCanvasDrawnAt t (sample_position i j s c.count) (stored c first old i j s) (stored c first new i j s)
+-- The fragment is drawn at those samples of the tile rows that are in this part, and the others are unchanged.
+pub record RowsPaint (f : FlatFragment) (c : Canvas) (first end : ℕ) (part : ℕ → ℕ → ℕ → Type 0) (old new : List BlockSamples) : Type 0 where
+  pub met : (i j s : ℕ) → IsStoredIn c first end i j s → part i j s → Takes f (stored c first old i j s) (stored c first new i j s)
   pub missed : (i j s : ℕ) → IsStoredIn c first end i j s → ¬ part i j s → stored c first new i j s ≡ stored c first old i j s
 
 -- How many columns of flags the canvas needs. For each part of at most four samples of a pixel there is one for each column of blocks and
@@ -152,24 +134,19 @@ HasNoMasks count samples place =
 abbrev pub KeepsPlanesBut : ℕ → List BlockSamples → List BlockSamples → Type 0
 KeepsPlanesBut place old new = (n : ℕ) → n ≢ place → in_list new n ≡ in_list old n
 
--- The triangle is drawn at each sample of the plane, wherever on the screen the sample lies, and however many a pixel has.
-abbrev pub DrawsPlane : Placed → BlockSamples → BlockSamples → Type 0
-DrawsPlane t old new =
-    (count : SampleCount) (i j s p : ℕ) → i < 4096 → j < 4096 → p < 64 → IsCanvasDrawnAt t (sample_position i j s count) (stored_at old p) (stored_at new p)
+-- Each sample of the plane takes the fragment.
+abbrev pub DrawsPlane : FlatFragment → BlockSamples → BlockSamples → Type 0
+DrawsPlane f old new = (p : ℕ) → p < 64 → Takes f (stored_at old p) (stored_at new p)
 
--- The triangle is drawn at the sample, wherever on the screen it lies, and however many a pixel has.
-abbrev pub DrawsSample : Placed → CanvasSample → CanvasSample → Type 0
-DrawsSample t old new = (count : SampleCount) (i j s : ℕ) → i < 4096 → j < 4096 → IsCanvasDrawnAt t (sample_position i j s count) old new
+-- The fragment is drawn at those samples of a block that are in the masks. The block has one sample or two before and afterwards.
+abbrev pub IsFlatDrawn : FlatFragment → SampleCount → FlatBlock → List ℕ → FlatBlock → Type 0
+IsFlatDrawn f count old words new =
+    (first second : CanvasSample) × Takes f old.first first × Takes f old.second second × IsFlatReplaced count old words first second new
 
--- The triangle is drawn at those samples of a block that are in the masks. The block has one sample or two before and afterwards.
-abbrev pub IsFlatDrawn : Placed → SampleCount → FlatBlock → List ℕ → FlatBlock → Type 0
-IsFlatDrawn t count old words new =
-    (first second : CanvasSample) × DrawsSample t old.first first × DrawsSample t old.second second × IsFlatReplaced count old words first second new
-
--- The triangle is drawn at those samples of a block that are in the masks. The block has up to four samples before and afterwards.
-abbrev pub IsPaletteDrawn : Placed → SampleCount → Palette → List ℕ → Palette → Type 0
-IsPaletteDrawn t count old words new =
-    (drawn : List CanvasSample) × ((number : ℕ) → number < 4 → DrawsSample t (sample_numbered old.samples number) (sample_numbered drawn number)) × IsPaletteReplaced count old words drawn new
+-- The fragment is drawn at those samples of a block that are in the masks. The block has up to four samples before and afterwards.
+abbrev pub IsPaletteDrawn : FlatFragment → SampleCount → Palette → List ℕ → Palette → Type 0
+IsPaletteDrawn f count old words new =
+    (drawn : List CanvasSample) × ((number : ℕ) → number < 4 → Takes f (sample_numbered old.samples number) (sample_numbered drawn number)) × IsPaletteReplaced count old words drawn new
 
 -- The sample is in block (bx, by) and is drawn there. Its bit is set in column k of the masks, and the state lets it be drawn.
 pub record IsInBlock (state : State) (tile : Tile) (bx by : ℕ) (masks : Masks) (k : ℕ) (row column s : ℕ) : Type 0 where

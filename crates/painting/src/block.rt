@@ -10,11 +10,10 @@ use crate::covered_block::CoveredBlock;
 use crate::masks::{Masks, has_some};
 use blocks::{Way, block_way, fill_block, has_pairs, place_by};
 use lanes::BlockSamples;
-use planes::Corrections;
-use raster::draw_masks;
+use raster::draw_fragment;
 
 impl CoveredBlock<'_> {
-    /// Draws the triangle at those samples of the block that are in the masks, of the part that begins with sample
+    /// Draws the fragment at those samples of the block that are in the masks, of the part that begins with sample
     /// `from`. The block has its own planes.
     #[inline]
     fn paint_part(&self, from: u32, masks: &[u64; 4], samples: &mut [BlockSamples])
@@ -22,13 +21,12 @@ impl CoveredBlock<'_> {
         requires samples { length samples.old ≡ planes_of_tile self.now.tile.now.count }
         requires own { way_in_tile samples.old (number_in_tile self.now.tile.now self.now.bx self.now.by) ≡ Own }
         ensures own { way_in_tile samples.new (number_in_tile self.now.tile.now self.now.bx self.now.by) ≡ Own }
-        ensures painted { let b = self.now in TilePaints b.triangle.now b.tile.now
-            (IsChosen b.triangle.now.state b.tile.now b.bx b.by from masks.now) samples.old samples.new }
+        ensures painted { let b = self.now in TilePaints b.fragment.now b.tile.now
+            (IsChosen b.fragment.now.state b.tile.now b.bx b.by from masks.now) samples.old samples.new }
     {
         let own = 1 + self.tile.count.count() as usize;
-        let mut corrections = Corrections::none();
-        draw_masks(
-            self.triangle,
+        draw_fragment(
+            self.fragment,
             self.tile,
             self.tile.count,
             self.bx,
@@ -37,18 +35,17 @@ impl CoveredBlock<'_> {
             masks,
             self.whole,
             &mut samples[own..],
-            &mut corrections,
         );
     }
 
-    /// Draws the triangle at those samples of the block whose bits are set, in column `k` of the masks, each in its own
+    /// Draws the fragment at those samples of the block whose bits are set, in column `k` of the masks, each in its own
     /// plane.
     fn paint_parts(&self, masks: &Masks<'_>, k: usize, samples: &mut [BlockSamples])
         requires count { masks.now.count ≡ self.now.tile.now.count }
         requires column { k < masks.now.columns }
         requires samples { length samples.old ≡ planes_of_tile self.now.tile.now.count }
-        ensures { let b = self.now in TilePaints b.triangle.now b.tile.now
-            (IsInBlock b.triangle.now.state b.tile.now b.bx b.by masks.now k) samples.old samples.new }
+        ensures { let b = self.now in TilePaints b.fragment.now b.tile.now
+            (IsInBlock b.fragment.now.state b.tile.now b.bx b.by masks.now k) samples.old samples.new }
     {
         fill_block(self.tile.count, self.number(), samples);
         for part in 0..self.tile.count.parts() {
@@ -59,27 +56,27 @@ impl CoveredBlock<'_> {
         }
     }
 
-    /// Draws the triangle at all samples of the block, for which one plane stands.
+    /// Draws the fragment at all samples of the block, for which one plane stands.
     fn paint_single(&self, samples: &mut [BlockSamples])
         requires whole { IsTrue self.now.whole }
         requires samples { length samples.old ≡ planes_of_tile self.now.tile.now.count }
         requires single { way_in_tile samples.old (number_in_tile self.now.tile.now self.now.bx self.now.by) ≡ Single }
-        ensures { let b = self.now in TilePaints b.triangle.now b.tile.now (IsInSquare b.tile.now b.bx b.by 8)
+        ensures { let b = self.now in TilePaints b.fragment.now b.tile.now (IsInSquare b.tile.now b.bx b.by 8)
             samples.old samples.new }
     {
         let place = place_by(self.tile.count, Way::Single, self.number(), 0);
         self.paint_plane(place, samples);
     }
 
-    /// Draws the triangle at those samples of the block whose bits are set, in column `k` of the masks, if that needs no
+    /// Draws the fragment at those samples of the block whose bits are set, in column `k` of the masks, if that needs no
     /// planes for each sample. Returns whether it was drawn; else all planes are unchanged.
     fn paint_planes(&self, masks: &Masks<'_>, k: usize, samples: &mut [BlockSamples]) -> bool
         requires count { masks.now.count ≡ self.now.tile.now.count }
         requires column { k < masks.now.columns }
         requires whole { IsTrue self.now.whole }
         requires samples { length samples.old ≡ planes_of_tile self.now.tile.now.count }
-        ensures painted { let b = self.now in IsTrue result → TilePaints b.triangle.now b.tile.now
-            (IsInBlock b.triangle.now.state b.tile.now b.bx b.by masks.now k) samples.old samples.new }
+        ensures painted { let b = self.now in IsTrue result → TilePaints b.fragment.now b.tile.now
+            (IsInBlock b.fragment.now.state b.tile.now b.bx b.by masks.now k) samples.old samples.new }
         ensures unchanged { result ≡ false → samples.new ≡ samples.old }
     {
         let row = (self.by - self.tile.by) as usize;
@@ -97,7 +94,7 @@ impl CoveredBlock<'_> {
         full && self.paint_both(samples)
     }
 
-    /// Draws the triangle at those samples of the block whose bits are set, in column `k` of the masks. A block that can
+    /// Draws the fragment at those samples of the block whose bits are set, in column `k` of the masks. A block that can
     /// be kept in one sample or two is; else one that can be kept in one plane or two.
     #[inline(always)]
     pub(crate) fn paint_block<const COUNT: u32>(
@@ -110,8 +107,8 @@ impl CoveredBlock<'_> {
         requires count { masks.now.count ≡ self.now.tile.now.count }
         requires column { k < masks.now.columns }
         requires samples { length samples.old ≡ planes_of_tile self.now.tile.now.count }
-        ensures { let b = self.now in TilePaints b.triangle.now b.tile.now
-            (IsInBlock b.triangle.now.state b.tile.now b.bx b.by masks.now k) samples.old samples.new }
+        ensures { let b = self.now in TilePaints b.fragment.now b.tile.now
+            (IsInBlock b.fragment.now.state b.tile.now b.bx b.by masks.now k) samples.old samples.new }
     {
         if self.whole
             && (self.paint_flat::<COUNT>(masks, k, samples)

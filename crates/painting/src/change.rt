@@ -1,4 +1,4 @@
-//! How a triangle changes the samples that it covers.
+//! How a fragment changes samples.
 ghost use Rattle.std.specs.Prelude.{◌≡◌, IsTrue};
 ghost use Rattle.painting.specs.declared.change.Change.TheVariants.{Replaces as AsReplaces, BlendsOver as AsBlendsOver};
 ghost use Rattle.painting.specs.Changes.{BlendsAlone, ReplacesAlone};
@@ -7,7 +7,7 @@ use canvas::{replaces_colours, writes_beside_colours};
 use grid::SampleCount;
 use shade::{DepthTest, Equation, Merge, State};
 
-/// How a triangle changes the samples that it covers.
+/// How a fragment changes the samples that take it.
 #[derive(Clone, Copy, Debug, PartialEq, Eq)]
 pub(crate) enum Change {
     /// It gives them its colour, and changes neither depth nor alpha.
@@ -18,8 +18,7 @@ pub(crate) enum Change {
     Merges,
 }
 
-/// Whether a triangle with this merge blends its colour over that of each sample that it covers, and changes neither depth
-/// nor alpha.
+/// Whether a fragment with this merge blends its colour over that of each sample, and changes neither depth nor alpha.
 fn blends_alone(merge: &Merge) -> bool
     ensures { IsTrue result → BlendsAlone merge.now }
 {
@@ -32,7 +31,7 @@ fn blends_alone(merge: &Merge) -> bool
 }
 
 impl Change {
-    /// How a triangle in this state changes the samples that it covers.
+    /// How a fragment in this state changes the samples that take it.
     pub(crate) fn of(state: &State, count: SampleCount) -> Change
         ensures replaces { result ≡ AsReplaces → ReplacesAlone state.now count }
         ensures blends { result ≡ AsBlendsOver → BlendsAlone state.now.merge }

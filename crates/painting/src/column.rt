@@ -5,21 +5,21 @@ ghost use Rattle.grid.specs.declared.pixels.TileSide.TheVariants.{T64};
 ghost use Rattle.blocks.specs.Layout.{planes_of_tile};
 ghost use Rattle.painting.specs.declared.change.Change.TheVariants.{Replaces as AsReplaces, BlendsOver as AsBlendsOver};
 ghost use Rattle.painting.specs.Changes.{BlendsAlone, ReplacesAlone};
-ghost use Rattle.painting.specs.Parts.{FillsScreen, IsInColumn, TilePaints};
+ghost use Rattle.painting.specs.Parts.{IsInColumn, TilePaints};
 
 use crate::allowed::allows_tile;
 use crate::change::Change;
 use crate::covered_block::CoveredBlock;
 use crate::masks::Masks;
 use blocks::known;
-use lanes::{BlockSamples, Interpolants};
+use lanes::{BlockSamples, Fragment};
 use raster::Tile;
 
-/// Draws a triangle that covers the screen, in one colour and at one depth, at those samples of a column of blocks of the
-/// tile whose bits are set, in column `k` of the masks. A block without any is not touched. It is known how the triangle
-/// changes samples. The number of samples of a pixel is known when this is compiled, so that loops over these are unrolled.
+/// Draws the fragment at those samples of a column of blocks of the tile whose bits are set, in column `k` of the masks. A
+/// block without any is not touched. It is known how the fragment changes samples. The number of samples of a pixel is
+/// known when this is compiled, so that loops over these are unrolled.
 pub(crate) fn paint_column<const COUNT: u32>(
-    triangle: &Interpolants,
+    fragment: &Fragment,
     tile: &Tile,
     bx: u32,
     masks: &Masks<'_>,
@@ -33,19 +33,18 @@ pub(crate) fn paint_column<const COUNT: u32>(
     requires left { tile.now.bx ≤ bx }
     requires right { bx + 1 ≤ tile.now.bx + 8 }
     requires column { k < masks.now.columns }
-    requires fills { FillsScreen triangle.now }
-    requires replaces { change ≡ AsReplaces → ReplacesAlone triangle.now.state tile.now.count }
-    requires blends { change ≡ AsBlendsOver → BlendsAlone triangle.now.state.merge }
+    requires replaces { change ≡ AsReplaces → ReplacesAlone fragment.now.state tile.now.count }
+    requires blends { change ≡ AsBlendsOver → BlendsAlone fragment.now.state.merge }
     requires samples { length samples.old ≡ planes_of_tile tile.now.count }
-    ensures { TilePaints triangle.now tile.now (IsInColumn triangle.now.state tile.now bx 8 masks.now k) samples.old
+    ensures { TilePaints fragment.now tile.now (IsInColumn fragment.now.state tile.now bx 8 masks.now k) samples.old
         samples.new }
 {
-    let whole = allows_tile(&triangle.placed().state, tile);
+    let whole = allows_tile(fragment.state(), tile);
     let count = known::<COUNT>(tile.count);
     for row in 0..8u32 {
         if masks.has_some(count, k, row as usize) {
             let block = CoveredBlock {
-                triangle,
+                fragment,
                 tile,
                 bx,
                 by: tile.by + row,

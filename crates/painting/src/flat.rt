@@ -1,10 +1,11 @@
 //! Blocks that have one sample or two.
 ghost use Rattle.std.specs.Prelude.{◌≡◌, ◌↔◌, ◌⊎◌, ◌<◌, ◌≤◌, false, length, IsTrue, IsSome, IfSome};
 ghost use Rattle.grid.specs.Samples.{count_of};
+ghost use Rattle.lanes.specs.Fragment.{Takes};
 ghost use Rattle.blocks.specs.Layout.{planes_of_tile};
 ghost use Rattle.blocks.specs.FlatBlocks.{HasOne};
 ghost use Rattle.canvas.specs.Tiles.{HasBytes};
-ghost use Rattle.painting.specs.Parts.{number_in_tile, DrawsSample, IsFlatDrawn, IsInBlock, TilePaints};
+ghost use Rattle.painting.specs.Parts.{number_in_tile, IsFlatDrawn, IsInBlock, TilePaints};
 ghost use Rattle.painting.specs.FewSamples.{IsNotDrawnFlat, IsNotDrawnInFour, IsSmallOfFour, StaysFlatDrawn};
 
 use crate::change::Change;
@@ -31,43 +32,38 @@ fn with_colour(stored: CanvasSample, r: u8, g: u8, b: u8) -> CanvasSample
 }
 
 impl CoveredBlock<'_> {
-    /// What the triangle makes of a sample by its state, wherever on the screen the sample lies.
+    /// What the fragment makes of a sample by its state.
     #[inline(never)]
     fn merged(&self, stored: CanvasSample) -> CanvasSample
-        ensures { DrawsSample self.now.triangle.now stored result }
+        ensures { Takes self.now.fragment.now stored result }
     {
-        let placed = self.triangle.placed();
-        let rgba = placed.rgba[0];
-        let fragment = Shaded {
-            r: rgba[0],
-            g: rgba[1],
-            b: rgba[2],
-            a: rgba[3],
-            z: placed.z[0],
-        };
-        apply_on_canvas(&placed.state.merge, &fragment, stored)
+        apply_on_canvas(
+            &self.fragment.state().merge,
+            &self.fragment.shaded(),
+            stored,
+        )
     }
 
-    /// What the triangle makes of a sample, wherever on the screen the sample lies.
+    /// What the fragment makes of a sample.
     #[inline(always)]
     pub(crate) fn drawn(&self, stored: CanvasSample) -> CanvasSample
-        ensures { DrawsSample self.now.triangle.now stored result }
+        ensures { Takes self.now.fragment.now stored result }
     {
-        let [red, green, blue, alpha] = self.triangle.placed().rgba[0];
+        let Shaded { r, g, b, a, .. } = self.fragment.shaded();
         // Each of the two that polygons mostly have by itself, which takes a tenth of the time.
         match self.change {
-            Change::Replaces => with_colour(stored, red, green, blue),
+            Change::Replaces => with_colour(stored, r, g, b),
             Change::BlendsOver => with_colour(
                 stored,
-                over(red, alpha, stored.r),
-                over(green, alpha, stored.g),
-                over(blue, alpha, stored.b),
+                over(r, a, stored.r),
+                over(g, a, stored.g),
+                over(b, a, stored.b),
             ),
             Change::Merges => self.merged(stored),
         }
     }
 
-    /// What the triangle makes of a sample, if it is known what it makes of another one, which is often the same.
+    /// What the fragment makes of a sample, if it is known what it makes of another one, which is often the same.
     #[inline(always)]
     pub(crate) fn drawn_beside(
         &self,
@@ -75,8 +71,8 @@ impl CoveredBlock<'_> {
         other: CanvasSample,
         made: CanvasSample,
     ) -> CanvasSample
-        requires { DrawsSample self.now.triangle.now other made }
-        ensures { DrawsSample self.now.triangle.now stored result }
+        requires { Takes self.now.fragment.now other made }
+        ensures { Takes self.now.fragment.now stored result }
     {
         if stored == other {
             return made;
@@ -84,7 +80,7 @@ impl CoveredBlock<'_> {
         self.drawn(stored)
     }
 
-    /// What the triangle makes of the block's samples that are in the masks, if they are at most two then.
+    /// What the fragment makes of the block's samples that are in the masks, if they are at most two then.
     #[inline(always)]
     fn flat_drawn(
         &self,
@@ -92,15 +88,15 @@ impl CoveredBlock<'_> {
         flat: &FlatBlock,
         words: &[u64; 16],
     ) -> Option<FlatBlock>
-        ensures drawn { IfSome result (λ drawn. IsFlatDrawn self.now.triangle.now count flat.now words.now drawn) }
-        ensures some { IsSome result ↔ StaysFlatDrawn self.now.triangle.now count flat.now words.now }
+        ensures drawn { IfSome result (λ drawn. IsFlatDrawn self.now.fragment.now count flat.now words.now drawn) }
+        ensures some { IsSome result ↔ StaysFlatDrawn self.now.fragment.now count flat.now words.now }
     {
         let first = self.drawn(flat.first);
         let second = self.drawn_beside(flat.second, flat.first, first);
         flat.replaced(count, words, first, second)
     }
 
-    /// Draws the triangle at those samples of the block whose bits are set, in column `k` of the masks. All samples of the
+    /// Draws the fragment at those samples of the block whose bits are set, in column `k` of the masks. All samples of the
     /// block are this one. Most blocks are so, and most of these are covered whole, which needs no masks.
     #[inline(always)]
     fn paint_one(
@@ -118,8 +114,8 @@ impl CoveredBlock<'_> {
         requires whole { IsTrue self.now.whole }
         requires samples { length samples.old ≡ planes_of_tile self.now.tile.now.count }
         requires one { let b = self.now in HasOne count (number_in_tile b.tile.now b.bx b.by) sample samples.old }
-        ensures { let b = self.now in TilePaints b.triangle.now b.tile.now
-            (IsInBlock b.triangle.now.state b.tile.now b.bx b.by masks.now k) samples.old samples.new }
+        ensures { let b = self.now in TilePaints b.fragment.now b.tile.now
+            (IsInBlock b.fragment.now.state b.tile.now b.bx b.by masks.now k) samples.old samples.new }
     {
         let number = self.number();
         let row = (self.by - self.tile.by) as usize;
@@ -150,13 +146,13 @@ impl CoveredBlock<'_> {
         requires column { k < masks.now.columns }
         requires whole { IsTrue self.now.whole }
         requires samples { length samples.old ≡ planes_of_tile self.now.tile.now.count }
-        ensures painted { let b = self.now in IsTrue result → TilePaints b.triangle.now b.tile.now
-            (IsInBlock b.triangle.now.state b.tile.now b.bx b.by masks.now k) samples.old samples.new }
+        ensures painted { let b = self.now in IsTrue result → TilePaints b.fragment.now b.tile.now
+            (IsInBlock b.fragment.now.state b.tile.now b.bx b.by masks.now k) samples.old samples.new }
         ensures unchanged { result ≡ false → samples.new ≡ samples.old }
         ensures flat { let b = self.now in result ≡ false →
-            IsNotDrawnFlat b.triangle.now b.tile.now b.bx b.by masks.now k samples.old }
+            IsNotDrawnFlat b.fragment.now b.tile.now b.bx b.by masks.now k samples.old }
         ensures few { let b = self.now in result ≡ false → IsSmallOfFour masks.now ⊎
-            IsNotDrawnInFour b.triangle.now b.tile.now (IsInBlock b.triangle.now.state b.tile.now b.bx b.by masks.now k)
+            IsNotDrawnInFour b.fragment.now b.tile.now (IsInBlock b.fragment.now.state b.tile.now b.bx b.by masks.now k)
             (number_in_tile b.tile.now b.bx b.by) samples.old }
     {
         let count = known::<COUNT>(self.tile.count);
@@ -181,7 +177,7 @@ impl CoveredBlock<'_> {
         self.paint_few::<COUNT>(&words, samples)
     }
 
-    /// Draws the triangle at those samples of the block whose bits are set, in column `k` of the masks, if it has at most
+    /// Draws the fragment at those samples of the block whose bits are set, in column `k` of the masks, if it has at most
     /// four samples before and afterwards; with four samples of a pixel and fewer than four columns of masks at most two.
     /// Returns whether it was drawn; else all planes are unchanged.
     #[inline(always)]
@@ -196,13 +192,13 @@ impl CoveredBlock<'_> {
         requires column { k < masks.now.columns }
         requires whole { IsTrue self.now.whole }
         requires samples { length samples.old ≡ planes_of_tile self.now.tile.now.count }
-        ensures painted { let b = self.now in IsTrue result → TilePaints b.triangle.now b.tile.now
-            (IsInBlock b.triangle.now.state b.tile.now b.bx b.by masks.now k) samples.old samples.new }
+        ensures painted { let b = self.now in IsTrue result → TilePaints b.fragment.now b.tile.now
+            (IsInBlock b.fragment.now.state b.tile.now b.bx b.by masks.now k) samples.old samples.new }
         ensures unchanged { result ≡ false → samples.new ≡ samples.old }
         ensures flat { let b = self.now in result ≡ false → 4 ≤ count_of b.tile.now.count →
-            IsNotDrawnFlat b.triangle.now b.tile.now b.bx b.by masks.now k samples.old }
+            IsNotDrawnFlat b.fragment.now b.tile.now b.bx b.by masks.now k samples.old }
         ensures few { let b = self.now in result ≡ false → 4 ≤ count_of b.tile.now.count → IsSmallOfFour masks.now ⊎
-            IsNotDrawnInFour b.triangle.now b.tile.now (IsInBlock b.triangle.now.state b.tile.now b.bx b.by masks.now k)
+            IsNotDrawnInFour b.fragment.now b.tile.now (IsInBlock b.fragment.now.state b.tile.now b.bx b.by masks.now k)
             (number_in_tile b.tile.now b.bx b.by) samples.old }
     {
         if COUNT < 4 {

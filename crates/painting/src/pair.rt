@@ -23,14 +23,14 @@ pub(crate) fn have_same_depths(samples: &[BlockSamples], first: usize, second: u
 }
 
 impl CoveredBlock<'_> {
-    /// Draws the triangle at those samples of the block that are in the masks, if two planes can stand for the block
-    /// then. If one plane stands for it, it is made a pair, and the triangle is drawn in its second plane alone. If it
-    /// is a pair, the triangle has to replace colours, and the depths and the alphas of the two planes have to be the
+    /// Draws the fragment at those samples of the block that are in the masks, if two planes can stand for the block
+    /// then. If one plane stands for it, it is made a pair, and the fragment is drawn in its second plane alone. If it
+    /// is a pair, the fragment has to replace colours, and the depths and the alphas of the two planes have to be the
     /// same. Returns whether it was drawn; else all planes are unchanged.
     pub(crate) fn paint_as_pair(&self, words: &[u64; 16], samples: &mut [BlockSamples]) -> bool
         requires whole { IsTrue self.now.whole }
         requires samples { length samples.old ≡ planes_of_tile self.now.tile.now.count }
-        ensures painted { let b = self.now in IsTrue result → TilePaints b.triangle.now b.tile.now
+        ensures painted { let b = self.now in IsTrue result → TilePaints b.fragment.now b.tile.now
             (IsInWords b.tile.now b.bx b.by words.now) samples.old samples.new }
         ensures unchanged { result ≡ false → samples.new ≡ samples.old }
     {
@@ -42,7 +42,7 @@ impl CoveredBlock<'_> {
             return true;
         }
         if block_way(number, samples) != Way::Pair
-            || !replaces_colours(&self.triangle.placed().state, count)
+            || !replaces_colours(self.fragment.state(), count)
         {
             return false;
         }
@@ -55,12 +55,12 @@ impl CoveredBlock<'_> {
         replace_samples(count, number, words, &plane[0], samples)
     }
 
-    /// Draws the triangle at all samples of the block, if it is a pair: in both of its planes. Returns whether it was
+    /// Draws the fragment at all samples of the block, if it is a pair: in both of its planes. Returns whether it was
     /// drawn; else all planes are unchanged.
     pub(crate) fn paint_both(&self, samples: &mut [BlockSamples]) -> bool
         requires whole { IsTrue self.now.whole }
         requires samples { length samples.old ≡ planes_of_tile self.now.tile.now.count }
-        ensures painted { let b = self.now in IsTrue result → TilePaints b.triangle.now b.tile.now
+        ensures painted { let b = self.now in IsTrue result → TilePaints b.fragment.now b.tile.now
             (IsInSquare b.tile.now b.bx b.by 8) samples.old samples.new }
         ensures unchanged { result ≡ false → samples.new ≡ samples.old }
     {

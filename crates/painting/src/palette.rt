@@ -11,7 +11,7 @@ use grid::SampleCount;
 use lanes::BlockSamples;
 
 impl CoveredBlock<'_> {
-    /// What the triangle makes of the block's samples that are in the masks, if they are at most four then.
+    /// What the fragment makes of the block's samples that are in the masks, if they are at most four then.
     #[inline(always)]
     fn palette_drawn(
         &self,
@@ -19,8 +19,8 @@ impl CoveredBlock<'_> {
         palette: &Palette,
         words: &[u64; 16],
     ) -> Option<Palette>
-        ensures drawn { IfSome result (λ drawn. IsPaletteDrawn self.now.triangle.now count palette.now words.now drawn) }
-        ensures none { IfNone result (LeavesNoPalette self.now.triangle.now count palette.now words.now) }
+        ensures drawn { IfSome result (λ drawn. IsPaletteDrawn self.now.fragment.now count palette.now words.now drawn) }
+        ensures none { IfNone result (LeavesNoPalette self.now.fragment.now count palette.now words.now) }
     {
         let [first, second, third, fourth] = palette.samples;
         let made = self.drawn(first);
@@ -33,7 +33,7 @@ impl CoveredBlock<'_> {
         palette.replaced(count, words, &drawn)
     }
 
-    /// Draws the triangle at those samples of the block that are in the masks, if it is kept in one sample or two. Beside
+    /// Draws the fragment at those samples of the block that are in the masks, if it is kept in one sample or two. Beside
     /// these it has what is made of each afterwards. Returns whether it was drawn; else all planes are unchanged. As in
     /// `paint_few`, the number of samples of a pixel is known when this is compiled.
     #[inline(never)]
@@ -41,7 +41,7 @@ impl CoveredBlock<'_> {
         requires count { count_of self.now.tile.now.count ≡ COUNT }
         requires some { 4 ≤ COUNT }
         requires samples { length samples.old ≡ planes_of_tile self.now.tile.now.count }
-        ensures painted { let b = self.now in IsTrue result → TilePaints b.triangle.now b.tile.now
+        ensures painted { let b = self.now in IsTrue result → TilePaints b.fragment.now b.tile.now
             (IsInWords b.tile.now b.bx b.by words.now) samples.old samples.new }
         ensures unchanged { result ≡ false → samples.new ≡ samples.old }
         ensures flat { let b = self.now in result ≡ false →
@@ -59,7 +59,7 @@ impl CoveredBlock<'_> {
         true
     }
 
-    /// Draws the triangle at those samples of the block that are in the masks, if it has at most four samples before and
+    /// Draws the fragment at those samples of the block that are in the masks, if it has at most four samples before and
     /// afterwards. Returns whether it was drawn; else all planes are unchanged. The number of samples of a pixel is known when
     /// this is compiled, so that loops over these are unrolled. It is too long to be inlined for each, so a parameter would be
     /// known only when it runs.
@@ -73,11 +73,11 @@ impl CoveredBlock<'_> {
         requires some { 4 ≤ COUNT }
         requires whole { IsTrue self.now.whole }
         requires samples { length samples.old ≡ planes_of_tile self.now.tile.now.count }
-        ensures painted { let b = self.now in IsTrue result → TilePaints b.triangle.now b.tile.now
+        ensures painted { let b = self.now in IsTrue result → TilePaints b.fragment.now b.tile.now
             (IsInWords b.tile.now b.bx b.by words.now) samples.old samples.new }
         ensures unchanged { result ≡ false → samples.new ≡ samples.old }
         ensures few { let b = self.now in result ≡ false →
-            IsNotDrawnInFour b.triangle.now b.tile.now (IsInWords b.tile.now b.bx b.by words.now)
+            IsNotDrawnInFour b.fragment.now b.tile.now (IsInWords b.tile.now b.bx b.by words.now)
             (number_in_tile b.tile.now b.bx b.by) samples.old }
     {
         if self.paint_two::<COUNT>(words, samples) {

@@ -8,8 +8,7 @@ ghost use Rattle.painting.specs.Parts.{IsKeptAt, HasNoMasks, KeepsPlanesBut, Dra
 use crate::covered_block::CoveredBlock;
 use grid::{SampleCount, TileSide};
 use lanes::BlockSamples;
-use planes::Corrections;
-use raster::{Tile, draw_masks};
+use raster::{Tile, draw_fragment};
 
 /// Block (bx, by) of the screen as a tile with one sample a pixel.
 #[inline(always)]
@@ -27,17 +26,16 @@ fn block_tile(bx: u32, by: u32) -> Tile
 }
 
 impl CoveredBlock<'_> {
-    /// Draws the triangle at all samples of a plane, as at the block with one sample a pixel.
+    /// Draws the fragment at all samples of a plane, as at the block with one sample a pixel.
     pub(crate) fn draw_plane(&self, plane: &mut [BlockSamples])
         requires whole { IsTrue self.now.whole }
         requires plane { length plane.old ≡ 1 }
-        ensures { DrawsPlane self.now.triangle.now (in_list plane.old 0) (in_list plane.new 0) }
+        ensures { DrawsPlane self.now.fragment.now (in_list plane.old 0) (in_list plane.new 0) }
     {
         let block = block_tile(self.bx, self.by);
         let masks = [u64::MAX, 0, 0, 0];
-        let mut corrections = Corrections::none();
-        draw_masks(
-            self.triangle,
+        draw_fragment(
+            self.fragment,
             &block,
             SampleCount::One,
             self.bx,
@@ -46,18 +44,17 @@ impl CoveredBlock<'_> {
             &masks,
             true,
             plane,
-            &mut corrections,
         );
     }
 
-    /// Draws the triangle at the samples that are kept in the plane of this index, which has no masks.
+    /// Draws the fragment at the samples that are kept in the plane of this index, which has no masks.
     pub(crate) fn paint_plane(&self, place: usize, samples: &mut [BlockSamples])
         requires whole { IsTrue self.now.whole }
         requires place { 1 ≤ place }
         requires within { place < planes_of_tile self.now.tile.now.count }
         requires samples { length samples.old ≡ planes_of_tile self.now.tile.now.count }
         requires masks { HasNoMasks self.now.tile.now.count samples.old place }
-        ensures painted { TilePaints self.now.triangle.now self.now.tile.now
+        ensures painted { TilePaints self.now.fragment.now self.now.tile.now
             (IsKeptAt self.now.tile.now.count samples.old place) samples.old samples.new }
         ensures others { KeepsPlanesBut place samples.old samples.new }
     {

@@ -1,12 +1,11 @@
 //! A polygon as it is drawn.
-ghost use Rattle.std.specs.Prelude.{◌≡◌, pos, negsuc};
-ghost use Rattle.grid.specs.Position.{IsInBand};
+ghost use Rattle.std.specs.Prelude.{◌≡◌};
 ghost use Rattle.painting.specs.Parts.{factor_by as blend_factor, equation_by as blend_equation};
 
 use canvas::Origin;
-use grid::{Cull, Point, Tri};
+use lanes::Fragment;
 use polygons::{Rings, Rule};
-use shade::{BlendFactor, Equation, Placed, State};
+use shade::{BlendFactor, Equation, Shaded, State};
 
 /// A polygon as it is drawn: its rings, its rule, one colour and one depth for all of its samples, and its draw's
 /// state.
@@ -25,23 +24,25 @@ pub(crate) struct Polygon<'a> {
 }
 
 impl Polygon<'_> {
-    ghost use Rattle.painting.specs.Parts.{over_screen, CoversScreen};
+    ghost use Rattle.painting.specs.Parts.{seen_fragment};
 
-    /// A triangle that covers the screen, in the colour, at the depth and in the state of the polygon, as seen from the
-    /// origin. Drawn at the polygon's samples alone, it makes of them what the polygon does.
-    pub(crate) fn over_screen(&self, origin: &Origin) -> Placed
-        ensures value { result ≡ over_screen self.now origin.now }
-        ensures covers { CoversScreen result }
+    /// The polygon's fragment, made ready to be drawn in its state as seen from the origin.
+    pub(crate) fn fragment(&self, origin: &Origin) -> Fragment
+        ensures { result ≡ seen_fragment self.now origin.now }
     {
+        let [r, g, b, a] = self.rgba;
         let mut state = origin.seen_state(&self.state);
-        state.cull = Cull::None;
-        state.merge.blend.colour = equation_by(self.rgba[3], state.merge.blend.colour);
-        Placed {
-            tri: screen(),
-            z: [self.z; 3],
-            rgba: [self.rgba; 3],
+        state.merge.blend.colour = equation_by(a, state.merge.blend.colour);
+        Fragment::new(
+            Shaded {
+                r,
+                g,
+                b,
+                a,
+                z: self.z,
+            },
             state,
-        }
+        )
     }
 }
 
@@ -66,24 +67,4 @@ fn equation_by(alpha: u8, equation: Equation) -> Equation
         stored: factor_by(alpha, equation.stored),
         operation: equation.operation,
     }
-}
-
-/// A triangle that covers each sample of the screen.
-fn screen() -> Tri
-    ensures { result ≡ record {
-      a = record { x = negsuc 0; y = negsuc 0 };
-      b = record { x = pos 8388607; y = negsuc 0 };
-      c = record { x = negsuc 0; y = pos 8388607 };
-    } }
-{
-    Tri::new(point(-1, -1), point(8_388_607, -1), point(-1, 8_388_607))
-}
-
-/// The point at these coordinates.
-fn point(x: i32, y: i32) -> Point
-    requires x { IsInBand x }
-    requires y { IsInBand y }
-    ensures { result ≡ record { x = x; y = y } }
-{
-    Point::new(x, y).unwrap()
 }

@@ -25,13 +25,13 @@ fn are_alike(planes: &[BlockSamples]) -> bool
 
 impl CoveredBlock<'_> {
     /// Has one plane stand for all samples of the block, if it can. A block with planes of its own needs them no more if
-    /// the triangle replaces its colours, and the depths and the alphas are the same in all of them. Returns whether one
+    /// the fragment replaces its colours, and the depths and the alphas are the same in all of them. Returns whether one
     /// plane stands for the block then; else all planes are unchanged.
     pub(crate) fn has_one_plane(&self, samples: &mut [BlockSamples]) -> bool
         requires { length samples.old ≡ planes_of_tile self.now.tile.now.count }
         ensures single { IsTrue result →
             way_in_tile samples.new (number_in_tile self.now.tile.now self.now.bx self.now.by) ≡ AsSingle }
-        ensures alike { IsTrue result → DrawsAlike self.now.triangle.now self.now.tile.now.count samples.old samples.new }
+        ensures alike { IsTrue result → DrawsAlike self.now.fragment.now self.now.tile.now.count samples.old samples.new }
         ensures others { IsTrue result → KeepsOtherBlocks (number_in_tile self.now.tile.now self.now.bx self.now.by)
             self.now.tile.now.count samples.old samples.new }
         ensures kept { result ≡ false → samples.new ≡ samples.old }
@@ -41,9 +41,7 @@ impl CoveredBlock<'_> {
         if single_block(count, k, samples) {
             return true;
         }
-        if block_way(k, samples) != Way::Own
-            || !replaces_colours(&self.triangle.placed().state, count)
-        {
+        if block_way(k, samples) != Way::Own || !replaces_colours(self.fragment.state(), count) {
             return false;
         }
         let first = place_by(count, Way::Own, k, 0);

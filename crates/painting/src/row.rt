@@ -6,14 +6,14 @@ ghost use Rattle.polygons.specs.declared.rule.Rule.TheVariants.{NonZero};
 ghost use Rattle.polygons.specs.Cells.{flags_by, AreZeros, AreMasksAlone};
 ghost use Rattle.polygons.specs.Runs.{AreRunsOf};
 ghost use Rattle.painting.specs.Painting.{IsOriginInBand};
-ghost use Rattle.painting.specs.Parts.{over_screen, AreMasksOfRow, MeetsHere, RowsPaint};
+ghost use Rattle.painting.specs.Parts.{seen_fragment, AreMasksOfRow, MeetsHere, RowsPaint};
 
 use crate::masks::Masks;
 use crate::polygon::Polygon;
 use crate::scratch::clear_masks;
 use crate::strip::paint_masks;
 use canvas::{Canvas, Origin};
-use lanes::{BlockSamples, Interpolants};
+use lanes::{BlockSamples, Fragment};
 use polygons::{Counters, Flags, Runs, Strip, cover_parts};
 
 /// The strip of a tile row that begins with block `first`.
@@ -78,7 +78,7 @@ pub(crate) fn paint_row(
     many: usize,
     polygon: &Polygon<'_>,
     origin: &Origin,
-    triangle: &Interpolants,
+    fragment: &Fragment,
     runs: &Runs,
     flags: &mut [Flags],
     counters: &mut [Counters],
@@ -88,7 +88,7 @@ pub(crate) fn paint_row(
     requires first { first < 512 }
     requires columns { first + many ≤ 8 * columns_of canvas.now }
     requires origin { IsOriginInBand origin.now }
-    requires triangle { triangle.now ≡ over_screen polygon.now origin.now }
+    requires fragment { fragment.now ≡ seen_fragment polygon.now origin.now }
     requires runs { AreRunsOf runs.now polygon.now.rings }
     requires held { (i j s : ℕ) → IsStoredIn canvas.now row (row + 1) i j s →
         MeetsHere polygon.now origin.now canvas.now.count i j s → (first ≤ i / 8) × (i / 8 < first + many) }
@@ -96,7 +96,7 @@ pub(crate) fn paint_row(
     requires flags { AreZeros flags.old }
     requires counted { polygon.now.rule ≡ NonZero → length counters.old ≡ parts_of canvas.now.count * many }
     requires samples { length samples.old ≡ planes_of_row canvas.now }
-    ensures painted { RowsPaint triangle.now canvas.now row (row + 1)
+    ensures painted { RowsPaint fragment.now canvas.now row (row + 1)
         (MeetsHere polygon.now origin.now canvas.now.count) samples.old samples.new }
     ensures flags { AreZeros flags.new }
 {
@@ -110,6 +110,6 @@ pub(crate) fn paint_row(
         each,
         count: canvas.count,
     };
-    paint_masks(canvas, row, first, triangle, &masks, samples);
+    paint_masks(canvas, row, first, fragment, &masks, samples);
     clear_masks(flags, canvas.count.parts() as usize, many, each);
 }

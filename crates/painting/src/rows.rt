@@ -10,7 +10,7 @@ use crate::polygon::Polygon;
 use crate::row::paint_row;
 use crate::window::Window;
 use canvas::{Origin, TileRows};
-use lanes::{BlockSamples, Interpolants};
+use lanes::{BlockSamples, Fragment};
 use polygons::{Counters, Flags, Runs};
 
 /// Draws the polygon at each sample of these tile rows, with memory for the boxes of runs of corners, whatever is in it.
@@ -32,7 +32,7 @@ pub(crate) fn paint_rows(
         samples.old samples.new }
     ensures flags { AreZeros flags.new }
 {
-    let triangle = Interpolants::new(&polygon.over_screen(origin));
+    let fragment = polygon.fragment(origin);
     let window = Window::of(&polygon.rings.extent(), origin, &rows.canvas);
     if window.right <= window.left {
         return;
@@ -52,7 +52,7 @@ pub(crate) fn paint_rows(
             many,
             polygon,
             origin,
-            &triangle,
+            &fragment,
             runs,
             &mut flags[..flagged],
             &mut counters[..counted],

@@ -5,14 +5,14 @@ ghost use Rattle.grid.specs.Samples.{count_of};
 ghost use Rattle.grid.specs.declared.pixels.TileSide.TheVariants.{T64};
 ghost use Rattle.blocks.specs.declared.way.Way.TheVariants.{Cleared};
 ghost use Rattle.blocks.specs.Layout.{planes_of_tile, way_in_tile};
-ghost use Rattle.painting.specs.Parts.{block_mask, FillsScreen, AllowsTile, IsAllowed, TilePaints};
+ghost use Rattle.painting.specs.Parts.{block_mask, AllowsTile, IsAllowed, TilePaints};
 
 use crate::allowed::allows_tile;
 use crate::change::Change;
 use crate::covered_block::CoveredBlock;
 use crate::masks::Masks;
 use blocks::{Way, is_cleared, place_by};
-use lanes::{BlockSamples, Interpolants};
+use lanes::{BlockSamples, Fragment};
 use raster::Tile;
 
 /// Whether all bits of the eight columns of blocks from column `k` on are set.
@@ -34,7 +34,7 @@ fn are_full_columns(masks: &Masks<'_>, k: usize) -> bool
 /// Whether all blocks of the tile are as it was cleared, it begins with column `k` of the masks, the state lets all of
 /// its samples be drawn, and all bits of its columns are set.
 pub(crate) fn is_whole(
-    triangle: &Interpolants,
+    fragment: &Fragment,
     tile: &Tile,
     bx: u32,
     masks: &Masks<'_>,
@@ -43,7 +43,7 @@ pub(crate) fn is_whole(
 ) -> bool
     ensures begins { IsTrue result → bx % 8 ≡ 0 }
     ensures columns { IsTrue result → k + 8 ≤ masks.now.columns }
-    ensures allows { IsTrue result → AllowsTile triangle.now.state tile.now }
+    ensures allows { IsTrue result → AllowsTile fragment.now.state tile.now }
     ensures cleared { IsTrue result → (block : ℕ) → block < 64 → way_in_tile samples.now block ≡ Cleared }
     ensures full { IsTrue result → (column row s bit : ℕ) → k ≤ column → column < k + 8 → row < 8 →
         s < count_of masks.now.count → bit < 64 → IsBitSet (block_mask masks.now column row s) bit }
@@ -54,25 +54,24 @@ pub(crate) fn is_whole(
     if masks.columns - 8 < k {
         return false;
     }
-    if !is_cleared(samples) || !allows_tile(&triangle.placed().state, tile) {
+    if !is_cleared(samples) || !allows_tile(fragment.state(), tile) {
         return false;
     }
     are_full_columns(masks, k)
 }
 
-/// Draws a triangle that covers the screen, in one colour and at one depth, at all samples of a tile all of whose blocks
-/// are as it was cleared: in the plane that stands for them.
-pub(crate) fn paint_whole(triangle: &Interpolants, tile: &Tile, samples: &mut [BlockSamples])
+/// Draws the fragment at all samples of a tile all of whose blocks are as it was cleared: in the plane that stands for
+/// them.
+pub(crate) fn paint_whole(fragment: &Fragment, tile: &Tile, samples: &mut [BlockSamples])
     requires side { tile.now.side ≡ T64 }
-    requires fills { FillsScreen triangle.now }
-    requires allows { AllowsTile triangle.now.state tile.now }
+    requires allows { AllowsTile fragment.now.state tile.now }
     requires cleared { (block : ℕ) → block < 64 → way_in_tile samples.old block ≡ Cleared }
     requires samples { length samples.old ≡ planes_of_tile tile.now.count }
-    ensures { TilePaints triangle.now tile.now (IsAllowed triangle.now.state tile.now) samples.old samples.new }
+    ensures { TilePaints fragment.now tile.now (IsAllowed fragment.now.state tile.now) samples.old samples.new }
 {
     let place = place_by(tile.count, Way::Cleared, 0, 0);
     let first = CoveredBlock {
-        triangle,
+        fragment,
         tile,
         bx: tile.bx,
         by: tile.by,

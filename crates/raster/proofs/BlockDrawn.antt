@@ -15,13 +15,14 @@ use Rattle.lanes.specs.declared.block_mask.BlockMask.{BlockMask}
 use Rattle.shade.specs.declared.placed.Placed.{Placed}
 use Rattle.planes.specs.Group.{position_in}
 use Rattle.lanes.specs.Block.{stored_at, AreDrawn}
-use Rattle.lanes.specs.BlockMask.{CoversBlock, IsBlockDrawn, first_of, plane_of}
+use Rattle.lanes.specs.BlockMask.{CoversBlock, IsBlockDrawnBy, first_of, plane_of}
 use Rattle.shade.specs.declared.state.State.{State}
 use Rattle.shade.specs.Placed.{Meets}
-use Rattle.shade.specs.Canvas.{IsCanvasDrawnAt}
+use Rattle.grid.specs.Position.{Position}
+use Rattle.shade.specs.declared.sample.CanvasSample.{CanvasSample}
 use Rattle.raster.specs.declared.tile.Tile.{Tile}
 use Rattle.raster.specs.Samples.{IsSampleOf, place_of, planes_of, stored}
-use Rattle.raster.specs.Drawing.{DrawsPart, KeepsAt, IsInSquare, IsInSquarePart, LiesIn, ArePlanesOf, Allows, AreAllowed, CoversMasks, IsChosen, DrawsMasks}
+use Rattle.raster.specs.Drawing.{DrawsPart, KeepsAt, IsInSquare, IsInSquarePart, LiesIn, ArePlanesOf, Allows, AreAllowed, CoversMasks, IsChosen, DrawsMasks, DrawsMasksBy}
 use Rattle.raster.proofs.Bits.{both_set}
 use Rattle.raster.proofs.Cut.{put, put_here, put_elsewhere, part_of}
 use Rattle.raster.proofs.Places.{within, same_place, whole_blocks}
@@ -102,7 +103,7 @@ square_part_or_not tile bx by from row column s =
     ]
 
 -- ---- a block of the tile, drawn
-module _ (t : Placed) (tile : Tile) (bx by from : ℕ) (masks : List ℕ) (lies : LiesIn tile bx by 8) (is_part : IsPart tile.count from) (m : BlockMask) (is : (m.bx ≡ bx) × (m.by ≡ by) × (m.count ≡ tile.count)) (begins : m.from ≡ from) (allowed : AreAllowed t.state masks m) where
+module _ (D : Position → CanvasSample → CanvasSample → Type 0) (state : State) (tile : Tile) (bx by from : ℕ) (masks : List ℕ) (lies : LiesIn tile bx by 8) (is_part : IsPart tile.count from) (m : BlockMask) (is : (m.bx ≡ bx) × (m.by ≡ by) × (m.count ≡ tile.count)) (begins : m.from ≡ from) (allowed : AreAllowed state masks m) where
   -- the pixel in its block
   abbrev pixel : ℕ → ℕ → ℕ
   pixel row column = 8 * (row % 8) + column % 8
@@ -127,7 +128,7 @@ module _ (t : Placed) (tile : Tile) (bx by from : ℕ) (masks : List ℕ) (lies 
     down = omega (arith, lies.top, p.top, p.bottom)
 
     allowed_here : s < part_size tile.count
-        → (IsBitSet (slice_index m.plane s) (pixel row column) ↔ (IsBitSet (slice_index masks s) (pixel row column) × Allows t.state (8 * tile.bx + column) (8 * tile.by + row) (from + s)))
+        → (IsBitSet (slice_index m.plane s) (pixel row column) ↔ (IsBitSet (slice_index masks s) (pixel row column) × Allows state (8 * tile.bx + column) (8 * tile.by + row) (from + s)))
     allowed_here small =
         let there = allowed (row % 8) (column % 8) s (omega arith) (omega arith) (rw is.2 small) in
         rw (is.0, is.1, begins, across, down) at there
@@ -144,7 +145,7 @@ module _ (t : Placed) (tile : Tile) (bx by from : ℕ) (masks : List ℕ) (lies 
   first = place_of tile (by - tile.by) (bx - tile.bx) from
 
   module _ (xs ys : List BlockSamples) (long : length xs ≡ planes_of tile.side tile.count)
-      (here : (s : ℕ) → s < part_size tile.count → AreDrawn t (first_of m s) (slice_index m.plane s) (plane_of xs (first + s)) (plane_of ys (first + s)) 0 64)
+      (here : (s : ℕ) → s < part_size tile.count → AreDrawn D (first_of m s) (slice_index m.plane s) (plane_of xs (first + s)) (plane_of ys (first + s)) 0 64)
       (elsewhere : (k : ℕ) → ((s : ℕ) → s < part_size tile.count → k ≢ first + s) → plane_of ys k ≡ plane_of xs k) where
     there : (row column s : ℕ) (zs : List BlockSamples) → IsInSquare tile bx by 8 row column s → stored tile zs row column (from + s) ≡ stored_at (plane_of zs (first + s)) (pixel row column)
     there row column s zs p =
@@ -152,11 +153,11 @@ module _ (t : Placed) (tile : Tile) (bx by from : ℕ) (masks : List ℕ) (lies 
         ap (λ k. stored_at (plane_of zs k) (pixel row column)) place
 
     abbrev Chosen : ℕ → ℕ → ℕ → Type 0
-    Chosen row column s = IsChosen t.state tile bx by from masks row column s
+    Chosen row column s = IsChosen state tile bx by from masks row column s
 
     -- at the sample of this index in the part
     drawn_at : (row column s : ℕ) → s < part_size tile.count → IsInSquare tile bx by 8 row column s → IsBitSet (slice_index m.plane s) (pixel row column)
-        → IsCanvasDrawnAt t (sample_position (8 * tile.bx + column) (8 * tile.by + row) (from + s) tile.count) (stored tile xs row column (from + s)) (stored tile ys row column (from + s))
+        → D (sample_position (8 * tile.bx + column) (8 * tile.by + row) (from + s) tile.count) (stored tile xs row column (from + s)) (stored tile ys row column (from + s))
     drawn_at row column s small p set =
         rw (there row column s xs p, there row column s ys p, ← position row column s p) ((here s small).drawn (pixel row column) (omega arith) (omega arith) set)
 
@@ -168,14 +169,14 @@ module _ (t : Placed) (tile : Tile) (bx by from : ℕ) (masks : List ℕ) (lies 
     square_at row column s s' p = record { left = p.left; right = p.right; top = p.top; bottom = p.bottom }
 
     draws : (row column s : ℕ) → IsSampleOf tile row column s → Chosen row column s
-        → IsCanvasDrawnAt t (sample_position (8 * tile.bx + column) (8 * tile.by + row) s tile.count) (stored tile xs row column s) (stored tile ys row column s)
+        → D (sample_position (8 * tile.bx + column) (8 * tile.by + row) s tile.count) (stored tile xs row column s) (stored tile ys row column s)
     draws row column s h chosen =
         let part = chosen.part.samples in
         let same : from + (s - from) ≡ s = omega (arith, part.low) in
         let small : s - from < part_size tile.count = omega (arith, part.low, part.high) in
         let square = square_at row column s (s - from) chosen.part.square in
-        let allows : Allows t.state (8 * tile.bx + column) (8 * tile.by + row) (from + (s - from)) = rw same chosen.allowed in
-        subst (λ k. IsCanvasDrawnAt t (sample_position (8 * tile.bx + column) (8 * tile.by + row) k tile.count) (stored tile xs row column k) (stored tile ys row column k)) same
+        let allows : Allows state (8 * tile.bx + column) (8 * tile.by + row) (from + (s - from)) = rw same chosen.allowed in
+        subst (λ k. D (sample_position (8 * tile.bx + column) (8 * tile.by + row) k tile.count) (stored tile xs row column k) (stored tile ys row column k)) same
         (drawn_at row column (s - from) small square ((allowed_here row column (s - from) square small).1 (chosen.in_masks, allows)))
 
     in_block : (row column s : ℕ) → row / 8 ≡ by - tile.by → column / 8 ≡ bx - tile.bx → IsInSquare tile bx by 8 row column s
@@ -197,7 +198,7 @@ module _ (t : Placed) (tile : Tile) (bx by from : ℕ) (masks : List ℕ) (lies 
         (kept_at row column (s - from) small square
         (λ set.
         let both = (allowed_here row column (s - from) square small).0 set in
-        n (record { part = p; in_masks = both.0; allowed = subst (λ k. Allows t.state (8 * tile.bx + column) (8 * tile.by + row) k) same both.1 })))
+        n (record { part = p; in_masks = both.0; allowed = subst (λ k. Allows state (8 * tile.bx + column) (8 * tile.by + row) k) same both.1 })))
 
     -- any other
     keeps_out : (row column s : ℕ) → IsSampleOf tile row column s → ¬ IsInSquarePart tile bx by 8 from row column s → KeepsAt tile xs ys row column s
@@ -215,12 +216,12 @@ module _ (t : Placed) (tile : Tile) (bx by from : ℕ) (masks : List ℕ) (lies 
           | inr p ↦ keeps_out row column s h p
         ]
 
-    block_drawn : DrawsMasks t tile bx by from masks xs ys
+    block_drawn : DrawsMasksBy D state tile bx by from masks xs ys
     block_drawn = record { drawn = draws; kept = keeps }
 
   -- the block's samples, drawn and put back
   module _ (xs part : List BlockSamples) (at n : ℕ) (starts : at ≡ first) (many : n ≡ part_size tile.count) (long : length xs ≡ planes_of tile.side tile.count) (whole : length part ≡ n)
-      (drawn : IsBlockDrawn t m (take n (drop at xs)) part) where
+      (drawn : IsBlockDrawnBy D m (take n (drop at xs)) part) where
     room : at + n ≤ length xs
     room =
         let some = part_at_most tile.count in
@@ -230,18 +231,18 @@ module _ (t : Placed) (tile : Tile) (bx by from : ℕ) (masks : List ℕ) (lies 
     abbrev none : BlockSamples
     none = record { z = []; r = []; g = []; b = []; alpha = [] }
 
-    here : (s : ℕ) → s < part_size tile.count → AreDrawn t (first_of m s) (slice_index m.plane s) (plane_of xs (first + s)) (plane_of (put xs part at n) (first + s)) 0 64
+    here : (s : ℕ) → s < part_size tile.count → AreDrawn D (first_of m s) (slice_index m.plane s) (plane_of xs (first + s)) (plane_of (put xs part at n) (first + s)) 0 64
     here s small =
         let in_part : s < n = omega (arith, many, small) in
         let old : plane_of (take n (drop at xs)) s ≡ plane_of xs (first + s) = part_of xs at n none s in_part ∙ ap (λ k. plane_of xs (k + s)) starts in
         let new : plane_of (put xs part at n) (first + s) ≡ plane_of part s = ap (λ k. plane_of (put xs part at n) (k + s)) (sym starts) ∙ put_here xs part at n none room whole s in_part in
-        subst (λ x. AreDrawn t (first_of m s) (slice_index m.plane s) x (plane_of (put xs part at n) (first + s)) 0 64) old
-        (subst (λ x. AreDrawn t (first_of m s) (slice_index m.plane s) (plane_of (take n (drop at xs)) s) x 0 64) (sym new) (drawn s (rw is.2 small)))
+        subst (λ x. AreDrawn D (first_of m s) (slice_index m.plane s) x (plane_of (put xs part at n) (first + s)) 0 64) old
+        (subst (λ x. AreDrawn D (first_of m s) (slice_index m.plane s) (plane_of (take n (drop at xs)) s) x 0 64) (sym new) (drawn s (rw is.2 small)))
 
     elsewhere : (k : ℕ) → ((s : ℕ) → s < part_size tile.count → k ≢ first + s) → plane_of (put xs part at n) k ≡ plane_of xs k
     elsewhere k other = put_elsewhere xs part at n none room whole k (λ s l e. other s (omega (arith, many, l)) (omega (arith, e, starts)))
 
-    pub part_drawn : DrawsMasks t tile bx by from masks xs (put xs part at n)
+    pub part_drawn : DrawsMasksBy D state tile bx by from masks xs (put xs part at n)
     part_drawn = block_drawn xs (put xs part at n) long here elsewhere
 
 -- ---- masks of what the triangle covers

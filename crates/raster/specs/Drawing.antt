@@ -1,16 +1,19 @@
 -- What a triangle makes of the samples of a tile.
 use Rattle.std.specs.Prelude.{◌≡◌, ◌↔◌, ℕ, ◌+◌, ◌-◌, ◌*◌, ◌/◌, ◌%◌, ◌^◌, ◌<◌, ◌≤◌, List, slice_index, IsBitSet, IsTrue}
 use Rattle.grid.specs.Pixels.{side_of, IsInBox}
+use Rattle.grid.specs.Position.{Position}
 use Rattle.grid.specs.Samples.{part_size, sample_position}
 use Rattle.grid.specs.declared.triangle.Tri.{Tri}
 use Rattle.grid.specs.declared.pixels.TileSide.TheVariants.{T8}
 use Rattle.grid.specs.declared.sample_count.SampleCount.{SampleCount}
 use Rattle.lanes.specs.declared.block_samples.BlockSamples.{BlockSamples}
 use Rattle.lanes.specs.declared.block_mask.BlockMask.{BlockMask}
+use Rattle.lanes.specs.Fragment.{FlatFragment, Takes}
 use Rattle.cover.specs.Masks.{CoversInBlock, IsPlaneOf}
 use Rattle.cover.specs.Square.{TestedSquare, CoversIn}
 use Rattle.shade.specs.declared.placed.Placed.{Placed}
 use Rattle.shade.specs.declared.state.State.{State}
+use Rattle.shade.specs.declared.sample.CanvasSample.{CanvasSample}
 use Rattle.shade.specs.Canvas.{IsCanvasDrawnAt, CanvasDraws}
 use Rattle.raster.specs.declared.lazy.LazyInterpolants.{LazyInterpolants}
 use Rattle.raster.specs.declared.tile.Tile.{Tile}
@@ -107,8 +110,16 @@ pub record IsChosen (state : State) (tile : Tile) (bx by from : ℕ) (masks : Li
   pub in_masks : IsBitSet (slice_index masks (s - from)) (8 * (row % 8) + column % 8)
   pub allowed : Allows state (8 * tile.bx + column) (8 * tile.by + row) s
 
--- The triangle is drawn at the samples in the masks that the state lets be drawn, and the others are unchanged.
-pub record DrawsMasks (t : Placed) (tile : Tile) (bx by from : ℕ) (masks : List ℕ) (old new : List BlockSamples) : Type 0 where
-  pub drawn : (row column s : ℕ) → IsSampleOf tile row column s → IsChosen t.state tile bx by from masks row column s
-      → IsCanvasDrawnAt t (sample_position (8 * tile.bx + column) (8 * tile.by + row) s tile.count) (stored tile old row column s) (stored tile new row column s)
-  pub kept : (row column s : ℕ) → IsSampleOf tile row column s → ¬ IsChosen t.state tile bx by from masks row column s → KeepsAt tile old new row column s
+-- The samples in the masks that the state lets be drawn become what D says of their points, and the others are unchanged.
+pub record DrawsMasksBy (D : Position → CanvasSample → CanvasSample → Type 0) (state : State) (tile : Tile) (bx by from : ℕ) (masks : List ℕ) (old new : List BlockSamples) : Type 0 where
+  pub drawn : (row column s : ℕ) → IsSampleOf tile row column s → IsChosen state tile bx by from masks row column s
+      → D (sample_position (8 * tile.bx + column) (8 * tile.by + row) s tile.count) (stored tile old row column s) (stored tile new row column s)
+  pub kept : (row column s : ℕ) → IsSampleOf tile row column s → ¬ IsChosen state tile bx by from masks row column s → KeepsAt tile old new row column s
+
+-- The triangle is drawn at the samples in the masks that its state lets be drawn, and the others are unchanged.
+abbrev pub DrawsMasks : Placed → Tile → ℕ → ℕ → ℕ → List ℕ → List BlockSamples → List BlockSamples → Type 0
+DrawsMasks t = DrawsMasksBy (IsCanvasDrawnAt t) t.state
+
+-- The samples in the masks that the fragment's state lets be drawn take the fragment, and the others are unchanged.
+abbrev pub MergesMasks : FlatFragment → Tile → ℕ → ℕ → ℕ → List ℕ → List BlockSamples → List BlockSamples → Type 0
+MergesMasks f = DrawsMasksBy (λ p. Takes f) f.state

@@ -4,12 +4,12 @@ ghost use Rattle.grid.specs.Pixels.{IsInBox};
 ghost use Rattle.grid.specs.Samples.{IsPart};
 ghost use Rattle.raster.specs.Samples.{planes_of};
 ghost use Rattle.raster.specs.Region.{HoldsTile};
-ghost use Rattle.raster.specs.Drawing.{LiesIn, AreAllowed, CoversMasks, DrawsMasks};
+ghost use Rattle.raster.specs.Drawing.{LiesIn, AreAllowed, CoversMasks, DrawsMasks, MergesMasks};
 
 use crate::scissor::in_scissor_of_tile;
 use crate::tile::Tile;
 use grid::SampleCount;
-use lanes::{BlockMask, BlockSamples, Interpolants};
+use lanes::{BlockMask, BlockSamples, Fragment, Interpolants};
 use planes::Corrections;
 use shade::State;
 
@@ -58,6 +58,30 @@ fn allowed(
     }
 }
 
+/// Which samples of block (bx, by) of the tile the state lets be drawn, of those in the masks of the part that begins with
+/// sample `from`. `whole` says that all pixels of the tile are in the scissor.
+#[inline(always)]
+fn chosen(
+    state: &State,
+    tile: &Tile,
+    count: SampleCount,
+    bx: u32,
+    by: u32,
+    from: u32,
+    masks: &[u64; 4],
+    whole: bool,
+) -> BlockMask
+    requires block { LiesIn tile.now bx by 8 }
+    requires part { IsPart count from }
+    requires whole { IsTrue whole → HoldsTile state.now.scissor tile.now }
+    ensures allowed { AreAllowed state.now masks.now result }
+    ensures block { (result.bx ≡ bx) × (result.by ≡ by) × (result.count ≡ count) }
+    ensures part { result.from ≡ from }
+{
+    let scissor = in_scissor_of_tile(&state.scissor, whole, tile, bx, by);
+    allowed(state, bx, by, from, count, masks, scissor)
+}
+
 /// Draws the triangle at the samples of block (bx, by) that are in the masks, each of which it covers, of the part that
 /// begins with sample `from`, if its state lets them be drawn. `whole` says that all pixels of the tile are in the
 /// scissor. A pixel has `count` samples.
@@ -83,12 +107,40 @@ pub fn draw_masks(
     ensures { DrawsMasks triangle.now tile.now bx by from masks.now samples.old samples.new }
 {
     let state = &triangle.placed().state;
-    let scissor = in_scissor_of_tile(&state.scissor, whole, tile, bx, by);
-    let mask = allowed(state, bx, by, from, count, masks, scissor);
+    let mask = chosen(state, tile, count, bx, by, from, masks, whole);
     let first = tile.place_by_count(count, by - tile.by, bx - tile.bx, from);
     triangle.draw(
         &mask,
         &mut samples[first..first + count.part_size() as usize],
         corrections,
     );
+}
+
+/// Draws the fragment at the samples of block (bx, by) that are in the masks, of the part that begins with sample `from`,
+/// if its state lets them be drawn. `whole` says that all pixels of the tile are in the scissor. A pixel has `count`
+/// samples.
+#[inline(always)]
+pub fn draw_fragment(
+    fragment: &Fragment,
+    tile: &Tile,
+    count: SampleCount,
+    bx: u32,
+    by: u32,
+    from: u32,
+    masks: &[u64; 4],
+    whole: bool,
+    samples: &mut [BlockSamples],
+)
+    requires samples { length samples.old ≡ planes_of tile.now.side tile.now.count }
+    requires count { count ≡ tile.now.count }
+    requires block { LiesIn tile.now bx by 8 }
+    requires part { IsPart count from }
+    requires whole { IsTrue whole → HoldsTile fragment.now.state.scissor tile.now }
+    ensures { MergesMasks fragment.now tile.now bx by from masks.now samples.old samples.new }
+{
+    let state = fragment.state();
+    let mask = chosen(state, tile, count, bx, by, from, masks, whole);
+    let first = tile.place_by_count(count, by - tile.by, bx - tile.bx, from);
+    let end = first + count.part_size() as usize;
+    fragment.draw(&mask, &mut samples[first..end]);
 }

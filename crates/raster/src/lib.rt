@@ -10,7 +10,7 @@ mod region;
 mod scissor;
 mod tile;
 
-pub use block::draw_masks;
+pub use block::{draw_fragment, draw_masks};
 pub use cleared::clear;
 pub use lazy::LazyInterpolants;
 pub use pixel_row::{colours, eight_from, first_of_many, interleaved};

@@ -8,22 +8,22 @@ use Rattle.painting.proofs.column.paint_column.Goals.{then-has_some, else-has_so
 
 pub loop-row-init : goal.loop-row-init
 loop-row-init g c =
-    let t = c.args.triangle.now in
+    let f = c.args.fragment.now in
     let tile = c.args.tile.now in
-    tile_none t tile (IsInColumn t.state tile c.args.bx 0 c.args.masks.now c.args.k) c.args.samples.now (λ row column s h p. omega (arith, p.before))
+    tile_none f tile (IsInColumn f.state tile c.args.bx 0 c.args.masks.now c.args.k) c.args.samples.now (λ row column s h p. omega (arith, p.before))
 
 pub loop-row-preserved : goal.loop-row-preserved
 loop-row-preserved g c =
-    let t = c.args.triangle.now in
+    let f = c.args.fragment.now in
     let tile = c.args.tile.now in
     let row = c.loop-row.row in
     let masks = c.args.masks.now in
-    let After = λ (xs : List BlockSamples). TilePaints t tile (IsInColumn t.state tile c.args.bx (row + 1) masks c.args.k) c.args.samples.now xs in
+    let After = λ (xs : List BlockSamples). TilePaints f tile (IsInColumn f.state tile c.args.bx (row + 1) masks c.args.k) c.args.samples.now xs in
     elim c.if-has_some.branch [
       | then-has_some w ↦
           subst After (sym w.samples-is)
-          (one_block_more t tile c.args.bx row masks c.args.k c.args.samples.now c.loop-row.samples w.paint_block.new.samples c.loop-row.invariant w.paint_block.ensures)
+          (one_block_more f tile c.args.bx row masks c.args.k c.args.samples.now c.loop-row.samples w.paint_block.new.samples c.loop-row.invariant w.paint_block.ensures)
       | else-has_some w ↦
           subst After (sym w.samples-is)
-          (one_block_skipped t tile c.args.bx row masks c.args.k c.args.samples.now c.loop-row.samples (λ s h. w.if-has_some.ensures refl s (rw c.requires.count h)) c.loop-row.invariant)
+          (one_block_skipped f tile c.args.bx row masks c.args.k c.args.samples.now c.loop-row.samples (λ s h. w.if-has_some.ensures refl s (rw c.requires.count h)) c.loop-row.invariant)
     ]

@@ -2,4 +2,4 @@ use Rattle.painting.specs.Parts.{IsInColumn, TilePaints}
 use Rattle.painting.proofs.column.paint_column.Given as goal
 
 abbrev pub invariant-loop-row : goal.invariant-loop-row
-invariant-loop-row g l = TilePaints l.triangle l.tile (IsInColumn l.triangle.state l.tile l.bx l.row l.masks l.k) l.fn.samples l.samples
+invariant-loop-row g l = TilePaints l.fragment l.tile (IsInColumn l.fragment.state l.tile l.bx l.row l.masks l.k) l.fn.samples l.samples

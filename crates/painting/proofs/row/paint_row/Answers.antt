@@ -1,13 +1,9 @@
 use Rattle.std.proofs.Common.{sym, subst, ap, arith, ◌+◌, ◌*◌}
-use Rattle.shade.specs.declared.placed.Placed.{Placed}
+use Rattle.lanes.specs.Fragment.{FlatFragment}
 use Rattle.polygons.specs.Cells.{flags_by}
-use Rattle.painting.specs.Parts.{FillsScreen, MeetsHere, RowsPaint}
+use Rattle.painting.specs.Parts.{MeetsHere, RowsPaint}
 use Rattle.painting.proofs.RowMasks.{all_met}
-use Rattle.painting.proofs.Screen.{fills_screen}
 use Rattle.painting.proofs.row.paint_row.Goals as goal
-
-pub paint_masks-requires-clause-fills : goal.paint_masks-requires-clause-fills
-paint_masks-requires-clause-fills c = subst (λ (t : Placed). FillsScreen t) (sym c.requires.triangle) (fills_screen c.args.polygon.now c.args.origin.now)
 
 pub returns-clause-painted : goal.returns-clause-painted
 returns-clause-painted c =
@@ -18,5 +14,5 @@ returns-clause-painted c =
     let high = canvas.height_fits in
     let met =
     all_met polygon origin canvas row c.args.first c.args.many (flags_by polygon.rule * c.args.many) _ (ap (λ k. k * c.args.many) c.flags.ensures.value) c.requires.columns (omega (arith, high, c.requires.row)) c.cover_row.ensures.masks c.requires.held c.args.samples.now c.paint_masks.new.samples
-    (rw c.requires.triangle at c.paint_masks.ensures) in
-    subst (λ (t : Placed). RowsPaint t canvas row (row + 1) (MeetsHere polygon origin canvas.count) c.args.samples.now c.paint_masks.new.samples) (sym c.requires.triangle) met
+    (rw c.requires.fragment at c.paint_masks.ensures) in
+    subst (λ (f : FlatFragment). RowsPaint f canvas row (row + 1) (MeetsHere polygon origin canvas.count) c.args.samples.now c.paint_masks.new.samples) (sym c.requires.fragment) met

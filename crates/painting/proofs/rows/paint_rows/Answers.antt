@@ -2,8 +2,7 @@ use Rattle.std.proofs.Common.{◌≡◌, ◌∙◌, ap, subst, arith, rules, ℕ
 use Rattle.std.proofs.lemmas.List.{length-take}
 use Rattle.grid.specs.Samples.{parts_of}
 use Rattle.grid.specs.declared.sample_count.SampleCount.{SampleCount}
-use Rattle.grid.specs.declared.sample_count.SampleCount.TheVariants.{One}
-use Rattle.shade.specs.declared.placed.Placed.{Placed}
+use Rattle.lanes.specs.Fragment.{FlatFragment}
 use Rattle.polygons.specs.declared.rule.Rule.{Rule}
 use Rattle.polygons.specs.declared.rule.Rule.TheVariants.{EvenOdd, NonZero}
 use Rattle.polygons.specs.Cells.{flags_by}
@@ -22,16 +21,13 @@ enough_flags count rule parts each columns most flags is by few h = rw (is, by) 
     by_rule EvenOdd h = let more : flags_by EvenOdd * columns ≤ flags_by EvenOdd * most = omega arith in grind (arith, more, h)
     by_rule NonZero h = let more : flags_by NonZero * columns ≤ flags_by NonZero * most = omega arith in grind (arith, more, h)
 
-pub new-triangle-requires : goal.new-triangle-requires
-new-triangle-requires c e = (c.over_screen.ensures.covers One 0 0 0 (omega arith) (omega arith)).area e
-
 pub returns-then-window-clause-painted : goal.returns-then-window-clause-painted
 returns-then-window-clause-painted c =
     let rows = c.args.rows.now in
     let polygon = c.args.polygon.now in
     let origin = c.args.origin.now in
     let w = c.of-window.result in
-    polygon_painted polygon origin rows.canvas rows.first rows.end c.args.samples.now c.args.samples.now rows.within
+    polygon_painted polygon origin rows.canvas rows.first rows.end c.args.samples.now c.args.samples.now
     (rows_none _ rows.canvas rows.first rows.end (MeetsHere polygon origin rows.canvas.count) c.args.samples.now
     (λ i j s h m. let inside = in_window polygon origin rows.canvas c.extent.result w c.extent.ensures.holds c.of-window.ensures.holds rows.first rows.end i j s rows.within h m in omega (arith, inside.0, inside.1, c.if-window.true)))
 
@@ -42,7 +38,7 @@ loop-row-init c =
     let origin = c.args.origin.now in
     let w = c.of-window.result in
     record {
-      painted = rows_none c.new-triangle.result rows.canvas rows.first rows.end (λ i j s. (j / 64 < c.max-row.result) × MeetsHere polygon origin rows.canvas.count i j s) c.args.samples.now
+      painted = rows_none c.fragment-fragment.result rows.canvas rows.first rows.end (λ i j s. (j / 64 < c.max-row.result) × MeetsHere polygon origin rows.canvas.count i j s) c.args.samples.now
           (λ i j s h p. let inside = in_window polygon origin rows.canvas c.extent.result w c.extent.ensures.holds c.of-window.ensures.holds rows.first rows.end i j s rows.within h p.1 in let from = h.from in omega (arith, inside.2, from, p.0, c.max-row.ensures));
       flags = c.requires.flags;
     }
@@ -90,7 +86,7 @@ loop-row-preserved c =
     let flags_fit : flagged ≤ length c.loop-row.flags =
     enough_flags rows.canvas.count polygon.rule c.parts-parts.result c.flags.result (w.right - w.left) (8 * columns_of rows.canvas) (length c.loop-row.flags) c.parts-parts.ensures c.flags.ensures.value (omega (arith, c.of-window.ensures.columns)) (omega (arith, c.requires.columns, c.loop-row.auto.flags)) in
     record {
-      painted = one_row_more c.new-triangle.result rows.canvas rows.first rows.end row from (MeetsHere polygon origin rows.canvas.count) c.loop-row.samples c.paint_row.new.samples (a + each - a) a
+      painted = one_row_more c.fragment-fragment.result rows.canvas rows.first rows.end row from (MeetsHere polygon origin rows.canvas.count) c.loop-row.samples c.paint_row.new.samples (a + each - a) a
           (omega (arith, room, many, at, c.requires.samples, c.loop-row.auto.samples)) (omega (arith, c.paint_row.auto.samples, room, many, at, c.requires.samples, c.loop-row.auto.samples)) many at c.paint_row.ensures.painted c.args.samples.now c.loop-row.invariant.painted;
       flags = zeros_put c.loop-row.flags c.paint_row.new.flags flagged flags_fit (let long = length-take flagged c.loop-row.flags in omega (arith, c.paint_row.auto.flags, long, flags_fit)) c.loop-row.invariant.flags c.paint_row.ensures.flags;
     }
@@ -102,11 +98,11 @@ returns-clause-painted c =
     let origin = c.args.origin.now in
     let w = c.of-window.result in
     let row = c.loop-row.row in
-    let t = c.new-triangle.result in
+    let f = c.fragment-fragment.result in
     let past : min rows.end w.bottom ≤ row = omega (arith, c.loop-row-test.false, c.min-row-end.ensures) in
-    let all : RowsPaint t rows.canvas rows.first rows.end (MeetsHere polygon origin rows.canvas.count) c.args.samples.now c.loop-row.samples =
-    rows_same t rows.canvas rows.first rows.end (λ i j s. (j / 64 < row) × MeetsHere polygon origin rows.canvas.count i j s) (MeetsHere polygon origin rows.canvas.count) c.args.samples.now c.loop-row.samples c.loop-row.invariant.painted
+    let all : RowsPaint f rows.canvas rows.first rows.end (MeetsHere polygon origin rows.canvas.count) c.args.samples.now c.loop-row.samples =
+    rows_same f rows.canvas rows.first rows.end (λ i j s. (j / 64 < row) × MeetsHere polygon origin rows.canvas.count i j s) (MeetsHere polygon origin rows.canvas.count) c.args.samples.now c.loop-row.samples c.loop-row.invariant.painted
     (λ i j s h m. let inside = in_window polygon origin rows.canvas c.extent.result w c.extent.ensures.holds c.of-window.ensures.holds rows.first rows.end i j s rows.within h m in let end = h.below in (omega (arith, inside.3, end, past), m))
     (λ i j s h p. p.1) in
-    polygon_painted polygon origin rows.canvas rows.first rows.end c.args.samples.now c.loop-row.samples rows.within
-    (subst (λ (u : Placed). RowsPaint u rows.canvas rows.first rows.end (MeetsHere polygon origin rows.canvas.count) c.args.samples.now c.loop-row.samples) (c.new-triangle.ensures ∙ c.over_screen.ensures.value) all)
+    polygon_painted polygon origin rows.canvas rows.first rows.end c.args.samples.now c.loop-row.samples
+    (subst (λ (u : FlatFragment). RowsPaint u rows.canvas rows.first rows.end (MeetsHere polygon origin rows.canvas.count) c.args.samples.now c.loop-row.samples) c.fragment-fragment.ensures all)

@@ -5,6 +5,6 @@ use Rattle.painting.proofs.rows.paint_rows.Given as goal
 
 abbrev pub invariant-loop-row : goal.invariant-loop-row
 invariant-loop-row l = record {
-  painted : RowsPaint l.triangle l.rows.canvas l.rows.first l.rows.end (λ i j s. (j / 64 < l.row) × MeetsHere l.polygon l.origin l.rows.canvas.count i j s) l.fn.samples l.samples;
+  painted : RowsPaint l.fragment l.rows.canvas l.rows.first l.rows.end (λ i j s. (j / 64 < l.row) × MeetsHere l.polygon l.origin l.rows.canvas.count i j s) l.fn.samples l.samples;
   flags : AreZeros l.flags;
 }

@@ -10,12 +10,12 @@ use Rattle.painting.proofs.strip.paint_strip.Goals as goal
 
 pub loop-k-init : goal.loop-k-init
 loop-k-init g c =
-    let t = c.args.triangle.now in
+    let f = c.args.fragment.now in
     let canvas = c.args.canvas.now in
     record {
       within = omega arith;
       samples = refl;
-      painted = rows_none t canvas c.args.row (c.args.row + 1) (IsFlagged t.state c.args.first 0 c.args.masks.now) c.args.samples.now (λ i j s h p. omega (arith, p.left, p.right));
+      painted = rows_none f canvas c.args.row (c.args.row + 1) (IsFlagged f.state c.args.first 0 c.args.masks.now) c.args.samples.now (λ i j s h p. omega (arith, p.left, p.right));
     }
 
 pub paint_whole-requires-clause-allows : goal.paint_whole-requires-clause-allows
@@ -50,7 +50,7 @@ loop-k-preserved-then-is_whole g c =
     record {
       within = whole.columns refl;
       samples = search rules;
-      painted = one_tile_more c.args.triangle.now canvas c.args.row c.args.first k c.args.masks.now c.tile-tile.result c.tile-tile.ensures (whole.begins refl) (λ column r s bit low high h l m. whole.full refl column r s bit low high h (rw c.requires.count l) m) c.args.samples.now c.loop-k.samples c.paint_whole.new.samples (a + each - a) a
+      painted = one_tile_more c.args.fragment.now canvas c.args.row c.args.first k c.args.masks.now c.tile-tile.result c.tile-tile.ensures (whole.begins refl) (λ column r s bit low high h l m. whole.full refl column r s bit low high h (rw c.requires.count l) m) c.args.samples.now c.loop-k.samples c.paint_whole.new.samples (a + each - a) a
           (omega (arith, room, many, at, v.samples, c.requires.samples)) (omega (arith, c.paint_whole.auto.samples, room, many, at, v.samples, c.requires.samples)) many at v.painted c.paint_whole.ensures;
     }
 
@@ -69,7 +69,7 @@ loop-k-preserved g c =
     record {
       within = omega (arith, c.loop-k-test.true);
       samples = search rules;
-      painted = one_column_more c.args.triangle.now canvas c.args.row c.args.first k c.args.masks.now c.tile-tile.result c.tile-tile.ensures c.args.samples.now c.loop-k.samples c.paint_column.new.samples (a + each - a) a
+      painted = one_column_more c.args.fragment.now canvas c.args.row c.args.first k c.args.masks.now c.tile-tile.result c.tile-tile.ensures c.args.samples.now c.loop-k.samples c.paint_column.new.samples (a + each - a) a
           (omega (arith, room, many, at, v.samples, c.requires.samples)) (omega (arith, c.paint_column.auto.samples, room, many, at, v.samples, c.requires.samples)) many at v.painted c.paint_column.ensures;
     }
 
@@ -77,4 +77,4 @@ pub returns : goal.returns
 returns g c =
     let v = c.loop-k.invariant in
     let all : c.loop-k.k ≡ c.args.masks.now.columns = omega (arith, c.loop-k-test.false, v.within) in
-    subst (λ (k : ℕ). RowsPaint c.args.triangle.now c.args.canvas.now c.args.row (c.args.row + 1) (IsFlagged c.args.triangle.now.state c.args.first k c.args.masks.now) c.args.samples.now c.loop-k.samples) all v.painted
+    subst (λ (k : ℕ). RowsPaint c.args.fragment.now c.args.canvas.now c.args.row (c.args.row + 1) (IsFlagged c.args.fragment.now.state c.args.first k c.args.masks.now) c.args.samples.now c.loop-k.samples) all v.painted

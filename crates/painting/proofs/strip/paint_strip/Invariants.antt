@@ -6,7 +6,7 @@ abbrev pub invariant-loop-k : goal.invariant-loop-k
 invariant-loop-k g l = record {
   within : l.k ≤ l.masks.columns;
   samples : length l.samples ≡ length l.fn.samples;
-  painted : RowsPaint l.triangle l.canvas l.row (l.row + 1) (IsFlagged l.triangle.state l.first l.k l.masks) l.fn.samples l.samples;
+  painted : RowsPaint l.fragment l.canvas l.row (l.row + 1) (IsFlagged l.fragment.state l.first l.k l.masks) l.fn.samples l.samples;
 }
 
 abbrev pub decreases-loop-k : goal.decreases-loop-k

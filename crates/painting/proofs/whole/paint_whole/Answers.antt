@@ -11,8 +11,8 @@ paint_plane-requires-clause-masks c k small =
 
 pub returns : goal.returns
 returns c =
-    let t = c.args.triangle.now in
+    let f = c.args.fragment.now in
     let tile = c.args.tile.now in
     let old = c.args.samples.now in
     let new = c.paint_plane.new.samples in
-    whole_painted t tile old new c.requires.cleared c.requires.allows (subst (λ q. TilePaints t tile (IsKeptAt tile.count old q) old new) c.place_by-place.ensures.value c.paint_plane.ensures.painted)
+    whole_painted f tile old new c.requires.cleared c.requires.allows (subst (λ q. TilePaints f tile (IsKeptAt tile.count old q) old new) c.place_by-place.ensures.value c.paint_plane.ensures.painted)

@@ -9,4 +9,4 @@ returns-clause-drawn c = IfSome_then c.replaced.result c.replaced.ensures.replac
 
 pub returns-clause-some : goal.returns-clause-some
 returns-clause-some c =
-    stays_drawn c.args.self.now.triangle.now c.args.count c.args.flat.now c.args.words.now c.drawn-first.result c.drawn_beside-second.result (IsSome c.replaced.result) c.drawn-first.ensures c.drawn_beside-second.ensures c.replaced.ensures.some
+    stays_drawn c.args.self.now.fragment.now c.args.count c.args.flat.now c.args.words.now c.drawn-first.result c.drawn_beside-second.result (IsSome c.replaced.result) c.drawn-first.ensures c.drawn_beside-second.ensures c.replaced.ensures.some

@@ -27,7 +27,7 @@ paint_plane-requires-2-clause-masks c =
 
 pub returns-clause-painted : goal.returns-clause-painted
 returns-clause-painted c true_is =
-    let t = c.args.self.now.triangle.now in
+    let f = c.args.self.now.fragment.now in
     let tile = c.args.self.now.tile.now in
     let number = number_in_tile tile c.args.self.now.bx c.args.self.now.by in
     let old = c.args.samples.now in
@@ -37,7 +37,7 @@ returns-clause-painted c true_is =
     let was : way_in_tile old c.number-number.result ≡ Pair = search rules in
     let first : c.place_by-first.result ≡ place_by tile.count Pair number 0 = c.place_by-first.ensures.value ∙ ap (λ k. place_by tile.count Pair k 0) same in
     let second : c.second_place-second.result ≡ place_by tile.count Pair number (count_of tile.count / 2) = c.second_place-second.ensures.value ∙ ap (λ k. place_by tile.count Pair k (count_of tile.count / 2)) same in
-    both_painted t tile c.args.self.now.side c.args.self.now.bx c.args.self.now.by c.args.self.now.block old mid new (c.has_pairs.ensures.0 (search rules)) (subst (λ k. way_in_tile old k ≡ Pair) same was)
+    both_painted f tile c.args.self.now.side c.args.self.now.bx c.args.self.now.by c.args.self.now.block old mid new (c.has_pairs.ensures.0 (search rules)) (subst (λ k. way_in_tile old k ≡ Pair) same was)
     (subst (λ q. KeepsPlanesBut q old mid) first c.paint_plane.ensures.others)
-    (subst (λ q. TilePaints t tile (IsKeptAt tile.count old q) old mid) first c.paint_plane.ensures.painted)
-    (subst (λ q. TilePaints t tile (IsKeptAt tile.count mid q) mid new) second c.paint_plane-2.ensures.painted)
+    (subst (λ q. TilePaints f tile (IsKeptAt tile.count old q) old mid) first c.paint_plane.ensures.painted)
+    (subst (λ q. TilePaints f tile (IsKeptAt tile.count mid q) mid new) second c.paint_plane-2.ensures.painted)

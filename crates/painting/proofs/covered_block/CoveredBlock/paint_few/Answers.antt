@@ -19,10 +19,10 @@ returns-in-Some-palette_drawn-clause-painted g c true_is =
     let new = c.store.new.samples in
     let count = c.known-count.ensures in
     let same : c.number-number.result ≡ number_in_tile tile b.bx b.by = c.number-number.ensures.value in
-    subst (λ (planes : List BlockSamples). TilePaints b.triangle.now tile (IsInWords tile b.bx b.by words) planes new) (c.paint_two.ensures.unchanged c.if-paint_two.false)
-    (palette_painted b.triangle.now tile b.side b.bx b.by b.block words palette made old new
+    subst (λ (planes : List BlockSamples). TilePaints b.fragment.now tile (IsInWords tile b.bx b.by words) planes new) (c.paint_two.ensures.unchanged c.if-paint_two.false)
+    (palette_painted b.fragment.now tile b.side b.bx b.by b.block words palette made old new
     (subst (λ n. HasPalette n (number_in_tile tile b.bx b.by) palette old) count (subst (λ k. HasPalette c.known-count.result k palette old) same c.in-Some.ensures.palette))
-    (subst (λ n. IsPaletteDrawn b.triangle.now n palette words made) count c.in-Some-palette_drawn.ensures.drawn)
+    (subst (λ n. IsPaletteDrawn b.fragment.now n palette words made) count c.in-Some-palette_drawn.ensures.drawn)
     (subst (λ n. HasPalette n (number_in_tile tile b.bx b.by) made new) count (subst (λ k. HasPalette c.known-count.result k made new) same c.store.ensures.made))
     (subst (λ n. KeepsOtherSamples n (number_in_tile tile b.bx b.by) old new) count (subst (λ k. KeepsOtherSamples c.known-count.result k old new) same c.store.ensures.others)))
 
@@ -32,7 +32,7 @@ returns-in_default-clause-few g c gave_up =
     let tile = b.tile.now in
     let old = c.paint_two.new.samples in
     let same : c.number-number.result ≡ number_in_tile tile b.bx b.by = c.number-number.ensures.value in
-    subst (λ (planes : List BlockSamples). IsNotDrawnInFour b.triangle.now tile (IsInWords tile b.bx b.by c.args.words.now) (number_in_tile tile b.bx b.by) planes)
+    subst (λ (planes : List BlockSamples). IsNotDrawnInFour b.fragment.now tile (IsInWords tile b.bx b.by c.args.words.now) (number_in_tile tile b.bx b.by) planes)
     (c.paint_two.ensures.unchanged c.if-paint_two.false)
     (inl (subst (λ n. IsNotKeptInFour n (number_in_tile tile b.bx b.by) old) c.known-count.ensures (subst (λ k. IsNotKeptInFour c.known-count.result k old) same
     (not_in_four c.known-count.result c.number-number.result old c.in_default.ensures.one c.in_default.ensures.some))))
@@ -46,8 +46,8 @@ returns-in-None-clause-few g c gave_up =
     let old = c.paint_two.new.samples in
     let count = c.known-count.ensures in
     let same : c.number-number.result ≡ number_in_tile tile b.bx b.by = c.number-number.ensures.value in
-    subst (λ (planes : List BlockSamples). IsNotDrawnInFour b.triangle.now tile (IsInWords tile b.bx b.by words) (number_in_tile tile b.bx b.by) planes)
+    subst (λ (planes : List BlockSamples). IsNotDrawnInFour b.fragment.now tile (IsInWords tile b.bx b.by words) (number_in_tile tile b.bx b.by) planes)
     (c.paint_two.ensures.unchanged c.if-paint_two.false)
-    (inr (leaves_many b.triangle.now tile b.side b.bx b.by b.block words palette old
+    (inr (leaves_many b.fragment.now tile b.side b.bx b.by b.block words palette old
     (subst (λ n. HasPalette n (number_in_tile tile b.bx b.by) palette old) count (subst (λ k. HasPalette c.known-count.result k palette old) same c.in-Some.ensures.palette))
-    (subst (λ n. LeavesNoPalette b.triangle.now n palette words) count c.in-None.ensures.none)))
+    (subst (λ n. LeavesNoPalette b.fragment.now n palette words) count c.in-None.ensures.none)))

@@ -8,5 +8,5 @@ use Rattle.painting.proofs.covered_block.CoveredBlock.paint_parts.Given as goal
 abbrev pub invariant-loop-part : goal.invariant-loop-part
 invariant-loop-part l = record {
   own : way_in_tile l.samples (number_in_tile l.self.tile.now l.self.bx l.self.by) ≡ Own;
-  painted : TilePaints l.self.triangle.now l.self.tile.now (OfParts (IsInBlock l.self.triangle.now.state l.self.tile.now l.self.bx l.self.by l.masks l.k) l.part) l.fn.samples l.samples;
+  painted : TilePaints l.self.fragment.now l.self.tile.now (OfParts (IsInBlock l.self.fragment.now.state l.self.tile.now l.self.bx l.self.by l.masks l.k) l.part) l.fn.samples l.samples;
 }

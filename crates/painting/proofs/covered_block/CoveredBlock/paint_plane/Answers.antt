@@ -9,7 +9,7 @@ returns-clause-painted c =
     let n : ℕ = place + 1 - place in
     let single : n ≡ 1 = omega arith in
     let fits : place + n ≤ length samples = omega (arith, c.requires.within, c.requires.samples) in
-    plane_painted c.args.self.now.triangle.now c.args.self.now.tile.now c.args.self.now.side place samples c.draw_plane.new.plane n single c.requires.place fits (omega (arith, c.draw_plane.auto.plane, fits)) c.requires.masks c.draw_plane.ensures
+    plane_painted c.args.self.now.fragment.now c.args.self.now.tile.now c.args.self.now.side place samples c.draw_plane.new.plane n single c.requires.place fits (omega (arith, c.draw_plane.auto.plane, fits)) c.requires.masks c.draw_plane.ensures
 
 pub returns-clause-others : goal.returns-clause-others
 returns-clause-others c =
@@ -18,4 +18,4 @@ returns-clause-others c =
     let n : ℕ = place + 1 - place in
     let single : n ≡ 1 = omega arith in
     let fits : place + n ≤ length samples = omega (arith, c.requires.within, c.requires.samples) in
-    others_kept c.args.self.now.triangle.now c.args.self.now.tile.now c.args.self.now.side place samples c.draw_plane.new.plane n single c.requires.place fits (omega (arith, c.draw_plane.auto.plane, fits)) c.requires.masks c.draw_plane.ensures
+    others_kept c.args.self.now.fragment.now c.args.self.now.tile.now c.args.self.now.side place samples c.draw_plane.new.plane n single c.requires.place fits (omega (arith, c.draw_plane.auto.plane, fits)) c.requires.masks c.draw_plane.ensures

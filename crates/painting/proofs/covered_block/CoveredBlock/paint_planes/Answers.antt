@@ -15,7 +15,7 @@ returns-then-has_one_plane-clause-painted c true_is =
     let one_plane : IsTrue c.has_one_plane.result = search rules in
     let old = c.args.samples.now in
     let mid = c.has_one_plane.new.samples in
-    full_painted b.triangle.now tile b.side b.bx b.by b.block c.args.masks.now c.args.k (b.allows c.requires.whole)
+    full_painted b.fragment.now tile b.side b.bx b.by b.block c.args.masks.now c.args.k (b.allows c.requires.whole)
     (λ s bit h l. c.is_full-full.ensures is_full s bit (rw c.requires.count h) l)
     old mid c.paint_single.new.samples (c.has_one_plane.ensures.alike one_plane) (c.has_one_plane.ensures.others one_plane) c.paint_single.ensures
 
@@ -31,9 +31,9 @@ returns-then-paint_as_pair-clause-painted c true_is =
       | else-full-via-then-full+else-has_one_plane w ↦ w.samples-is ∙ w.has_one_plane.ensures.kept w.if-has_one_plane.false
       | else-full-via-else-full w ↦ w.samples-is
     ] in
-    words_painted b.triangle.now tile b.bx b.by b.block c.args.masks.now c.args.k (b.allows c.requires.whole) c.words.result
+    words_painted b.fragment.now tile b.bx b.by b.block c.args.masks.now c.args.k (b.allows c.requires.whole) c.words.result
     (λ s h. c.words.ensures s (rw c.requires.count h)) old new
-    (subst (λ (xs : List BlockSamples). TilePaints b.triangle.now tile (IsInWords tile b.bx b.by c.words.result) xs new) same (c.paint_as_pair.ensures.painted is))
+    (subst (λ (xs : List BlockSamples). TilePaints b.fragment.now tile (IsInWords tile b.bx b.by c.words.result) xs new) same (c.paint_as_pair.ensures.painted is))
 
 pub returns-then-full-2-clause-painted : goal.returns-then-full-2-clause-painted
 returns-then-full-2-clause-painted c true_is =
@@ -52,7 +52,7 @@ returns-then-full-2-clause-painted c true_is =
       | else-has_pairs-via-then-has_pairs+else-ne w ↦ w.samples-is
       | else-has_pairs-via-else-has_pairs w ↦ w.samples-is
     ] in
-    full_painted b.triangle.now tile b.side b.bx b.by b.block c.args.masks.now c.args.k (b.allows c.requires.whole)
+    full_painted b.fragment.now tile b.side b.bx b.by b.block c.args.masks.now c.args.k (b.allows c.requires.whole)
     (λ s bit h l. c.is_full-full.ensures is_full s bit (rw c.requires.count h) l)
-    old old new (λ i j s p made h drawn. drawn) (λ i j s h other. refl)
-    (subst (λ (xs : List BlockSamples). TilePaints b.triangle.now tile (IsInSquare tile b.bx b.by 8) xs new) (second ∙ first) (c.paint_both.ensures.painted true_is))
+    old old new (λ i j s made h drawn. drawn) (λ i j s h other. refl)
+    (subst (λ (xs : List BlockSamples). TilePaints b.fragment.now tile (IsInSquare tile b.bx b.by 8) xs new) (second ∙ first) (c.paint_both.ensures.painted true_is))

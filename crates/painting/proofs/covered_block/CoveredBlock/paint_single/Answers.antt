@@ -18,11 +18,11 @@ paint_plane-requires-clause-masks c =
 
 pub returns : goal.returns
 returns c =
-    let t = c.args.self.now.triangle.now in
+    let f = c.args.self.now.fragment.now in
     let tile = c.args.self.now.tile.now in
     let old = c.args.samples.now in
     let new = c.paint_plane.new.samples in
     let number = number_in_tile tile c.args.self.now.bx c.args.self.now.by in
     let at : c.place_by-place.result ≡ place_by tile.count Single number 0 = c.place_by-place.ensures.value ∙ ap (λ k. place_by tile.count Single k 0) c.number.ensures.value in
-    single_painted t tile c.args.self.now.side c.args.self.now.bx c.args.self.now.by c.args.self.now.block old new c.requires.single
-    (subst (λ q. TilePaints t tile (IsKeptAt tile.count old q) old new) at c.paint_plane.ensures.painted)
+    single_painted f tile c.args.self.now.side c.args.self.now.bx c.args.self.now.by c.args.self.now.block old new c.requires.single
+    (subst (λ q. TilePaints f tile (IsKeptAt tile.count old q) old new) at c.paint_plane.ensures.painted)

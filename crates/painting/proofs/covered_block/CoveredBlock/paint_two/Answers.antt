@@ -20,10 +20,10 @@ returns-clause-painted g c true_is =
     let new = c.store.new.samples in
     let made = c.flat_replaced-palette.result in
     let same : c.number-number.result ≡ number_in_tile tile b.bx b.by = c.number-number.ensures.value in
-    palette_painted b.triangle.now tile b.side b.bx b.by b.block words (as_palette flat words first second) made old new
+    palette_painted b.fragment.now tile b.side b.bx b.by b.block words (as_palette flat words first second) made old new
     (has_palette flat words first second tile.count (number_in_tile tile b.bx b.by) old
     (subst (λ n. HasFlat n (number_in_tile tile b.bx b.by) flat old) c.known-count.ensures (subst (λ k. HasFlat c.known-count.result k flat old) same c.in-Some.ensures.flat)))
-    (four_drawn flat words first second b.triangle.now tile.count made c.drawn-first.ensures c.drawn_beside-second.ensures (subst (λ n. IsFlatReplacedInFour n flat words first second made) c.known-count.ensures c.flat_replaced-palette.ensures.replaced))
+    (four_drawn flat words first second b.fragment.now tile.count made c.drawn-first.ensures c.drawn_beside-second.ensures (subst (λ n. IsFlatReplacedInFour n flat words first second made) c.known-count.ensures c.flat_replaced-palette.ensures.replaced))
     (subst (λ n. HasPalette n (number_in_tile tile b.bx b.by) made new) c.known-count.ensures (subst (λ k. HasPalette c.known-count.result k made new) same c.store.ensures.made))
     (subst (λ n. KeepsOtherSamples n (number_in_tile tile b.bx b.by) old new) c.known-count.ensures (subst (λ k. KeepsOtherSamples c.known-count.result k old new) same c.store.ensures.others))
 

@@ -7,12 +7,12 @@ use Rattle.painting.proofs.covered_block.CoveredBlock.palette_drawn.Goals as goa
 
 pub returns-clause-drawn : goal.returns-clause-drawn
 returns-clause-drawn c =
-    let t = c.args.self.now.triangle.now in
+    let f = c.args.self.now.fragment.now in
     let drawn = c.drawn-made.result ∷ c.drawn_beside.result ∷ c.drawn_beside-2.result ∷ c.drawn_beside-3.result ∷ [] in
-    IfSome_then c.replaced.result c.replaced.ensures.replaced (λ (made : Palette) is. (drawn, each_drawn t c.args.palette.now.samples drawn c.drawn-made.ensures c.drawn_beside.ensures c.drawn_beside-2.ensures c.drawn_beside-3.ensures, is))
+    IfSome_then c.replaced.result c.replaced.ensures.replaced (λ (made : Palette) is. (drawn, each_drawn f c.args.palette.now.samples drawn c.drawn-made.ensures c.drawn_beside.ensures c.drawn_beside-2.ensures c.drawn_beside-3.ensures, is))
 
 pub returns-clause-none : goal.returns-clause-none
 returns-clause-none c =
-    let t = c.args.self.now.triangle.now in
+    let f = c.args.self.now.fragment.now in
     let drawn = c.drawn-made.result ∷ c.drawn_beside.result ∷ c.drawn_beside-2.result ∷ c.drawn_beside-3.result ∷ [] in
-    if_none_then c.replaced.result c.replaced.ensures.none (λ none. (drawn, each_drawn t c.args.palette.now.samples drawn c.drawn-made.ensures c.drawn_beside.ensures c.drawn_beside-2.ensures c.drawn_beside-3.ensures, none))
+    if_none_then c.replaced.result c.replaced.ensures.none (λ none. (drawn, each_drawn f c.args.palette.now.samples drawn c.drawn-made.ensures c.drawn_beside.ensures c.drawn_beside-2.ensures c.drawn_beside-3.ensures, none))
