@@ -1,5 +1,5 @@
 -- What the sources of a triangle give at a point that it covers is its fragment there.
-use Rattle.std.proofs.Common.{◌≡◌, sym, subst, ℕ, ◌<◌, List, IsBitSet, slice_index}
+use Rattle.std.proofs.Common.{sym, subst, ℕ, ◌<◌, List, IsBitSet, slice_index}
 use Rattle.grid.specs.Position.{Position}
 use Rattle.grid.specs.Samples.{part_size}
 use Rattle.grid.specs.Triangle.{Covers}

@@ -4,7 +4,7 @@ use Rattle.shade.specs.declared.placed.Placed.{Placed}
 use Rattle.shade.specs.declared.sample.Merge.{Merge}
 use Rattle.shade.specs.declared.equation.Equation.{Equation}
 use Rattle.shade.specs.declared.known.KnownEquation.{KnownEquation}
-use Rattle.shade.specs.declared.known.KnownEquation.TheVariants.{Replace, Over, Other}
+use Rattle.shade.specs.declared.known.KnownEquation.TheVariants.{Replace, Over}
 use Rattle.lanes.specs.declared.mode.DepthMode.{DepthMode}
 use Rattle.lanes.specs.declared.mode.DepthMode.TheVariants.{Unused, Flat, Plane}
 use Rattle.lanes.specs.declared.mode.ColourMode.{ColourMode}

@@ -1,5 +1,5 @@
 -- Blocks that have up to four samples, and what is drawn at them.
-use Rattle.std.proofs.Common.{refl, ◌≡◌, ◌∙◌, inl, inr, sym, subst, arith, Bool, true, false, ℕ, zero, suc, ◌+◌, ◌<◌, ◌*◌, List, [], ◌∷◌, slice_index}
+use Rattle.std.proofs.Common.{refl, ◌≡◌, ◌∙◌, inl, inr, sym, subst, arith, Bool, true, false, ℕ, zero, suc, ◌<◌, List, [], ◌∷◌, slice_index}
 use Rattle.std.specs.Prelude.{◌==◌, if◌then◌else◌}
 use Rattle.std.specs.Int.{bit_at}
 use Rattle.grid.specs.declared.pixels.TileSide.TheVariants.{T64}

@@ -2,7 +2,7 @@
 use Rattle.std.proofs.Common.{true, false, inl, inr, ◌≡◌, ◌≢◌, ◌∙◌, refl, ap, sym, subst, ℕ, ◌+◌, ◌-◌, ◌*◌, ◌%◌, ◌/◌, ◌<◌, ◌≤◌, List, length, take, drop, arith}
 use Rattle.std.specs.Prelude.{slice_index_or}
 use Rattle.std.proofs.lemmas.Bool.{false≢true}
-use Rattle.grid.specs.Samples.{count_of, sample_position}
+use Rattle.grid.specs.Samples.{count_of}
 use Rattle.grid.specs.declared.pixels.TileSide.TheVariants.{T64}
 use Rattle.lanes.specs.declared.block_samples.BlockSamples.{BlockSamples}
 use Rattle.lanes.specs.Block.{stored_at}

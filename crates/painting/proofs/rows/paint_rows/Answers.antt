@@ -1,4 +1,4 @@
-use Rattle.std.proofs.Common.{◌≡◌, ◌∙◌, ap, subst, arith, rules, ℕ, ◌+◌, ◌-◌, ◌*◌, ◌/◌, ◌<◌, ◌≤◌, min, length}
+use Rattle.std.proofs.Common.{◌≡◌, ap, subst, arith, rules, ℕ, ◌+◌, ◌-◌, ◌*◌, ◌/◌, ◌<◌, ◌≤◌, min, length}
 use Rattle.std.proofs.lemmas.List.{length-take}
 use Rattle.grid.specs.Samples.{parts_of}
 use Rattle.grid.specs.declared.sample_count.SampleCount.{SampleCount}

@@ -1,7 +1,4 @@
-use Rattle.std.proofs.Common.{◌≡◌, refl, subst, List}
-use Rattle.shade.specs.Canvas.{IsCanvasApplied}
-use Rattle.lanes.specs.declared.block_mask.BlockMask.{BlockMask}
-use Rattle.lanes.specs.declared.block_samples.BlockSamples.{BlockSamples}
+use Rattle.std.proofs.Common.{refl, subst}
 use Rattle.lanes.specs.BlockMask.{IsBlockMerged}
 use Rattle.lanes.specs.Fragment.{FlatFragment}
 use Rattle.lanes.proofs.Given.{made_otherwise}
