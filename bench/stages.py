@@ -51,13 +51,13 @@ class Stage(NamedTuple):
 # The first that has a function counts.
 STAGES = (
     Stage("bins", "#8c6bb1", ("tile_rows::tile_rows::TileRows::bins", "bins::")),
-    Stage("edges of triangles", "#225ea8", ("tile::tile_pixels::draw_bin", "model::", "cover::setup::")),
+    Stage("edges of triangles", "#225ea8", ("tile::tile_pixels::draw_bin", "draw_list::", "cover::setup::")),
     Stage(
         "planes of values", "#41b6c4",
-        ("lanes::interpolants::", "planes::whole_values::", "planes::plane::", "__udivti3"),
+        ("lanes::interpolants::", "gradients::whole_values::", "gradients::plane::", "__udivti3"),
     ),
     Stage("coverage of blocks", "#7fbc41", ("raster::rasterize::", "raster::", "cover::")),
-    Stage("values and merging", "#fdae61", ("lanes::", "planes::", "shade::")),
+    Stage("values and merging", "#fdae61", ("lanes::", "gradients::", "shade::")),
     Stage("clearing", "#bdbdbd", ("tile_rows::tile_rows::TileJobJob::work", "__memset", "memset", "tile::store::")),
     Stage("resolve", "#d7301f", ("tile::pixels::",)),
     Stage("joining and output", "#737373", ("",)),
@@ -65,7 +65,7 @@ STAGES = (
 # What is no part of a frame: the start of the program, its arguments, and reading.
 BEFORE = re.compile(
     r"fast_reader|checking_reader|json|serde|simdutf8|clap|list::|frames::(main|read|list)|Decode|utf8"
-    r"|model::draw_list::DrawList::within"
+    r"|draw_list::draw_list::DrawList::within"
 )
 
 # What each stage takes, by its name.

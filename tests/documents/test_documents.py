@@ -243,14 +243,14 @@ pub extern "C" fn version() {}
 
     def test_calls_are_read_of_cells(self) -> None:
         public = {
-            "Tri::covers", "Tri::new", "Row::new", "Row::step", "Row::value", "grid::side", "plain::draw",
+            "Tri::covers", "Tri::new", "Row::new", "Row::step", "Row::value", "grid::side", "reference::draw",
             "trirast::draw",
         }
         for cell, named in (
             ("`grid::Tri::covers`: its clause", {"Tri::covers"}),
             ("`Row`: `new`, `step`: their clauses; `value`: `new`", {"Row::new", "Row::step", "Row::value"}),
             ("`Tri::new`: `step` (`Row::step`); `side`: its clause", {"Tri::new", "grid::side"}),
-            ("`plain::draw` and `draw`", {"plain::draw"}),
+            ("`reference::draw` and `draw`", {"reference::draw"}),
             ("`Tri::new`; `draw`: its clause", {"Tri::new"}),
         ):
             self.assertEqual(named_calls(cell, public), named, cell)

@@ -18,7 +18,7 @@ CUSTOM, IMPORT, CODE = 0, 2, 10
 # Of the section of names: the names of functions.
 OF_FUNCTIONS = 1
 # What polygons alone need: two crates, and blocks of up to four colours, which only polygons make.
-UNUSED = ("painting::", "polygons::", "blocks::palette::")
+UNUSED = ("fills::", "polygons::", "blocks::palette::")
 # No locals, `unreachable` and `end`.
 TRAP = bytes((0x00, 0x00, 0x0B))
 

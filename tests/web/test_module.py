@@ -30,7 +30,7 @@ def test_custom_sections_are_left_out_and_others_stay() -> None:
 
 def test_what_draws_polygons_traps() -> None:
     names = names_of(
-        b"canvas::ids", b"painting::strip", b"polygons::sum", b"blocks::palette::set", b"blocks::place::way"
+        b"canvas::ids", b"fills::strip", b"polygons::sum", b"blocks::palette::set", b"blocks::place::way"
     )
     module = HEADER + TYPES + code_of(LONG, LONG, SHORT, LONG, SHORT) + names
     assert packed(module) == HEADER + TYPES + code_of(LONG, TRAP, TRAP, TRAP, SHORT)

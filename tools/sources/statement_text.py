@@ -203,7 +203,7 @@ GROUPS = (
         "row from the top. A pixel is the "
         "resolved colour, or the depth of the pixel's sample 0.",
         "the order of a depth's two bytes is that of Netpbm's pgm(5); that sample 0 is shown is this project's rule.",
-        ("crates/model/src/output.rt", "crates/model/specs/Scene.antt", "crates/model/specs/Picture.antt"),
+        ("crates/draw_list/src/output.rt", "crates/draw_list/specs/Scene.antt", "crates/draw_list/specs/Picture.antt"),
     ),
     Group(
         "The picture's file",
@@ -228,10 +228,10 @@ GROUPS = (
         "their triangles in draw order, each with its draw's state.",
         "Vulkan 1.3 for the order of a strip's indices; quads are this project's own.",
         (
-            "crates/model/src/draw.rt",
+            "crates/draw_list/src/draw.rt",
             "crates/grid/specs/Quad.antt",
-            "crates/model/specs/Primitives.antt",
-            "crates/model/specs/Listing.antt",
+            "crates/draw_list/specs/Primitives.antt",
+            "crates/draw_list/specs/Listing.antt",
         ),
     ),
     Group(
@@ -248,9 +248,9 @@ GROUPS = (
         "error of the first that fails.",
         "this project's format, in words in `docs/draw-list.md`.",
         (
-            "crates/model/src/fault.rt",
-            "crates/model/specs/Fault.antt#outside",
-            "crates/model/specs/Fault.antt#fault_in_draw",
+            "crates/draw_list/src/fault.rt",
+            "crates/draw_list/specs/Fault.antt#outside",
+            "crates/draw_list/specs/Fault.antt#fault_in_draw",
             "crates/checks/specs/FirstFault.antt",
             "crates/list_json/specs/Checks.antt",
         ),

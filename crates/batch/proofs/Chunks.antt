@@ -4,8 +4,8 @@ use Rattle.std.specs.List.{All}
 use Rattle.std.specs.Simd.{first_chunks}
 use Rattle.std.proofs.lemmas.List.{drop-drop, drop_more}
 use Rattle.std.proofs.lemmas.List.Elements.{All-nil, All-cons, All-get_or}
-use Rattle.model.specs.Primitives.{triangles_of, count_of_triangles, quad_triangles}
-use Rattle.model.proofs.Triangulated.{quad_triangle_at, strip_triangle_at}
+use Rattle.draw_list.specs.Primitives.{triangles_of, count_of_triangles, quad_triangles}
+use Rattle.draw_list.proofs.Triangulated.{quad_triangle_at, strip_triangle_at}
 use Rattle.batch.specs.declared.vertex.BatchVertex.{BatchVertex}
 use Rattle.batch.specs.Listed.{quads_of, primitives_listed}
 use Rattle.batch.specs.Places.{places_of}

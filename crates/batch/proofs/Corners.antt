@@ -2,9 +2,9 @@
 use Rattle.std.proofs.Common.{◌≡◌, refl, Bool, ℕ, zero, suc, ℤ, pos, Option, List, [], ◌∷◌, map, take}
 use Rattle.std.specs.Prelude.{slice_index, slice_index_or}
 use Rattle.shade.specs.declared.placed.Placed.{Placed}
-use Rattle.model.specs.declared.draw.Vertex.{Vertex}
-use Rattle.model.specs.Primitives.{vertex_position}
-use Rattle.model.specs.Listing.{placed, triangle_of}
+use Rattle.draw_list.specs.declared.draw.Vertex.{Vertex}
+use Rattle.draw_list.specs.Primitives.{vertex_position}
+use Rattle.draw_list.specs.Listing.{placed, triangle_of}
 use Rattle.batch.specs.declared.draw.BatchDraw.{BatchDraw}
 use Rattle.batch.specs.declared.vertex.BatchVertex.{BatchVertex}
 use Rattle.batch.specs.Listed.{vertex_listed, state_listed, draw_listed}

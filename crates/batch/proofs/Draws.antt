@@ -6,10 +6,10 @@ use Rattle.lanes.specs.declared.block_samples.BlockSamples.{BlockSamples}
 use Rattle.batch.specs.declared.fault.BatchFault.{BatchFault}
 use Rattle.batch.specs.declared.fault.DrawFault.{DrawFault}
 use Rattle.checks.specs.Checking.{Checks, reported_as, Pass, FirstIs}
-use Rattle.model.specs.Primitives.{triangles_of}
-use Rattle.model.specs.Listing.{placed, placed_all}
+use Rattle.draw_list.specs.Primitives.{triangles_of}
+use Rattle.draw_list.specs.Listing.{placed, placed_all}
 use Rattle.checks.proofs.Checking.{pass_both, pass_each, passes_as, passed_as, fails_as, fails_before, fails_later as later_fails}
-use Rattle.model.proofs.Triangulated.{length-triangles_of}
+use Rattle.draw_list.proofs.Triangulated.{length-triangles_of}
 use Rattle.batch.specs.declared.draw.BatchDraw.{BatchDraw}
 use Rattle.batch.specs.declared.vertex.BatchVertex.{BatchVertex}
 use Rattle.batch.specs.Listed.{draw_listed, draws_of, primitives_listed}

@@ -4,7 +4,7 @@ use Rattle.std.proofs.Common.{Result, Ok, Err, inl, inr, ap, subst, ℕ, ℤ, ze
 use Rattle.std.specs.List.{All}
 use Rattle.std.proofs.lemmas.List.Elements.{All-nil, All-cons, All-head, All-tail}
 use Rattle.checks.specs.Checking.{Checks, Pass, FirstIs, IsJudged, followed_by}
-use Rattle.model.specs.Primitives.{PrimitiveListing, triangle_list, triangle_strip, quad_list}
+use Rattle.draw_list.specs.Primitives.{PrimitiveListing, triangle_list, triangle_strip, quad_list}
 use Rattle.checks.proofs.Checking.{Allocates, allocates_both, pass_both, pass_each, fails_later}
 use Rattle.batch.specs.declared.fault.DrawFault.{DrawFault}
 use Rattle.batch.specs.declared.vertex.BatchVertex.{BatchVertex}

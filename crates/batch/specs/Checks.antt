@@ -1,6 +1,6 @@
 -- The checks of a batch, in their order. Only vertices which an index names are looked at.
 use Rattle.std.specs.Prelude.{◌≡◌, ℕ, ℤ, ◌+◌, ◌%◌, ◌<◌, ◌≤◌, Option, List, [], ◌∷◌, length, map, take, drop}
-use Rattle.model.specs.Primitives.{PrimitiveListing, triangle_list, triangle_strip, quad_list, count_of_triangles, IsConvexOver}
+use Rattle.draw_list.specs.Primitives.{PrimitiveListing, triangle_list, triangle_strip, quad_list, count_of_triangles, IsConvexOver}
 use Rattle.checks.specs.Checking.{Checks, done, check, followed_by, reported_as}
 use Rattle.batch.specs.declared.draw.BatchDraw.{BatchDraw}
 use Rattle.batch.specs.declared.vertex.BatchVertex.{BatchVertex}

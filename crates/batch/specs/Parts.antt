@@ -3,9 +3,9 @@ use Rattle.std.specs.Prelude.{ℕ, List, map, slice_index}
 use Rattle.shade.specs.declared.placed.Placed.{Placed}
 use Rattle.shade.specs.declared.state.State.{State}
 use Rattle.canvas.specs.declared.window.Origin.{Origin}
-use Rattle.model.specs.Primitives.{triangles_of}
-use Rattle.model.specs.declared.draw.Vertex.{Vertex}
-use Rattle.model.specs.Listing.{triangle_of}
+use Rattle.draw_list.specs.Primitives.{triangles_of}
+use Rattle.draw_list.specs.declared.draw.Vertex.{Vertex}
+use Rattle.draw_list.specs.Listing.{triangle_of}
 use Rattle.batch.specs.Listed.{primitives_listed}
 use Rattle.batch.specs.declared.vertex.BatchVertex.{BatchVertex}
 use Rattle.batch.specs.Seen.{vertex_at, vertex_seen}

@@ -3,8 +3,8 @@ use Rattle.std.specs.Prelude.{ℕ, Bool, ℤ, pos, ◌<◌, Option, List, length
 use Rattle.std.specs.List.{All, flat_map}
 use Rattle.grid.specs.Position.{IsInGuardBand}
 use Rattle.shade.specs.declared.placed.Placed.{Placed}
-use Rattle.model.specs.declared.draw.Vertex.{Vertex}
-use Rattle.model.specs.Listing.{placed_all}
+use Rattle.draw_list.specs.declared.draw.Vertex.{Vertex}
+use Rattle.draw_list.specs.Listing.{placed_all}
 use Rattle.batch.specs.declared.draw.BatchDraw.{BatchDraw}
 use Rattle.batch.specs.declared.vertex.BatchVertex.{BatchVertex}
 use Rattle.batch.specs.Listed.{vertex_listed, draws_listed, draws_of}

@@ -1,7 +1,7 @@
 //! The checks of a batch, before anything is drawn.
 ghost use Rattle.std.specs.Prelude.{◌≡◌, ◌<◌, ◌≤◌, ◌/◌, [], length, slice_index_or, ⊤};
 ghost use Rattle.checks.specs.Checking.{IsJudged};
-ghost use Rattle.model.specs.Primitives.{quad_list};
+ghost use Rattle.draw_list.specs.Primitives.{quad_list};
 ghost use Rattle.batch.specs.Listed.{quads_of};
 ghost use Rattle.batch.specs.OwnIndices.{indices_given};
 ghost use Rattle.batch.specs.Checks.{index_checks, position_checks, quad_checks, element_checks, primitives_checks, draw_checks, draws_checks};

@@ -1,6 +1,6 @@
 //! A batch, drawn.
 ghost use Rattle.std.specs.Prelude.{◌≡◌, ◌≤◌, ℕ, Option, List, [], ◌∷◌, length, map, OnOk, OnErr, ⊤};
-ghost use Rattle.model.specs.Listing.{placed_all};
+ghost use Rattle.draw_list.specs.Listing.{placed_all};
 ghost use Rattle.batch.specs.declared.vertex.BatchVertex.{BatchVertex};
 ghost use Rattle.batch.specs.Listed.{state_listed, draw_listed, whole_draw, draws_of};
 ghost use Rattle.batch.specs.OwnIndices.{indices_given, count_of_indices};

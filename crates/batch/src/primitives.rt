@@ -1,6 +1,6 @@
 //! Primitives by the indices of their vertices.
 ghost use Rattle.std.specs.Prelude.{◌≡◌, ◌<◌, ◌≤◌, ℕ, ℤ, List, [], length, slice_index_or};
-ghost use Rattle.model.specs.Primitives.{triangles_of, count_of_triangles};
+ghost use Rattle.draw_list.specs.Primitives.{triangles_of, count_of_triangles};
 ghost use Rattle.batch.specs.declared.vertex.BatchVertex.{BatchVertex};
 ghost use Rattle.batch.specs.Listed.{corners_of, primitives_listed};
 ghost use Rattle.batch.specs.Seen.{NameSeenVertices};
@@ -10,7 +10,7 @@ ghost use Rattle.batch.specs.Checks.{triangles_listed};
 
 use crate::draw::BatchDraw;
 use crate::indices::{BatchIndices, Indices};
-use model::{quads_count, strip_count};
+use draw_list::{quads_count, strip_count};
 
 /// How many indices each of the primitives of this topology takes.
 pub(crate) fn corners(topology: u8) -> usize

@@ -1,9 +1,9 @@
 //! Vertices as they are seen, by their indices.
 ghost use Rattle.std.specs.Prelude.{◌≡◌, ◌↔◌, ℕ, ℤ, pos, ◌<◌, ◌-ℤ◌, ◌*ℤ◌, length, map, IsSome, IfSome, IsTrue, slice_index};
 ghost use Rattle.grid.specs.Position.{IsInBand};
-ghost use Rattle.model.specs.Listing.{triangle_of};
-ghost use Rattle.model.specs.Primitives.{vertex_position, IsConvexOver};
-ghost use Rattle.model.specs.declared.draw.Vertex.{Vertex as VertexOf};
+ghost use Rattle.draw_list.specs.Listing.{triangle_of};
+ghost use Rattle.draw_list.specs.Primitives.{vertex_position, IsConvexOver};
+ghost use Rattle.draw_list.specs.declared.draw.Vertex.{Vertex as VertexOf};
 ghost use Rattle.batch.specs.Listed.{vertex_listed};
 ghost use Rattle.batch.specs.Seen.{vertex_at, vertex_seen, CanBeSeen, AreSeen, NameSeenVertices};
 ghost use Rattle.batch.specs.Checks.{IsQuadSeen};
@@ -11,8 +11,8 @@ ghost use Rattle.batch.specs.Checks.{IsQuadSeen};
 use crate::vertex::BatchVertex;
 use crate::vertices::Vertices;
 use canvas::{Origin, seen_point};
+use draw_list::Vertex;
 use grid::{Point, Quad, Tri};
-use model::Vertex;
 use shade::{Placed, State};
 
 /// The vertex of this index; past the end one of zeros.

@@ -3,8 +3,8 @@ ghost use Rattle.batch.specs.Listed.{vertex_listed};
 ghost use Rattle.batch.specs.Ranges.{IsVertexInRange};
 ghost use Rattle.batch.specs.Strides.{vertex_of_bytes};
 
+use draw_list::Vertex;
 use grid::Point;
-use model::Vertex;
 
 /// A vertex of a draw, laid out as in C.
 #[repr(C)]

@@ -11,8 +11,8 @@ use Rattle.shade.specs.declared.sample.Sample.{Sample}
 use Rattle.shade.specs.declared.placed.Placed.{Placed}
 use Rattle.shade.specs.Placed.{Meets, Draws}
 use Rattle.shade.specs.Ending.{Ends}
-use Rattle.model.specs.Scene.{Scene}
-use Rattle.model.specs.Picture.{IsEnd}
+use Rattle.draw_list.specs.Scene.{Scene}
+use Rattle.draw_list.specs.Picture.{IsEnd}
 use Rattle.shade.proofs.Endings.{of_list, ends_more, ends_past}
 use Rattle.bins.specs.Bin.{IsBin, MeetsRect}
 

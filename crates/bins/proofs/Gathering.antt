@@ -12,12 +12,12 @@ use Rattle.grid.specs.declared.pixels.PixelBox.{PixelBox}
 use Rattle.grid.specs.declared.sample_count.SampleCount.{SampleCount}
 use Rattle.cover.specs.Bounds.{first_pixel, end_pixel}
 use Rattle.cover.proofs.Box.{box_holds}
-use Rattle.model.specs.Rows.{IsRowSpan}
-use Rattle.model.specs.declared.rows.RowSpan.{RowSpan}
+use Rattle.draw_list.specs.Rows.{IsRowSpan}
+use Rattle.draw_list.specs.declared.rows.RowSpan.{RowSpan}
 use Rattle.std.proofs.lemmas.Int.{ints, clamps}
 use Rattle.cover.specs.Rasterized.{IsRasterized}
 use Rattle.shade.specs.declared.placed.Placed.{Placed}
-use Rattle.model.specs.Scene.{Scene}
+use Rattle.draw_list.specs.Scene.{Scene}
 use Rattle.reach.specs.declared.span.Span.{Span}
 use Rattle.reach.specs.Reach.{IsInSpan, HaveMet, HaveReached}
 use Rattle.bins.specs.declared.tile_run.TileRun.{TileRun}

@@ -8,7 +8,7 @@ use Rattle.grid.specs.declared.pixels.PixelBox.{PixelBox}
 use Rattle.grid.specs.declared.sample_count.SampleCount.{SampleCount}
 use Rattle.shade.specs.declared.placed.Placed.{Placed}
 use Rattle.shade.specs.Placed.{Meets}
-use Rattle.model.specs.Scene.{Scene}
+use Rattle.draw_list.specs.Scene.{Scene}
 use Rattle.tiling.specs.Grid.{TileGrid, columns_of, rect_of}
 
 -- The triangle meets a sample of a pixel of the rectangle, whatever depth is stored there.

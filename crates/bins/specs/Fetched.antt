@@ -1,7 +1,7 @@
 -- Triangles that are fetched together.
 use Rattle.std.specs.Prelude.{◌≡◌, ℕ, ◌+◌, ◌-◌, ◌<◌, ◌≤◌, List, length, slice_get, slice_index}
 use Rattle.shade.specs.declared.placed.Placed.{Placed}
-use Rattle.model.specs.Scene.{Scene}
+use Rattle.draw_list.specs.Scene.{Scene}
 use Rattle.bins.specs.declared.fetched.Fetched.{Fetched}
 
 -- Element k of the triangles is the one whose number stands at index first + k, while there are numbers.

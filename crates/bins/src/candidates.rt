@@ -3,7 +3,7 @@ ghost use Rattle.std.specs.Prelude.{◌≡◌, ℕ, ◌+◌, ◌<◌, ◌≤◌,
 ghost use Rattle.tiling.specs.Grid.{rows_of, IsWithinLimits};
 ghost use Rattle.bins.specs.TileRuns.{AreCandidates};
 
-use model::{DrawList, RowSpan};
+use draw_list::{DrawList, RowSpan};
 use std::alloc::{AllocError, Global};
 use tiling::Tiling;
 

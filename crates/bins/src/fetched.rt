@@ -3,7 +3,7 @@ ghost use Rattle.std.specs.Prelude.{◌≡◌, ◌+◌, ◌-◌, ◌≤◌, ◌<
 ghost use Rattle.std.specs.List.{All};
 ghost use Rattle.bins.specs.Fetched.{AreFetched, IsBefore, Has};
 
-use model::{DrawList, Placed};
+use draw_list::{DrawList, Placed};
 
 /// The number of triangles that are fetched together.
 const TOGETHER: usize = 16;

@@ -4,7 +4,7 @@ ghost use Rattle.tiling.specs.Grid.{rows_of, IsWithinLimits};
 
 use crate::fetched::Fetched;
 use cover::Setup;
-use model::{DrawList, Placed};
+use draw_list::{DrawList, Placed};
 use reach::{columns_met, tiles_met};
 use std::alloc::{AllocError, Global};
 use tiling::Tiling;

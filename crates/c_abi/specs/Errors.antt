@@ -1,8 +1,8 @@
 -- Why a call failed.
 use Rattle.std.specs.Prelude.{◌≡◌, ◌≢◌, ◌⊎◌, ℕ, Option, Some, None}
-use Rattle.model.specs.Fault.{kind_number as list_number_of}
-use Rattle.model.specs.declared.fault.ReadFault.{ReadFault}
-use Rattle.model.specs.declared.fault.ReadKind.TheVariants.{OutOfMemory as NoMemory}
+use Rattle.draw_list.specs.Fault.{kind_number as list_number_of}
+use Rattle.draw_list.specs.declared.fault.ReadFault.{ReadFault}
+use Rattle.draw_list.specs.declared.fault.ReadKind.TheVariants.{OutOfMemory as NoMemory}
 use Rattle.c_abi.specs.declared.call_error.CallError.{CallError}
 use Rattle.c_abi.specs.declared.error.Error.{Error}
 use Rattle.c_abi.specs.declared.fault.Fault.{Fault}

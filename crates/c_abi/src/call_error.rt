@@ -1,7 +1,7 @@
 use crate::fault::Fault;
 use crate::status::Status;
+use draw_list::{ReadFault, ReadKind};
 use grid::OutOfMemory;
-use model::{ReadFault, ReadKind};
 
 /// Why a call failed: its status, and of what is no draw list or no batch the first error in it.
 #[derive(Clone, Copy, Debug, PartialEq, Eq)]

@@ -1,4 +1,4 @@
-use model::ReadFault;
+use draw_list::ReadFault;
 
 /// What is wrong with a list or a batch, and where, by numbers.
 #[derive(Clone, Copy, Debug, PartialEq, Eq)]

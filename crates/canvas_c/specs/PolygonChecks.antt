@@ -13,8 +13,8 @@ use Rattle.polygons.specs.declared.arrays.ArraysError.TheVariants.{TooManyCorner
 use Rattle.polygons.specs.declared.rule.Rule.{Rule}
 use Rattle.polygons.specs.declared.rule.Rule.TheVariants.{EvenOdd, NonZero}
 use Rattle.canvas.specs.declared.window.Origin.{Origin}
-use Rattle.painting.specs.Batches.{shape_by, HasColours}
-use Rattle.painting.specs.Painting.{Shape, IsOriginInBand}
+use Rattle.fills.specs.Batches.{shape_by, HasColours}
+use Rattle.fills.specs.Painting.{Shape, IsOriginInBand}
 use Rattle.c_abi.specs.Sizes.{IsOwnSize}
 use Rattle.c_abi.specs.declared.fault.Fault.{Fault}
 use Rattle.c_abi.specs.declared.status.Status.{Status}

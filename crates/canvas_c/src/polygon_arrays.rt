@@ -1,8 +1,8 @@
 //! Polygons in the caller's memory.
 ghost use Rattle.std.specs.Prelude.{◌≡◌, ◌↔◌, ◌⊎◌, ◌≤◌, length, IfOk, IfErr, IsTrue, pos, negsuc, ◌≤ℤ◌, None as Nothing, Some as Just, ⊤};
 ghost use Rattle.checks.specs.Checking.{IsJudged};
-ghost use Rattle.painting.specs.Batches.{HasColours};
-ghost use Rattle.painting.specs.Painting.{IsOriginInBand};
+ghost use Rattle.fills.specs.Batches.{HasColours};
+ghost use Rattle.fills.specs.Painting.{IsOriginInBand};
 ghost use Rattle.c_abi.specs.Sizes.{IsOwnSize};
 ghost use Rattle.canvas_c.specs.PolygonChecks as said;
 

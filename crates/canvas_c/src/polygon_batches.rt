@@ -1,6 +1,6 @@
 //! Polygons, drawn at the samples of tile rows.
 ghost use Rattle.std.specs.Prelude.{◌≡◌, ◌≢◌, length, take, OnOk, OnErr, None as Nothing, Some as Just, ⊤};
-ghost use Rattle.painting.specs.Painting.{ArePainted};
+ghost use Rattle.fills.specs.Painting.{ArePainted};
 ghost use Rattle.polygons.specs.Cells.{AreZeros};
 ghost use Rattle.c_abi.specs.Calls.{IsCall, IsReport};
 ghost use Rattle.canvas_c.specs.Pieces.{has_alpha, OnRows};
@@ -10,8 +10,8 @@ use crate::piece::{CanvasHead, CanvasPiece, rows_of};
 use crate::polygon_arrays::{PolygonArrays, is_in_band, rule_of};
 use c_abi::{CallError, Error, Status, report};
 use canvas::Origin;
+use fills::{Style, clear, counter_columns, draw_polygons, flag_columns};
 use lanes::BlockSamples;
-use painting::{Style, clear, counter_columns, draw_polygons, flag_columns};
 use polygons::{Counters, Flags};
 
 /// Draws polygons, in their colours or by ids.

@@ -8,8 +8,8 @@ use Rattle.shade.specs.Ending.{Ends}
 use Rattle.shade.specs.Canvas.{with_alpha, colour_and_depth, CanvasEnds}
 use Rattle.shade.proofs.CanvasDrawn.{keeping_ends}
 use Rattle.shade.proofs.Endings.{of_canvas, ends-append}
-use Rattle.model.specs.Scene.{Scene}
-use Rattle.model.specs.Picture.{IsEnd, IsPixel}
+use Rattle.draw_list.specs.Scene.{Scene}
+use Rattle.draw_list.specs.Picture.{IsEnd, IsPixel}
 use Rattle.canvas.specs.declared.canvas.Canvas.{Canvas}
 use Rattle.canvas.specs.Layout.{IsStoredIn, HasPixel, rows_of, stored}
 use Rattle.canvas_picture.specs.Batches.{IsCanvasOf, all_of, AreListed, AreDrawnInTurn, AreMade}

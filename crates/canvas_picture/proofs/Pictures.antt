@@ -4,9 +4,9 @@ use Rattle.std.proofs.lemmas.List.{get_or-drop}
 use Rattle.lanes.specs.declared.block_samples.BlockSamples.{BlockSamples}
 use Rattle.shade.specs.declared.placed.Placed.{Placed}
 use Rattle.shade.specs.Resolve.{IsResolved}
-use Rattle.model.specs.declared.output.Output.TheVariants.{Color}
-use Rattle.model.specs.Scene.{Scene}
-use Rattle.model.specs.Picture.{IsColour, IsColourPixel, PixelOf, IsPixel, IsPicture, pixel_at, output_pixel_bytes}
+use Rattle.draw_list.specs.declared.output.Output.TheVariants.{Color}
+use Rattle.draw_list.specs.Scene.{Scene}
+use Rattle.draw_list.specs.Picture.{IsColour, IsColourPixel, PixelOf, IsPixel, IsPicture, pixel_at, output_pixel_bytes}
 use Rattle.shade.specs.Canvas.{colour_and_depth}
 use Rattle.canvas.specs.declared.canvas.Canvas.{Canvas}
 use Rattle.readout.specs.declared.format.Format.TheVariants.{Rgb8}

@@ -3,7 +3,7 @@ use Rattle.std.specs.Prelude.{map, ◌≡◌, ℕ, ◌+◌, ◌*◌, ◌/◌, �
 use Rattle.lanes.specs.declared.block_samples.BlockSamples.{BlockSamples}
 use Rattle.shade.specs.declared.placed.Placed.{Placed}
 use Rattle.shade.specs.Canvas.{with_alpha, keeping_alpha}
-use Rattle.model.specs.Scene.{Scene}
+use Rattle.draw_list.specs.Scene.{Scene}
 use Rattle.canvas.specs.declared.canvas.Canvas.{Canvas}
 use Rattle.canvas.specs.Layout.{rows_of}
 use Rattle.canvas.specs.Drawing.{AreCleared, HaveEnds}

@@ -7,7 +7,7 @@ use Rattle.serde_json.specs.Events.{items_len}
 use Rattle.serde_json.specs.View.{view, items_view}
 use Rattle.serde_json.specs.declared.value.Value.{Value}
 use Rattle.serde_json.proofs.Views.{items_len-items_view}
-use Rattle.model.specs.declared.fault.ReadKind.{ReadKind}
+use Rattle.draw_list.specs.declared.fault.ReadKind.{ReadKind}
 use Rattle.checks.specs.FirstFault.{first_fault}
 use Rattle.list_json.specs.Checks.{KindChecks, each}
 use Rattle.list_json.specs.Denotes.{Each}

@@ -3,10 +3,10 @@ use Rattle.std.proofs.Common.{◌≡◌, ℕ, ◌+◌, ◌<◌, List, length, dr
 use Rattle.std.specs.Option.{option_or, option_map}
 use Rattle.serde_json.specs.View.{view, items_view}
 use Rattle.serde_json.specs.declared.value.Value.{Value}
-use Rattle.model.specs.declared.fault.ReadKind.{ReadKind}
+use Rattle.draw_list.specs.declared.fault.ReadKind.{ReadKind}
 use Rattle.checks.specs.FirstFault.{first_fault, reported_as}
 use Rattle.list_json.specs.Checks.{draw_value_checks, numbered_draw_checks, triangles_counted}
-use Rattle.model.specs.Fault.{fault_in_draw}
+use Rattle.draw_list.specs.Fault.{fault_in_draw}
 use Rattle.checking_reader.proofs.ArrayElements.{from_here}
 use Rattle.checks.proofs.Faults.{first_fault_of_both, first_fault_reported_as}
 

@@ -1,17 +1,17 @@
 -- From the first fault of a value to the clauses of the reader.
 use Rattle.std.proofs.Common.{◌≡◌, ◌≢◌, ◌≤◌, ℕ, List, [], ◌∷◌, length, Bool, true, false, cond, Option, Some, None, Result, Ok, Err, IfOk, IfErr, MatchResult, refl, ap, ◌∙◌}
 use Rattle.serde_json.specs.Data.{Data}
-use Rattle.model.specs.declared.fault.ReadKind.TheVariants.{OutOfMemory}
-use Rattle.model.specs.declared.fault.ReadFault.{ReadFault}
+use Rattle.draw_list.specs.declared.fault.ReadKind.TheVariants.{OutOfMemory}
+use Rattle.draw_list.specs.declared.fault.ReadFault.{ReadFault}
 use Rattle.list_json.specs.Json.{json_of}
-use Rattle.model.specs.Scene.{Scene}
+use Rattle.draw_list.specs.Scene.{Scene}
 use Rattle.checks.specs.FirstFault.{Check, first_fault, IsFirstFault}
 use Rattle.checking_reader.specs.Answer.{ReadsAll}
 use Rattle.list_json.specs.Checks.{all_checks, value_checks}
 use Rattle.list_json.specs.Denotes.{IsDrawList, Denotes}
 use Rattle.list_json.proofs.Passes.{listing_passes}
 use Rattle.list_json.proofs.OneValue.{same_some}
-use Rattle.model.proofs.FaultKinds.{no_other}
+use Rattle.draw_list.proofs.FaultKinds.{no_other}
 use Rattle.list_json.proofs.OneList.{denotes-unique}
 
 is_first-cons : {T : Type 0} (p : Check T) (ps : List (Check T)) (fault : T) (b : Bool) → p.fails ≡ b → (first_fault ps ≡ Some fault → IsFirstFault ps fault)

@@ -2,10 +2,10 @@
 use Rattle.std.proofs.Common.{◌≤◌, List, sum_by, arith}
 use Rattle.serde_json.specs.Data.{Data}
 use Rattle.serde_json.specs.View.{items_view}
-use Rattle.model.specs.Primitives.{count_of_triangles}
-use Rattle.model.specs.Listing.{DrawListing}
+use Rattle.draw_list.specs.Primitives.{count_of_triangles}
+use Rattle.draw_list.specs.Listing.{DrawListing}
 use Rattle.list_json.specs.Denotes.{Each, IsDraw, IsListing}
-use Rattle.model.specs.Picture.{picture_box}
+use Rattle.draw_list.specs.Picture.{picture_box}
 use Rattle.list_json.proofs.Counts.{items_len_each}
 use Rattle.checking_reader.specs.declared.header.Header.{Header}
 use Rattle.checking_reader.specs.Header.{IsHeader}

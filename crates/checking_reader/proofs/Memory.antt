@@ -4,8 +4,8 @@ use Rattle.std.proofs.Common.{◌≡◌, ◌≢◌, ℕ, [], ◌∷◌, ◌++◌
 use Rattle.std.specs.List.{AllByRecursion}
 use Rattle.serde_json.specs.Data.{Data}
 use Rattle.serde_json.specs.Find.{get}
-use Rattle.model.specs.declared.fault.ReadKind.{ReadKind}
-use Rattle.model.specs.declared.fault.ReadKind.TheVariants.{WrongKind, OutOfRange, OutOfMemory}
+use Rattle.draw_list.specs.declared.fault.ReadKind.{ReadKind}
+use Rattle.draw_list.specs.declared.fault.ReadKind.TheVariants.{WrongKind, OutOfRange, OutOfMemory}
 use Rattle.list_json.specs.Json.{elements, count}
 use Rattle.list_json.specs.Keys.{output_words, cull_words, depth_test_words, blend_words}
 use Rattle.checks.specs.FirstFault.{first_fault}

@@ -2,8 +2,8 @@
 use Rattle.std.proofs.Common.{◌≡◌, ap, ◌∙◌, ℕ, List, length, map, Option, None}
 use Rattle.std.specs.Option.{option_or}
 use Rattle.serde_json.specs.Data.{Data}
-use Rattle.model.specs.declared.draw.Vertex.{Vertex}
-use Rattle.model.specs.declared.fault.ReadKind.{ReadKind}
+use Rattle.draw_list.specs.declared.draw.Vertex.{Vertex}
+use Rattle.draw_list.specs.declared.fault.ReadKind.{ReadKind}
 use Rattle.list_json.specs.Json.{elements, count}
 use Rattle.checks.specs.FirstFault.{first_fault}
 use Rattle.list_json.specs.Checks.{KindChecks, where_there, vertices_checks, primitive_checks, part_checks, positions_written}

@@ -6,14 +6,14 @@ use Rattle.serde_json.specs.Find.{get}
 use Rattle.serde_json.specs.View.{view, items_view}
 use Rattle.serde_json.specs.declared.value.Value.{Value}
 use Rattle.serde_json.proofs.Views.{get_item_within}
-use Rattle.model.specs.declared.fault.ReadKind.{ReadKind}
-use Rattle.model.specs.declared.fault.ReadKind.TheVariants.{OutOfMemory}
-use Rattle.model.specs.declared.fault.ReadFault.{ReadFault}
+use Rattle.draw_list.specs.declared.fault.ReadKind.{ReadKind}
+use Rattle.draw_list.specs.declared.fault.ReadKind.TheVariants.{OutOfMemory}
+use Rattle.draw_list.specs.declared.fault.ReadFault.{ReadFault}
 use Rattle.list_json.specs.Json.{elements}
 use Rattle.checks.specs.FirstFault.{Check, first_fault, reported_as}
 use Rattle.list_json.specs.Checks.{PassesBefore}
 use Rattle.list_json.specs.Checks.{draw_value_checks, checks_before_vertices, numbered_draw_checks, triangles_counted, top_checks, IsDrawReached, Reaches}
-use Rattle.model.specs.Fault.{fault_in_draw}
+use Rattle.draw_list.specs.Fault.{fault_in_draw}
 use Rattle.checking_reader.proofs.ArrayElements.{from_here}
 use Rattle.checks.proofs.Faults.{passed_here, all_pass}
 

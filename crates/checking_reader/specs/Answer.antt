@@ -1,8 +1,8 @@
 -- Whether a result of the reader is right.
 use Rattle.std.specs.Prelude.{◌≡◌, ◌≢◌, List, Some, None, Result, MatchResult}
-use Rattle.model.specs.declared.fault.ReadKind.{ReadKind}
-use Rattle.model.specs.declared.fault.ReadFault.{ReadFault}
-use Rattle.model.specs.declared.fault.ReadKind.TheVariants.{OutOfMemory}
+use Rattle.draw_list.specs.declared.fault.ReadKind.{ReadKind}
+use Rattle.draw_list.specs.declared.fault.ReadFault.{ReadFault}
+use Rattle.draw_list.specs.declared.fault.ReadKind.TheVariants.{OutOfMemory}
 use Rattle.checks.specs.FirstFault.{Check, first_fault}
 
 -- The result is right: no check fails, or the first that fails has this kind.

@@ -1,11 +1,11 @@
 ghost use Rattle.std.specs.Prelude.{◌≡◌, ◌≤◌, true, false, length, Some, IfOk, MatchResult};
-ghost use Rattle.model.specs.declared.fault.ReadKind.TheVariants.{WrongKind};
+ghost use Rattle.draw_list.specs.declared.fault.ReadKind.TheVariants.{WrongKind};
 ghost use Rattle.serde_json.specs.View.{view, items_view};
 ghost use Rattle.list_json.specs.Json.{elements, count};
 ghost use Rattle.checking_reader.specs.Answer.{Answers};
 ghost use Rattle.list_json.specs.Checks.{array_checks, has_length};
 
-use model::ReadKind;
+use draw_list::ReadKind;
 use serde_json::Value;
 
 /// An error unless the value is an array of exactly `count` elements.

@@ -1,10 +1,10 @@
 ghost use Rattle.std.specs.Prelude.{◌≡◌, ◌≤◌, ◌+◌, Some, None, IfOk, IfErr};
 ghost use Rattle.serde_json.specs.View.{view};
-ghost use Rattle.model.specs.declared.fault.ReadKind.TheVariants.{OutOfMemory};
+ghost use Rattle.draw_list.specs.declared.fault.ReadKind.TheVariants.{OutOfMemory};
 ghost use Rattle.checking_reader.specs.Answer.{Reads};
 ghost use Rattle.checks.specs.FirstFault.{first_fault};
-ghost use Rattle.model.specs.Primitives.{primitive_listing, count_of_triangles};
-ghost use Rattle.model.specs.Listing.{draw_listing};
+ghost use Rattle.draw_list.specs.Primitives.{primitive_listing, count_of_triangles};
+ghost use Rattle.draw_list.specs.Listing.{draw_listing};
 ghost use Rattle.checking_reader.specs.Given.{given_triangles, given_strip, given_quads};
 ghost use Rattle.list_json.specs.Checks.{array_checks, part_checks, draw_value_checks, checks_before_vertices};
 ghost use Rattle.list_json.specs.Denotes.{IsVertex, IsPrimitives, IsArrayOf, IsDraw};
@@ -13,8 +13,8 @@ use crate::keys::check_keys;
 use crate::primitives::{PrimitiveArray, primitive_array, read_primitives};
 use crate::state::read_state;
 use crate::vertices::read_vertices;
+use draw_list::{Draw, MOST_TRIANGLES, MOST_VERTICES, Primitives, ReadKind, Vertex};
 use grid::PixelBox;
-use model::{Draw, MOST_TRIANGLES, MOST_VERTICES, Primitives, ReadKind, Vertex};
 use serde_json::Value;
 use std::alloc::Global;
 

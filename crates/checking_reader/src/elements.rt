@@ -5,7 +5,7 @@ ghost use Rattle.checking_reader.specs.Answer.{Reads};
 ghost use Rattle.list_json.specs.Checks.{each};
 ghost use Rattle.list_json.specs.Denotes.{Each};
 
-use model::ReadKind;
+use draw_list::ReadKind;
 use serde_json::Value;
 use std::alloc::Global;
 

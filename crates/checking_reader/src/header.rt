@@ -10,10 +10,10 @@ use crate::array::{array_of, check_length};
 use crate::keys::check_keys;
 use crate::number::{channel, depth, whole_number};
 use crate::word::output;
-use grid::SampleCount;
-use model::{
+use draw_list::{
     DEFAULT_CLEAR, DEFAULT_SAMPLE_COUNT, MOST_DRAWS, MOST_PIXELS, Output, ReadKind, Target,
 };
+use grid::SampleCount;
 use serde_json::Value;
 use shade::Sample;
 

@@ -5,7 +5,7 @@ ghost use Rattle.list_json.specs.Checks.{vertex_index_checks};
 ghost use Rattle.list_json.specs.Denotes.{IsIndex};
 
 use crate::number::whole_number;
-use model::{MOST_VERTICES, ReadKind};
+use draw_list::{MOST_VERTICES, ReadKind};
 use serde_json::Value;
 
 /// The index of one of `count` vertices.

@@ -2,14 +2,14 @@
 ghost use Rattle.std.specs.Prelude.{◌≤◌, ◌+◌, Some, IfOk, length, vec_len, map};
 ghost use Rattle.serde_json.specs.View.{view};
 ghost use Rattle.checking_reader.specs.Answer.{Reads};
-ghost use Rattle.model.specs.Primitives.{strip_count as count_of_strip, quads_count as count_of_quads};
+ghost use Rattle.draw_list.specs.Primitives.{strip_count as count_of_strip, quads_count as count_of_quads};
 ghost use Rattle.list_json.specs.Checks.{triangle_checks, triangles_checks, strip_index_checks, strip_checks, quad_checks_over, quads_checks};
 ghost use Rattle.list_json.specs.Denotes.{IsTriangle, IsStripIndex, IsQuad, IsArrayOf};
 
 use crate::array::{array_of, check_length};
 use crate::elements::{ElementReader, elements_of};
 use crate::index::index;
-use model::{
+use draw_list::{
     MOST_QUADS, MOST_STRIP_INDICES, MOST_TRIANGLES, MOST_VERTICES, ReadKind, Vertex, is_convex,
     quads_count, strip_count,
 };

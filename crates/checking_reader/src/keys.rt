@@ -3,12 +3,12 @@ ghost use Rattle.std.specs.BTreeMap.{keys};
 ghost use Rattle.std.specs.List.{list_any};
 ghost use Rattle.serde_json.specs.Find.{as_object};
 ghost use Rattle.serde_json.specs.View.{view};
-ghost use Rattle.model.specs.declared.fault.ReadKind.TheVariants.{UnknownKey, WrongKind};
+ghost use Rattle.draw_list.specs.declared.fault.ReadKind.TheVariants.{UnknownKey, WrongKind};
 ghost use Rattle.checks.specs.FirstFault.{check};
 ghost use Rattle.list_json.specs.Json.{has_other_key};
 ghost use Rattle.checking_reader.specs.Answer.{Answers};
 
-use model::ReadKind;
+use draw_list::ReadKind;
 use serde_json::{Map, Value};
 
 fn is_among(names: &[&str], key: &str) -> bool

@@ -4,8 +4,8 @@ ghost use Rattle.checking_reader.specs.Answer.{Answers};
 ghost use Rattle.list_json.specs.Checks.{number_checks, coordinate_checks, depth_checks, channel_checks, is_from_to};
 ghost use Rattle.list_json.specs.Denotes.{IsIntegerWithin, IsCoordinate, IsDepthNumber, IsChannel};
 
+use draw_list::ReadKind;
 use grid::Point;
-use model::ReadKind;
 use serde_json::Value;
 
 /// An integer from `low` to `high`. Another integer is the error `outside`.

@@ -1,15 +1,15 @@
 ghost use Rattle.std.specs.Prelude.{◌≤◌, ◌+◌, [], ◌∷◌, IfOk, length, map};
 ghost use Rattle.serde_json.specs.View.{view};
-ghost use Rattle.model.specs.declared.fault.ReadKind.TheVariants.{MissingKey, TwoLists};
+ghost use Rattle.draw_list.specs.declared.fault.ReadKind.TheVariants.{MissingKey, TwoLists};
 ghost use Rattle.checking_reader.specs.Answer.{Answers, Reads};
 ghost use Rattle.checks.specs.FirstFault.{check};
-ghost use Rattle.model.specs.Primitives.{primitive_listing, count_of_triangles};
+ghost use Rattle.draw_list.specs.Primitives.{primitive_listing, count_of_triangles};
 ghost use Rattle.checking_reader.specs.Given.{given_triangles, given_strip, given_quads, IsGiven};
 ghost use Rattle.list_json.specs.Checks.{primitive_checks, has_no_list, has_two_lists};
 ghost use Rattle.list_json.specs.Denotes.{IsPrimitives};
 
 use crate::index_lists::{read_quads, read_strip, read_triangles};
-use model::{MOST_TRIANGLES, MOST_VERTICES, Primitives, ReadKind, Vertex};
+use draw_list::{MOST_TRIANGLES, MOST_VERTICES, Primitives, ReadKind, Vertex};
 use serde_json::Value;
 use std::alloc::Global;
 

@@ -1,21 +1,21 @@
 ghost use Rattle.std.specs.Prelude.{◌≡◌, ◌≢◌, ◌≤◌, ◌⊎◌, ℕ, ◌+◌, length, map, sum_by, Some, None, IfOk, IfErr, MatchResult};
 ghost use Rattle.serde_json.specs.View.{view, items_view};
-ghost use Rattle.model.specs.declared.fault.ReadKind.TheVariants.{NotJson, OutOfMemory};
+ghost use Rattle.draw_list.specs.declared.fault.ReadKind.TheVariants.{NotJson, OutOfMemory};
 ghost use Rattle.serde_json.specs.Errors.{IsMemory};
 ghost use Rattle.list_json.specs.Json.{json_of};
 ghost use Rattle.checking_reader.specs.Answer.{ReadsAll};
 ghost use Rattle.checks.specs.FirstFault.{IsFirstFault, first_fault};
-ghost use Rattle.model.specs.Primitives.{primitive_listing, count_of_triangles};
-ghost use Rattle.model.specs.Listing.{draw_listing};
-ghost use Rattle.model.specs.Scene.{Scene};
-ghost use Rattle.model.specs.Fault.{outside};
+ghost use Rattle.draw_list.specs.Primitives.{primitive_listing, count_of_triangles};
+ghost use Rattle.draw_list.specs.Listing.{draw_listing};
+ghost use Rattle.draw_list.specs.Scene.{Scene};
+ghost use Rattle.draw_list.specs.Fault.{outside};
 ghost use Rattle.list_json.specs.Checks.{draw_value_checks, checks_before_vertices, numbered_draw_checks, value_checks, all_checks, IsDrawReached, Reaches};
 ghost use Rattle.list_json.specs.Denotes.{Each, IsDraw, IsDrawList, Denotes};
 
 use crate::draw::read_draw;
 use crate::header::Header;
+use draw_list::{Draw, DrawList, MOST_BYTES, MOST_TRIANGLES, ReadFault, ReadKind, picture_box};
 use grid::PixelBox;
-use model::{Draw, DrawList, MOST_BYTES, MOST_TRIANGLES, ReadFault, ReadKind, picture_box};
 use serde_json::{Error, Value};
 use std::alloc::Global;
 

@@ -7,8 +7,8 @@ ghost use Rattle.list_json.specs.Denotes.{OrDefault, IsTruth, IsWriteMask, IsSam
 use crate::array::check_length;
 use crate::number::whole_number;
 use crate::word::{blend, cull, depth_test};
+use draw_list::{ALL_SAMPLES, DEFAULT_STATE, MOST_PIXELS, ReadKind};
 use grid::PixelBox;
-use model::{ALL_SAMPLES, DEFAULT_STATE, MOST_PIXELS, ReadKind};
 use serde_json::Value;
 use shade::{Merge, State};
 

@@ -1,7 +1,7 @@
 ghost use Rattle.std.specs.Prelude.{◌≡◌, ◌≤◌, length, slice_index, Some, None, IfErr};
 ghost use Rattle.serde_json.specs.View.{view};
 ghost use Rattle.serde_json.specs.Find.{at};
-ghost use Rattle.model.specs.declared.fault.ReadKind.TheVariants.{OutOfMemory};
+ghost use Rattle.draw_list.specs.declared.fault.ReadKind.TheVariants.{OutOfMemory};
 ghost use Rattle.checking_reader.specs.Answer.{Answers, Reads};
 ghost use Rattle.checks.specs.FirstFault.{first_fault};
 ghost use Rattle.list_json.specs.Checks.{array_checks, rgba_checks, vertex_checks, vertices_checks};
@@ -10,8 +10,8 @@ ghost use Rattle.list_json.specs.Denotes.{IsChannel, IsVertex, IsArrayOf};
 use crate::array::{array_of, check_length};
 use crate::elements::{ElementReader, elements_of};
 use crate::number::{channel, coordinate, depth};
+use draw_list::{MOST_VERTICES, ReadKind, Vertex};
 use grid::Point;
-use model::{MOST_VERTICES, ReadKind, Vertex};
 use serde_json::Value;
 use std::alloc::Global;
 

@@ -3,17 +3,17 @@ ghost use Rattle.serde_json.specs.View.{view};
 ghost use Rattle.grid.specs.declared.cull.Cull.TheVariants as cull_of;
 ghost use Rattle.shade.specs.declared.depth.DepthTest.TheVariants as test_of;
 ghost use Rattle.shade.specs.Presets.{none_blend};
-ghost use Rattle.model.specs.declared.fault.ReadKind.TheVariants.{WrongKind};
-ghost use Rattle.model.specs.declared.output.Output.TheVariants as output_of;
+ghost use Rattle.draw_list.specs.declared.fault.ReadKind.TheVariants.{WrongKind};
+ghost use Rattle.draw_list.specs.declared.output.Output.TheVariants as output_of;
 ghost use Rattle.list_json.specs.Json.{text};
 ghost use Rattle.list_json.specs.Keys.{output_words, cull_words, depth_test_words, blend_words};
 ghost use Rattle.checking_reader.specs.Answer.{Answers};
 ghost use Rattle.list_json.specs.Checks.{where_there, word_checks};
 ghost use Rattle.list_json.specs.Denotes.{OrDefault, IsOutput, IsCull, IsDepthTest, IsBlend};
 
+use draw_list::{DEFAULT_OUTPUT, DEFAULT_STATE, Output, ReadKind};
 use grid::Cull;
 use list_json::{blend_named, cull_named, depth_test_named, output_named};
-use model::{DEFAULT_OUTPUT, DEFAULT_STATE, Output, ReadKind};
 use serde_json::Value;
 use shade::{Blend, DepthTest};
 

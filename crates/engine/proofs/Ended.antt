@@ -4,7 +4,7 @@ use Rattle.std.proofs.lemmas.Option.{none-some, same_Some}
 use Rattle.std.specs.Result.{result_err}
 use Rattle.grid.specs.declared.pixels.TileSide.{TileSide}
 use Rattle.list_json.specs.Denotes.{Denotes}
-use Rattle.model.specs.Scene.{Scene}
+use Rattle.draw_list.specs.Scene.{Scene}
 use Rattle.engine.specs.Picture.{ExplainsPicture, fault_of}
 use Rattle.engine.specs.Input.{GivesAll}
 use Rattle.engine.specs.Runs.{EndsAs}

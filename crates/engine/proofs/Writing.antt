@@ -7,12 +7,12 @@ use Rattle.std.proofs.KnownBytes.{Appends-nil, Appends-trans}
 use Rattle.std.specs.Io.KnownBytes.{Appends}
 use Rattle.grid.specs.Pixels.{side_of}
 use Rattle.grid.specs.declared.pixels.TileSide.{TileSide}
-use Rattle.model.specs.declared.output.Output.{Output}
-use Rattle.model.specs.declared.output.Output.TheVariants.{Color, Depth}
-use Rattle.model.specs.Scene.{Scene}
-use Rattle.model.specs.Picture.{IsPicturePart, output_pixel_bytes}
-use Rattle.model.proofs.Parts.{part-append}
-use Rattle.model.proofs.Pixels.{bytes_of_none, bytes_up_to}
+use Rattle.draw_list.specs.declared.output.Output.{Output}
+use Rattle.draw_list.specs.declared.output.Output.TheVariants.{Color, Depth}
+use Rattle.draw_list.specs.Scene.{Scene}
+use Rattle.draw_list.specs.Picture.{IsPicturePart, output_pixel_bytes}
+use Rattle.draw_list.proofs.Parts.{part-append}
+use Rattle.draw_list.proofs.Pixels.{bytes_of_none, bytes_up_to}
 use Rattle.bins.specs.Bin.{TileBins, AreBins}
 use Rattle.tiling.specs.Grid.{TileGrid, tiles_over}
 use Rattle.tiling.specs.TileRow.{AddsTileRows, AreTileRows}

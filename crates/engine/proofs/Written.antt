@@ -7,12 +7,12 @@ use Rattle.std.proofs.KnownBytes.{Appends-trans}
 use Rattle.std.specs.Io.KnownBytes.{Appends}
 use Rattle.grid.specs.Pixels.{side_of}
 use Rattle.grid.specs.declared.pixels.TileSide.{TileSide}
-use Rattle.model.specs.declared.output.Output.{Output}
-use Rattle.model.specs.Scene.{Scene}
-use Rattle.model.specs.Picture.{IsPicturePart}
-use Rattle.model.proofs.Exists.{part-exists}
-use Rattle.model.proofs.Parts.{part-append}
-use Rattle.model.proofs.Pixels.{bytes_of_none}
+use Rattle.draw_list.specs.declared.output.Output.{Output}
+use Rattle.draw_list.specs.Scene.{Scene}
+use Rattle.draw_list.specs.Picture.{IsPicturePart}
+use Rattle.draw_list.proofs.Exists.{part-exists}
+use Rattle.draw_list.proofs.Parts.{part-append}
+use Rattle.draw_list.proofs.Pixels.{bytes_of_none}
 use Rattle.tiling.specs.Grid.{tiles_over}
 use Rattle.tiling.specs.TileRow.{AreTileRows}
 use Rattle.picture_file.specs.File.{header_of, file_of, IsPictureFile}

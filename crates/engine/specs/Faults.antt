@@ -1,7 +1,7 @@
 -- The errors of a run by those of its list and of its workers.
 use Rattle.std.specs.Prelude.{◌≡◌, ◌≢◌, ◌⊎◌}
-use Rattle.model.specs.declared.fault.ReadFault.{ReadFault}
-use Rattle.model.specs.declared.fault.ReadKind.TheVariants as kind
+use Rattle.draw_list.specs.declared.fault.ReadFault.{ReadFault}
+use Rattle.draw_list.specs.declared.fault.ReadKind.TheVariants as kind
 use Rattle.pool.specs.declared.fault.PoolFault.{PoolFault}
 use Rattle.pool.specs.declared.fault.PoolFault.TheVariants as pool
 use Rattle.engine.specs.declared.fault.Fault.{Fault}

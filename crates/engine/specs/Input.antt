@@ -1,7 +1,7 @@
 -- What a reader gave.
 use Rattle.std.specs.Prelude.{◌≡◌, ℕ, List, ◌++◌, length, Option}
 use Rattle.std.specs.Io.KnownBytes.{Consumes, IsAtEnd}
-use Rattle.model.specs.declared.fault.ReadFault.{ReadFault}
+use Rattle.draw_list.specs.declared.fault.ReadFault.{ReadFault}
 use Rattle.list_json.specs.Checks.{all_checks}
 use Rattle.list_json.specs.Json.{json_of}
 use Rattle.checks.specs.FirstFault.{IsFirstFault}

@@ -3,8 +3,8 @@ use Rattle.std.specs.Prelude.{◌≡◌, ◌↔◌, ℕ, ◌+◌, ◌*◌, ◌<�
 use Rattle.std.specs.Io.KnownBytes.{Keeps, Appends}
 use Rattle.grid.specs.Pixels.{side_of}
 use Rattle.grid.specs.declared.pixels.TileSide.{TileSide}
-use Rattle.model.specs.Picture.{output_pixel_bytes}
-use Rattle.model.specs.Scene.{Scene}
+use Rattle.draw_list.specs.Picture.{output_pixel_bytes}
+use Rattle.draw_list.specs.Scene.{Scene}
 use Rattle.engine.specs.declared.fault.Fault.{Fault}
 use Rattle.engine.specs.declared.fault.Fault.TheVariants.{List as BadList, Pool, InputFailed, InputTooLong, WriteFailed, OutOfMemory}
 use Rattle.list_json.specs.Denotes.{Denotes}

@@ -2,8 +2,8 @@
 ghost use Rattle.std.specs.Prelude.{◌≡◌};
 ghost use Rattle.engine.specs.declared.fault.Fault.TheVariants.{OutOfMemory, WriteFailed};
 
+use draw_list::{ReadFault, ReadKind};
 use grid::OutOfMemory;
-use model::{ReadFault, ReadKind};
 use picture_file::WriteFault;
 use pool::PoolFault;
 use std::alloc::AllocError;

@@ -4,7 +4,7 @@ ghost use Rattle.std.specs.Io.KnownBytes.{IsAtEnd};
 ghost use Rattle.engine.specs.Input.{TakesOver, GivesAll, Gives};
 
 use crate::fault::Fault;
-use model::MOST_BYTES;
+use draw_list::MOST_BYTES;
 use picture_file::Counted;
 use std::alloc::{AllocError, Global};
 use std::io::Read;

@@ -9,7 +9,7 @@ use crate::fault::Fault;
 use crate::options::Options;
 use crate::picture_bytes::bytes_of_rows;
 use bins::Bins;
-use model::DrawList;
+use draw_list::DrawList;
 use picture_file::{Counted, WriteFault, ppm_rows, write_header};
 use pool::Gate;
 use std::alloc::Global;

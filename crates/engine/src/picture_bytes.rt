@@ -6,8 +6,8 @@ ghost use Rattle.picture_file.specs.File.{IsPictureFile};
 ghost use Rattle.engine.specs.Picture.{rows_length};
 
 use bins::Bins;
+use draw_list::DrawList;
 use grid::{OutOfMemory, TileSide};
-use model::DrawList;
 use picture_file::{HEADER_BYTES, file_header};
 use pool::Open;
 use std::alloc::Global;

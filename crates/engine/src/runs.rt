@@ -1,6 +1,6 @@
 //! From the bytes of an input to the bytes of a picture.
 ghost use Rattle.std.specs.Prelude.{◌≡◌, ◌<◌, ◌≤◌, ◌↔◌, ◌⊎◌, ℕ, ◌+◌, length, Ok, OnOk, IfOk, IfErr, IsErrOf, vec_len};
-ghost use Rattle.model.specs.declared.fault.ReadFault.{ReadFault};
+ghost use Rattle.draw_list.specs.declared.fault.ReadFault.{ReadFault};
 ghost use Rattle.list_json.specs.Checks.{all_checks};
 ghost use Rattle.list_json.specs.Denotes.{Denotes};
 ghost use Rattle.list_json.specs.Json.{json_of};

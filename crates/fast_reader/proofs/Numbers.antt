@@ -6,7 +6,7 @@ use Rattle.json.specs.Json.{value}
 use Rattle.json.proofs.Grammar.{value_is}
 use Rattle.serde_json.specs.Data.{Data, Num, number, string, boolean}
 use Rattle.list_json.specs.Json.{text, truth}
-use Rattle.cursor.specs.Lexed.{TookInteger}
+use Rattle.json_tokens.specs.Lexed.{TookInteger}
 use Rattle.list_json.specs.Denotes.{IsIntegerWithin, IsIndex}
 use Rattle.serde_json.specs.Find.{as_integer}
 use Rattle.serde_json.specs.Read.{number_of, of_json, converted}

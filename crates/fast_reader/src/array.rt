@@ -6,9 +6,9 @@ ghost use Rattle.fast_reader.specs.Took.{Took};
 
 use crate::number::{channel, take_between};
 use crate::word::take_truth;
-use cursor::Cursor;
+use draw_list::MOST_PIXELS;
 use grid::PixelBox;
-use model::MOST_PIXELS;
+use json_tokens::Cursor;
 
 /// Takes the bracket that opens an array, if it is next.
 #[inline(always)]

@@ -4,7 +4,7 @@ ghost use Rattle.list_json.specs.Denotes.{IsArrayOf};
 ghost use Rattle.fast_reader.specs.Took.{Took};
 
 use crate::array::take_begin_array;
-use cursor::Cursor;
+use json_tokens::Cursor;
 use std::alloc::Global;
 
 /// Takes the elements of one kind of array.

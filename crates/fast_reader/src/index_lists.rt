@@ -6,8 +6,8 @@ ghost use Rattle.fast_reader.specs.Took.{Took};
 use crate::array::take_begin_array;
 use crate::elements::{ElementReader, take_array};
 use crate::number::{index, take_index};
-use cursor::Cursor;
-use model::{MOST_QUADS, MOST_STRIP_INDICES, MOST_TRIANGLES, Vertex, is_convex};
+use draw_list::{MOST_QUADS, MOST_STRIP_INDICES, MOST_TRIANGLES, Vertex, is_convex};
+use json_tokens::Cursor;
 use std::alloc::Global;
 
 /// Takes triangles over this many vertices.

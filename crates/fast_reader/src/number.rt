@@ -2,9 +2,9 @@ ghost use Rattle.std.specs.Prelude.{◌≡◌, ◌≤◌, ◌<◌, IfSome, Some}
 ghost use Rattle.list_json.specs.Denotes.{IsIntegerWithin, IsDepthNumber, IsIndex, IsSize, IsSampleMaskNumber, IsSampleCount};
 ghost use Rattle.fast_reader.specs.Took.{Took, IsNumber};
 
-use cursor::Cursor;
+use draw_list::{ALL_SAMPLES, MOST_PIXELS, MOST_VERTICES};
 use grid::SampleCount;
-use model::{ALL_SAMPLES, MOST_PIXELS, MOST_VERTICES};
+use json_tokens::Cursor;
 
 /// Takes an integer.
 #[inline(always)]

@@ -4,9 +4,9 @@ ghost use Rattle.fast_reader.specs.Took.{Took};
 
 use crate::elements::{ElementReader, take_array};
 use crate::number::{channel, coordinate, depth};
-use cursor::Cursor;
+use draw_list::{MOST_VERTICES, Vertex};
 use grid::Point;
-use model::{MOST_VERTICES, Vertex};
+use json_tokens::Cursor;
 use std::alloc::Global;
 
 /// Takes vertices.

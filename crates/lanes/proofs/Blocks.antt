@@ -6,9 +6,9 @@ use Rattle.grid.specs.Position.{Position}
 use Rattle.lanes.specs.declared.block_samples.BlockSamples.{BlockSamples}
 use Rattle.shade.specs.declared.sample.CanvasSample.{CanvasSample}
 use Rattle.lanes.specs.Lanes.{IsMask}
-use Rattle.planes.specs.Multiple.{IsSixteenth}
-use Rattle.planes.specs.Group.{position_in, IsGroupOnScreen}
-use Rattle.planes.proofs.WholeValues.{multiple_sum}
+use Rattle.gradients.specs.Multiple.{IsSixteenth}
+use Rattle.gradients.specs.Group.{position_in, IsGroupOnScreen}
+use Rattle.gradients.proofs.WholeValues.{multiple_sum}
 use Rattle.lanes.specs.Block.{IsOnScreen, stored_at, AreDrawn}
 
 -- the pixels before k are done, and the others are unchanged

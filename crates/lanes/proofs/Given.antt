@@ -3,7 +3,7 @@ use Rattle.std.proofs.Common.{sym, subst, ℕ, ◌<◌, List, IsBitSet, slice_in
 use Rattle.grid.specs.Position.{Position}
 use Rattle.grid.specs.Samples.{part_size}
 use Rattle.grid.specs.Triangle.{Covers}
-use Rattle.planes.specs.Group.{position_in}
+use Rattle.gradients.specs.Group.{position_in}
 use Rattle.shade.specs.declared.placed.Placed.{Placed}
 use Rattle.shade.specs.declared.sample.CanvasSample.{CanvasSample}
 use Rattle.shade.specs.declared.sample.Shaded.{Shaded}

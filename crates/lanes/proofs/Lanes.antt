@@ -4,8 +4,8 @@ use Rattle.std.specs.Simd.Lanes.{zip2, sel_l, put_chunk}
 use Rattle.std.proofs.lemmas.Simd.{get_or-put_chunk_at, get_or-put_chunk_below, get_or-put_chunk_above}
 use Rattle.std.proofs.lemmas.Bool.{leb-true}
 use Rattle.std.proofs.lemmas.Bool.Decides.{Decides-not, Decides-eqb, nat_tests}
-use Rattle.planes.specs.Lanes.{HasLanes}
-use Rattle.planes.proofs.Lanes.{chosen, splat}
+use Rattle.gradients.specs.Lanes.{HasLanes}
+use Rattle.gradients.proofs.Lanes.{chosen, splat}
 use Rattle.lanes.specs.Lanes.{IsMaskLane, IsMask}
 
 -- ---- masks

@@ -4,8 +4,8 @@ use Rattle.std.proofs.Math.Nat.{mul-le-mul_right}
 use Rattle.std.proofs.lemmas.Bool.Decides.{nat_tests}
 use Rattle.std.proofs.lemmas.Simd.{Each1-get_or}
 use Rattle.std.specs.Simd.Lanes.{zip2, sel_l, Each1}
-use Rattle.planes.specs.Lanes.{HasLanes}
-use Rattle.planes.proofs.Lanes.{itself, zipped, splat, chosen}
+use Rattle.gradients.specs.Lanes.{HasLanes}
+use Rattle.gradients.proofs.Lanes.{itself, zipped, splat, chosen}
 
 -- lanes by another form of the same function
 pub becomes : (v : List ℕ) (f g : ℕ → ℕ) → HasLanes v f → ((k : ℕ) → k < 16 → f k ≡ g k) → HasLanes v g

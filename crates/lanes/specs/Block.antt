@@ -1,11 +1,11 @@
 -- The samples of a block of 8 by 8 pixels.
 use Rattle.std.specs.Prelude.{◌≡◌, ℕ, ◌+◌, ◌<◌, ◌≤◌, IsBitSet, ◌^◌, pos, ◌+ℤ◌, ◌≤ℤ◌, ◌<ℤ◌, slice_index}
 use Rattle.grid.specs.Position.{Position}
-use Rattle.planes.specs.Multiple.{IsSixteenth}
+use Rattle.gradients.specs.Multiple.{IsSixteenth}
 use Rattle.grid.specs.Triangle.{Covers}
 use Rattle.shade.specs.declared.sample.CanvasSample.{CanvasSample}
 use Rattle.shade.specs.declared.placed.Placed.{Placed}
-use Rattle.planes.specs.Group.{position_in}
+use Rattle.gradients.specs.Group.{position_in}
 use Rattle.lanes.specs.declared.block_samples.BlockSamples.{BlockSamples}
 
 -- The stored sample of pixel k, counted row by row.

@@ -1,5 +1,5 @@
 use Rattle.std.specs.Prelude.{◌≡◌, ◌⊎◌, ℕ, Bool, false, List, ◌+◌, ◌<◌, ◌≤◌, if◌then◌else◌, slice_index, slice_index_or}
-use Rattle.planes.specs.declared.colour_planes.Colours.{Colours}
+use Rattle.gradients.specs.declared.colour_planes.Colours.{Colours}
 use Rattle.shade.specs.declared.sample.Merge.{Merge}
 use Rattle.shade.specs.declared.sample.CanvasSample.{CanvasSample}
 use Rattle.shade.specs.declared.operands.Channel.TheVariants.{Colour}

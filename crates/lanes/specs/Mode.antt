@@ -14,7 +14,7 @@ use Rattle.lanes.specs.declared.mode.DrawMode.TheVariants as draw
 use Rattle.lanes.specs.declared.mode.Depth.{Depth}
 use Rattle.lanes.specs.declared.mode.Colour.{Colour}
 use Rattle.shade.specs.Presets.{AreAlike, IsKnown, replace, premultiplied_over}
-use Rattle.planes.specs.AttributePlane.{IsDepthPlane, AreColourPlanes}
+use Rattle.gradients.specs.AttributePlane.{IsDepthPlane, AreColourPlanes}
 use Rattle.lanes.specs.Sources.{NeedsNoDepth, IsFlat, IsFlatColour}
 
 -- What has to hold so that a triangle's depth can be computed in this mode.

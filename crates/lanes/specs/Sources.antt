@@ -10,9 +10,9 @@ use Rattle.shade.specs.declared.sample.Shaded.{Shaded}
 use Rattle.shade.specs.Canvas.{IsCanvasApplied}
 use Rattle.shade.specs.Merging.{Writes, ReadsAlpha}
 use Rattle.shade.specs.Placed.{channel, IsFragmentAt, IsInterpolated}
-use Rattle.planes.specs.AttributePlane.{IsDepthPlane, AreColourPlanes}
-use Rattle.planes.specs.declared.depth_plane.DepthPlane.{DepthPlane}
-use Rattle.planes.specs.declared.colour_planes.ColourPlanes.{ColourPlanes}
+use Rattle.gradients.specs.AttributePlane.{IsDepthPlane, AreColourPlanes}
+use Rattle.gradients.specs.declared.depth_plane.DepthPlane.{DepthPlane}
+use Rattle.gradients.specs.declared.colour_planes.ColourPlanes.{ColourPlanes}
 use Rattle.lanes.specs.declared.sources.DepthSource.{DepthSource}
 use Rattle.lanes.specs.declared.sources.DepthSource.TheVariants.{Unused, Flat, Plane}
 use Rattle.lanes.specs.declared.sources.ColourSource.{ColourSource}

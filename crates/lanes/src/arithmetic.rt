@@ -1,6 +1,6 @@
 //! Arithmetic of sixteen lanes.
 ghost use Rattle.std.specs.Prelude.{ℕ, ◌+◌, ◌-◌, ◌*◌, ◌/◌, ◌<◌, ◌≤◌, min, max, slice_index, pos, ◌+ℤ◌, ◌-ℤ◌};
-ghost use Rattle.planes.specs.Lanes.{HasLanes};
+ghost use Rattle.gradients.specs.Lanes.{HasLanes};
 ghost use Rattle.lanes.specs.Operands.{AreByteLanes, AreTerms, AreNearest};
 
 use std::simd::prelude::*;

@@ -1,5 +1,5 @@
 ghost use Rattle.std.specs.Prelude.{◌*◌, ◌-◌, IsTrue, pos, ◌+ℤ◌, ◌-ℤ◌, slice_index};
-ghost use Rattle.planes.specs.Lanes.{HasLanes};
+ghost use Rattle.gradients.specs.Lanes.{HasLanes};
 ghost use Rattle.shade.specs.declared.operands.Channel.TheVariants.{Colour, Alpha};
 ghost use Rattle.shade.specs.Blend.{factor};
 ghost use Rattle.shade.specs.Presets.{over, replace, IsKnown};

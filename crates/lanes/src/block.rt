@@ -19,8 +19,8 @@ use crate::lane_mask::lanes_of_mask;
 use crate::mode::DrawMode;
 use crate::one_by_one::draw_each;
 use crate::sources::{ColourSource, DepthSource};
+use gradients::Corrections;
 use grid::Point;
-use planes::Corrections;
 use shade::{KnownEquation, Merge};
 use std::simd::prelude::*;
 

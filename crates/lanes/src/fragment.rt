@@ -9,7 +9,7 @@ use crate::block_mask::BlockMask;
 use crate::block_samples::BlockSamples;
 use crate::mode::{DrawMode, needs_no_depth};
 use crate::sources::{ColourSource, DepthSource};
-use planes::Corrections;
+use gradients::Corrections;
 use shade::{Merge, Shaded, State};
 use std::marker::Model;
 

@@ -4,7 +4,7 @@ ghost use Rattle.std.specs.Simd.Lanes.{Each1};
 ghost use Rattle.shade.specs.Merging.{IsWritten};
 ghost use Rattle.lanes.specs.Merging.{IsTested, AreByteFragments, ReadsColours, TakeColours, AreMerged, AreColoured};
 ghost use Rattle.shade.specs.Canvas.{IsAlphaMerged};
-ghost use Rattle.planes.specs.Group.{position_in, IsGroupOnScreen};
+ghost use Rattle.gradients.specs.Group.{position_in, IsGroupOnScreen};
 ghost use Rattle.lanes.specs.Block.{stored_at};
 ghost use Rattle.lanes.specs.Operands.{AreByteLanes, AreByteColours, AreColourBytes};
 ghost use Rattle.lanes.specs.Sources.{GivesDepth, TakesGiven};
@@ -16,7 +16,7 @@ use crate::lane_mask::{both, choose, choose_bytes, is_clear};
 use crate::merging::passes_lanes;
 use crate::operands::{AlphaOperands, ColourLanes, ColourOperands};
 use crate::sources::{ColourSource, DepthSource};
-use planes::{Colours, Corrections};
+use gradients::{Colours, Corrections};
 use shade::{KnownEquation, Merge, Placed};
 use std::simd::prelude::*;
 

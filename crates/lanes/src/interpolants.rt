@@ -3,7 +3,7 @@ ghost use Rattle.std.specs.Int.RustNames.{unsigned_abs};
 ghost use Rattle.grid.specs.Triangle.{doubled_area};
 
 use crate::mode::{Colour, ColourMode, Depth, DepthMode, DrawMode};
-use planes::{ColourPlanes, ColourSlopes, DepthPlane, Reciprocal, Slope};
+use gradients::{ColourPlanes, ColourSlopes, DepthPlane, Reciprocal, Slope};
 use shade::Placed;
 use std::marker::Model;
 

@@ -5,7 +5,7 @@ ghost use Rattle.lanes.specs.Mode.{IsDepthBy, IsColourBy, IsAlphaKnown, IsMergeM
 ghost use Rattle.lanes.specs.Sources.{IsDepthOf, IsColourOf, IsFlat, NeedsNoDepth};
 
 use crate::sources::{ColourSource, DepthSource};
-use planes::{ColourPlanes, DepthPlane};
+use gradients::{ColourPlanes, DepthPlane};
 use shade::{DepthTest, Equation, KnownEquation, Merge, Placed};
 
 /// How the depth is computed.

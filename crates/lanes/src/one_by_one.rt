@@ -2,7 +2,7 @@
 ghost use Rattle.std.specs.Prelude.{◌≡◌, ◌+◌, ◌*◌, ◌<◌, length};
 ghost use Rattle.grid.specs.Samples.{part_size};
 ghost use Rattle.shade.specs.Canvas.{IsCanvasDrawnAt};
-ghost use Rattle.planes.specs.Group.{position_in};
+ghost use Rattle.gradients.specs.Group.{position_in};
 ghost use Rattle.lanes.specs.Block.{IsOnScreen, CoversMask, AreDrawn};
 ghost use Rattle.lanes.specs.BlockMask.{CoversBlock, IsBlockDrawn};
 

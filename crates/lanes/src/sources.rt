@@ -2,10 +2,10 @@
 ghost use Rattle.std.specs.Prelude.{◌≡◌, ◌≤◌, ◌<◌, ℕ, length, slice_index};
 ghost use Rattle.std.specs.Simd.Lanes.{Each1};
 ghost use Rattle.shade.specs.declared.sample.Shaded.{Shaded as Fragment};
-ghost use Rattle.planes.specs.Group.{position_in, IsGroupOnScreen};
+ghost use Rattle.gradients.specs.Group.{position_in, IsGroupOnScreen};
 ghost use Rattle.shade.specs.Merging.{Writes, ReadsAlpha};
 
-use planes::{ColourPlanes, Colours, Corrections, DepthPlane};
+use gradients::{ColourPlanes, Colours, Corrections, DepthPlane};
 use shade::{Merge, Placed};
 use std::simd::prelude::*;
 

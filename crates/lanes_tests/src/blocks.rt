@@ -2,14 +2,14 @@
 ghost use Rattle.std.specs.Prelude.{◌<◌, ℕ, IsTrue, IsBitSet, slice_index};
 ghost use Rattle.grid.specs.Triangle.{Covers};
 ghost use Rattle.grid.specs.Samples.{part_size};
-ghost use Rattle.planes.specs.Group.{position_in};
+ghost use Rattle.gradients.specs.Group.{position_in};
 ghost use Rattle.lanes.specs.Block.{IsOnScreen};
 ghost use Rattle.lanes.specs.BlockMask.{first_of};
 
 use crate::fixtures::{everywhere, point};
+use gradients::Corrections;
 use grid::{Point, SampleCount, Tri};
 use lanes::{BlockMask, BlockSamples, Interpolants, sample_position};
-use planes::Corrections;
 use shade::{Blend, DepthTest, Merge, Placed, Sample};
 
 /// Whether the triangle covers the samples in the mask that belong to one sample index.

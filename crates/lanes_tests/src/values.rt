@@ -1,11 +1,11 @@
 //! Values at sixteen samples at the ends of what planes can be, compared with `floor_at`.
 ghost use Rattle.std.specs.Prelude.{IsTrue, pos, ◌≤ℤ◌, ◌<ℤ◌};
-ghost use Rattle.planes.specs.Group.{IsGroupOnScreen};
-ghost use Rattle.planes.specs.Multiple.{IsSixteenth};
+ghost use Rattle.gradients.specs.Group.{IsGroupOnScreen};
+ghost use Rattle.gradients.specs.Multiple.{IsSixteenth};
 
 use crate::fixtures::{GREATEST, GREATEST_TURNED, everywhere, triangle};
+use gradients::{ColourPlanes, ColourSlopes, Corrections, DepthPlane, Reciprocal, Slope};
 use grid::Point;
-use planes::{ColourPlanes, ColourSlopes, Corrections, DepthPlane, Reciprocal, Slope};
 use shade::{Blend, DepthTest, Merge, Placed, floor_at};
 use std::process::Abort;
 

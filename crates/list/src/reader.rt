@@ -1,14 +1,14 @@
 ghost use Rattle.std.specs.Prelude.{◌≡◌, ◌≢◌, ◌≤◌, length, IfOk, IfErr, MatchResult};
-ghost use Rattle.model.specs.declared.fault.ReadKind.TheVariants.{OutOfMemory};
+ghost use Rattle.draw_list.specs.declared.fault.ReadKind.TheVariants.{OutOfMemory};
 ghost use Rattle.list_json.specs.Json.{json_of};
 ghost use Rattle.checks.specs.FirstFault.{IsFirstFault, AllPass};
-ghost use Rattle.model.specs.Scene.{Scene};
+ghost use Rattle.draw_list.specs.Scene.{Scene};
 ghost use Rattle.list_json.specs.Checks.{all_checks, Reaches};
 ghost use Rattle.list_json.specs.Denotes.{Denotes};
 
 use checking_reader::read_by_value;
+use draw_list::{DrawList, ReadFault};
 use fast_reader::read_in_one_pass;
-use model::{DrawList, ReadFault};
 use std::alloc::Global;
 
 /// Reads a draw list from JSON (RFC 8259, as `serde_json` reads it; the keys, ranges and defaults are this project's

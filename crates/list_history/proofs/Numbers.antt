@@ -1,9 +1,9 @@
 -- A triangle has one place.
 use Rattle.std.proofs.Common.{◌≡◌, ℕ, zero, suc, ◌+◌, ◌<◌, ◌≤◌, List, [], ◌∷◌, length, take, sum, slice_index, arith}
 use Rattle.std.proofs.lemmas.List.Sums.{sum_by-cons}
-use Rattle.model.specs.Place.{IsPlace}
-use Rattle.model.specs.Scene.{Scene}
-use Rattle.model.specs.declared.place.TrianglePlace.{TrianglePlace}
+use Rattle.draw_list.specs.Place.{IsPlace}
+use Rattle.draw_list.specs.Scene.{Scene}
+use Rattle.draw_list.specs.declared.place.TrianglePlace.{TrianglePlace}
 
 -- the draws before a later one have at least the triangles of this one too
 later : (xs : List ℕ) (a b : ℕ) → a < b → b < length xs → sum (take a xs) + slice_index xs a ≤ sum (take b xs)

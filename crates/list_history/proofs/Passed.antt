@@ -8,10 +8,10 @@ use Rattle.shade.specs.declared.sample.Sample.{Sample}
 use Rattle.history.specs.History.{Place, EndsWith, IsNext, IsBehindUncovered, IsCoveredBy, moved_behind}
 use Rattle.history.specs.declared.event.Event.{Event}
 use Rattle.history.proofs.Chained.{next_ends, past_all, past_ends, uncovered_ends}
-use Rattle.model.specs.Picture.{IsEnd}
-use Rattle.model.specs.Rows.{IsRowSpan}
-use Rattle.model.specs.Scene.{Scene}
-use Rattle.model.specs.declared.rows.RowSpan.{RowSpan}
+use Rattle.draw_list.specs.Picture.{IsEnd}
+use Rattle.draw_list.specs.Rows.{IsRowSpan}
+use Rattle.draw_list.specs.Scene.{Scene}
+use Rattle.draw_list.specs.declared.rows.RowSpan.{RowSpan}
 use Rattle.list_history.proofs.Rows.{in_rows}
 use Rattle.list_history.specs.Walk.{ListPlace, IsPlaceOfList, IsNextOfList, IsNextCoveredOfList}
 use Rattle.list_history.specs.declared.list_event.ListEvent.{ListEvent}

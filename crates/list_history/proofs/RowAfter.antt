@@ -14,9 +14,9 @@ use Rattle.history.specs.Changed.{IsChangedBy, IsFollowed}
 use Rattle.history.specs.Samples.{IsOneIf}
 use Rattle.history.specs.declared.followed.Followed.{Followed}
 use Rattle.history.proofs.Following.{after_same, unmet, unchanged}
-use Rattle.model.specs.Scene.{Scene}
-use Rattle.model.specs.Rows.{IsRowSpan}
-use Rattle.model.specs.declared.rows.RowSpan.{RowSpan}
+use Rattle.draw_list.specs.Scene.{Scene}
+use Rattle.draw_list.specs.Rows.{IsRowSpan}
+use Rattle.draw_list.specs.declared.rows.RowSpan.{RowSpan}
 use Rattle.list_history.proofs.Rows.{in_rows}
 use Rattle.list_history.proofs.Sums.{no_sums}
 use Rattle.list_history.specs.Counts.{CoversSample, AreCountsAt, AreCountSums, HoldColumns, IsRowAfter, no_counts}

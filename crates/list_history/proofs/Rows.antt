@@ -8,8 +8,8 @@ use Rattle.grid.specs.declared.sample_count.SampleCount.{SampleCount}
 use Rattle.grid.specs.declared.triangle.Tri.{Tri}
 use Rattle.cover.specs.Bounds.{first_pixel, end_pixel}
 use Rattle.cover.proofs.Box.{box_holds}
-use Rattle.model.specs.Rows.{IsRowSpan}
-use Rattle.model.specs.declared.rows.RowSpan.{RowSpan}
+use Rattle.draw_list.specs.Rows.{IsRowSpan}
+use Rattle.draw_list.specs.declared.rows.RowSpan.{RowSpan}
 
 pub in_rows : (t : Tri) (span : RowSpan) (count : SampleCount) (i j s : ℕ) → i < 4096 → j < 4096 → s < count_of count → IsRowSpan t span
     → Covers t.a t.b t.c (sample_position i j s count) → (span.first ≤ j) × (j < span.end)

@@ -3,7 +3,7 @@ use Rattle.std.proofs.Common.{◌≡◌, refl, ap, ◌∙◌, ℕ, zero, suc, �
 use Rattle.grid.specs.Samples.{count_of}
 use Rattle.history.specs.Changed.{IsChangedBy, Shows}
 use Rattle.history.specs.Samples.{IsSum, IsOneIf, AreSamples}
-use Rattle.model.specs.Scene.{Scene}
+use Rattle.draw_list.specs.Scene.{Scene}
 use Rattle.list_history.specs.Counts.{CoversSample, AreCountsOf, AreCountsAt, AreCountSums, AreAtMost, no_counts, both_counts}
 use Rattle.list_history.specs.declared.sample_counts.SampleCounts.{SampleCounts}
 

@@ -8,7 +8,7 @@ use Rattle.shade.specs.declared.placed.Placed.{Placed}
 use Rattle.history.specs.Changed.{IsChangedBy, Shows, IsFollowed}
 use Rattle.history.specs.Samples.{IsOneIf, AreSamples}
 use Rattle.history.specs.declared.followed.Followed.{Followed}
-use Rattle.model.specs.Scene.{Scene}
+use Rattle.draw_list.specs.Scene.{Scene}
 use Rattle.list_history.specs.declared.columns.Columns.{Columns}
 use Rattle.list_history.specs.declared.sample_counts.SampleCounts.{SampleCounts}
 

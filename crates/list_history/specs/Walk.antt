@@ -2,9 +2,9 @@ use Rattle.std.specs.Prelude.{◌≡◌, ℕ, ◌<◌, ◌≤◌, drop, length, 
 use Rattle.grid.specs.Samples.{count_of}
 use Rattle.shade.specs.declared.sample.Sample.{Sample}
 use Rattle.history.specs.History.{Place, EndsWith, IsNext, IsBehindUncovered}
-use Rattle.model.specs.Picture.{IsEnd}
-use Rattle.model.specs.Place.{IsPlace}
-use Rattle.model.specs.Scene.{Scene}
+use Rattle.draw_list.specs.Picture.{IsEnd}
+use Rattle.draw_list.specs.Place.{IsPlace}
+use Rattle.draw_list.specs.Scene.{Scene}
 use Rattle.list_history.specs.declared.list_event.ListEvent.{ListEvent}
 
 -- Where the history of a sample of a list's picture stands.

@@ -1,5 +1,5 @@
+use draw_list::TrianglePlace;
 use history::Event;
-use model::TrianglePlace;
 
 /// What a triangle of a draw list did to a sample, and why.
 #[derive(Clone, Copy, Debug, PartialEq, Eq)]

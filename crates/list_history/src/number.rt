@@ -1,7 +1,7 @@
 ghost use Rattle.std.specs.Prelude.{ℕ, ◌<◌, length, IfSome, IfNone};
-ghost use Rattle.model.specs.Place.{IsPlace};
+ghost use Rattle.draw_list.specs.Place.{IsPlace};
 
-use model::{DrawList, TrianglePlace};
+use draw_list::{DrawList, TrianglePlace};
 
 /// Returns the number in draw order of the triangle in this place. Returns `None` if the list has no such triangle.
 pub fn number_of(list: &DrawList, place: TrianglePlace) -> Option<usize>

@@ -8,9 +8,9 @@ ghost use Rattle.list_history.specs.Counts.{HoldCovered, IsRowAfter, AreCountsAt
 
 use crate::columns::Columns;
 use crate::sample_counts::SampleCounts;
+use draw_list::DrawList;
 use grid::{Point, Tri, sample_at};
 use history::{Followed, SamplePlace};
-use model::DrawList;
 use std::alloc::{AllocError, Global};
 
 /// Samples `s` of row `py` of the picture. Those in the columns are followed, which hold those that triangle `number`

@@ -4,7 +4,7 @@ ghost use Rattle.list_history.specs.Counts.{AreCountsOf, AreCountsAt, AreCountSu
 
 use crate::columns::Columns;
 use crate::row::SampleRow;
-use model::DrawList;
+use draw_list::DrawList;
 use std::alloc::{AllocError, Global};
 
 /// How many samples of a picture a triangle covers, changes and is shown by.

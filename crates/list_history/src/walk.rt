@@ -2,12 +2,12 @@ ghost use Rattle.std.specs.Prelude.{◌≡◌, ◌↔◌, ◌<◌, ◌+◌, [], 
 ghost use Rattle.grid.specs.Samples.{count_of};
 ghost use Rattle.shade.specs.declared.placed.Placed.{Placed};
 ghost use Rattle.history.specs.History.{IsBehindUncovered, IsCoveredBy, AreUncovered, moved_behind};
-ghost use Rattle.model.specs.Picture.{IsEnd};
+ghost use Rattle.draw_list.specs.Picture.{IsEnd};
 ghost use Rattle.list_history.specs.Walk.{IsPlaceOfList, IsNextOfList, IsNextCoveredOfList, history_start};
 
 use crate::list_event::ListEvent;
+use draw_list::DrawList;
 use history::{SampleHistory, SamplePlace};
-use model::DrawList;
 use shade::{Placed, Sample};
 use std::marker::Model;
 

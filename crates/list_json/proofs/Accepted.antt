@@ -5,9 +5,9 @@ use Rattle.std.specs.List.{All}
 use Rattle.std.proofs.lemmas.List.Elements.{All-nil, All-cons}
 use Rattle.serde_json.specs.Data.{Data, Items, no_items, item}
 use Rattle.grid.specs.declared.pixels.PixelBox.{PixelBox}
-use Rattle.model.specs.Primitives.{PrimitiveListing, triangle_list, triangle_strip, quad_list, IsQuadOver, AreOver}
-use Rattle.model.specs.declared.draw.Vertex.{Vertex}
-use Rattle.model.specs.Listing.{DrawListing, Listing, IsDrawWithinLimits, IsListingWithinLimits}
+use Rattle.draw_list.specs.Primitives.{PrimitiveListing, triangle_list, triangle_strip, quad_list, IsQuadOver, AreOver}
+use Rattle.draw_list.specs.declared.draw.Vertex.{Vertex}
+use Rattle.draw_list.specs.Listing.{DrawListing, Listing, IsDrawWithinLimits, IsListingWithinLimits}
 use Rattle.list_json.specs.Denotes.{Each, IsTriangle, IsStripIndex, IsQuad, IsPrimitives, IsDraw, IsListing}
 
 each_all : {X : Type 0} (Is : Data → X → Type 0) (P : X → Type 0) → ((d : Data) (x : X) → Is d x → P x) → (ds : Items) (xs : List X) → Each Is ds xs → All P xs

@@ -2,8 +2,8 @@
 use Rattle.std.proofs.Common.{◌≡◌, refl, ℕ, ℤ, pos, List, [], ◌∷◌, map, Option, Some}
 use Rattle.std.specs.Prelude.{unwrap_or}
 use Rattle.serde_json.specs.Data.{Data, Items, no_items, item}
-use Rattle.model.specs.declared.draw.Vertex.{Vertex}
-use Rattle.model.specs.Primitives.{vertex_position}
+use Rattle.draw_list.specs.declared.draw.Vertex.{Vertex}
+use Rattle.draw_list.specs.Primitives.{vertex_position}
 use Rattle.list_json.specs.Checks.{position_written, positions_written, corner_written}
 use Rattle.list_json.specs.Denotes.{Each, IsVertex, IsIndex}
 use Rattle.list_json.proofs.OneDraw.{same_position}

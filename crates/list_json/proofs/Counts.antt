@@ -2,11 +2,11 @@
 use Rattle.std.proofs.Common.{◌≡◌, List, [], ◌∷◌, length, Option, refl, arith}
 use Rattle.serde_json.specs.Data.{Data, Items, no_items, item}
 use Rattle.serde_json.specs.Events.{items_len}
-use Rattle.model.specs.Primitives.{PrimitiveListing, triangle_list, triangle_strip, quad_list, count_of_triangles}
+use Rattle.draw_list.specs.Primitives.{PrimitiveListing, triangle_list, triangle_strip, quad_list, count_of_triangles}
 use Rattle.list_json.specs.Json.{elements}
 use Rattle.list_json.specs.Checks.{triangles_given}
 use Rattle.list_json.specs.Denotes.{Each, IsTriangle, IsStripIndex, IsQuad, IsPrimitives}
-use Rattle.model.specs.declared.draw.Vertex.{Vertex}
+use Rattle.draw_list.specs.declared.draw.Vertex.{Vertex}
 
 pub items_len_each : {X : Type 0} (Is : Data → X → Type 0) (ds : Items) (xs : List X) → Each Is ds xs → items_len ds ≡ length xs
 items_len_each Is no_items [] h = refl

@@ -1,7 +1,7 @@
 -- Bytes that denote a draw list, and the checks.
 use Rattle.std.proofs.Common.{List, ℕ, refl}
 use Rattle.list_json.specs.Json.{json_of}
-use Rattle.model.specs.Scene.{Scene}
+use Rattle.draw_list.specs.Scene.{Scene}
 use Rattle.checks.specs.FirstFault.{AllPass}
 use Rattle.list_json.specs.Checks.{all_checks, value_checks}
 use Rattle.list_json.specs.Denotes.{Denotes}

@@ -5,9 +5,9 @@ use Rattle.serde_json.specs.Find.{get}
 use Rattle.grid.specs.Position.{Position}
 use Rattle.grid.specs.declared.pixels.PixelBox.{PixelBox}
 use Rattle.shade.specs.declared.state.State.{State}
-use Rattle.model.specs.declared.draw.Vertex.{Vertex}
-use Rattle.model.specs.Primitives.{PrimitiveListing, triangle_list, triangle_strip, quad_list}
-use Rattle.model.specs.Listing.{DrawListing}
+use Rattle.draw_list.specs.declared.draw.Vertex.{Vertex}
+use Rattle.draw_list.specs.Primitives.{PrimitiveListing, triangle_list, triangle_strip, quad_list}
+use Rattle.draw_list.specs.Listing.{DrawListing}
 use Rattle.list_json.specs.Denotes.{IsArrayOf, IsVertex, IsTriangle, IsStripIndex, IsQuad, IsPrimitives, IsDraw}
 use Rattle.list_json.proofs.OneValue.{IsUnique, same_some, same_number, array-unique, same_three, same_four}
 use Rattle.list_json.proofs.OneState.{state-unique}

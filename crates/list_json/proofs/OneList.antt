@@ -7,13 +7,13 @@ use Rattle.grid.specs.declared.sample_count.SampleCount.{SampleCount}
 use Rattle.grid.specs.declared.sample_count.SampleCount.TheVariants.{One, Two, Four, Eight, Sixteen}
 use Rattle.shade.specs.declared.sample.Sample.{Sample}
 use Rattle.list_json.specs.Json.{json_of, whole, text}
-use Rattle.model.specs.Listing.{DrawListing, Listing, scene_of}
-use Rattle.model.specs.Scene.{Scene}
-use Rattle.model.specs.declared.output.Output.{Output}
-use Rattle.model.specs.declared.output.Output.TheVariants as output
+use Rattle.draw_list.specs.Listing.{DrawListing, Listing, scene_of}
+use Rattle.draw_list.specs.Scene.{Scene}
+use Rattle.draw_list.specs.declared.output.Output.{Output}
+use Rattle.draw_list.specs.declared.output.Output.TheVariants as output
 use Rattle.list_json.specs.Keys.{output_word}
 use Rattle.list_json.specs.Denotes.{OrDefault, IsArrayOf, IsDepthNumber, IsSampleCount, IsClearColour, IsOutput, IsDraw, IsListing, Denotes}
-use Rattle.model.specs.Picture.{picture_box}
+use Rattle.draw_list.specs.Picture.{picture_box}
 use Rattle.shade.proofs.Drawn.{same_sample}
 use Rattle.list_json.proofs.OneValue.{IsUnique, same_some, same_number, default-unique, array-unique, made_same_three}
 use Rattle.list_json.proofs.OneDraw.{draw-unique}

@@ -16,18 +16,18 @@ use Rattle.shade.specs.declared.depth.DepthTest.TheVariants as test
 use Rattle.shade.specs.declared.blend.Blend.{Blend}
 use Rattle.shade.specs.declared.sample.Merge.{Merge}
 use Rattle.shade.specs.declared.state.State.{State}
-use Rattle.model.specs.declared.draw.Vertex.{Vertex}
-use Rattle.model.specs.declared.fault.ReadKind.{ReadKind}
+use Rattle.draw_list.specs.declared.draw.Vertex.{Vertex}
+use Rattle.draw_list.specs.declared.fault.ReadKind.{ReadKind}
 use Rattle.list_json.specs.Json.{whole, text, array_of, count, elements}
-use Rattle.model.specs.declared.output.Output.{Output}
-use Rattle.model.specs.declared.output.Output.TheVariants as output
+use Rattle.draw_list.specs.declared.output.Output.{Output}
+use Rattle.draw_list.specs.declared.output.Output.TheVariants as output
 use Rattle.list_json.specs.Keys.{output_words, cull_words, depth_test_words, NamesBlend, blend_words}
-use Rattle.model.specs.Primitives.{PrimitiveListing, triangle_list, triangle_strip, quad_list, strip_count, quads_count, count_of_triangles}
-use Rattle.model.specs.Listing.{DrawListing, Listing}
+use Rattle.draw_list.specs.Primitives.{PrimitiveListing, triangle_list, triangle_strip, quad_list, strip_count, quads_count, count_of_triangles}
+use Rattle.draw_list.specs.Listing.{DrawListing, Listing}
 use Rattle.checks.specs.FirstFault.{Check, first_fault, reported_as}
 use Rattle.list_json.specs.Checks.{KindChecks, each, is_from_to, number_checks, depth_checks, vertex_checks, triangle_checks, strip_index_checks, quad_checks_at, corner_written, positions_written, is_strictly_convex, is_none_there, are_two_there, array_checks, sum_check, where_there, word_checks, truth_checks, colour_checks, write_mask_checks, sample_mask_checks, scissor_checks, sample_count_checks, merge_checks, state_value_checks, vertices_checks, triangles_checks, strip_checks, quads_checks, primitive_checks, part_checks, triangles_counted, draw_value_checks, clear_checks, top_checks, numbered_draw_checks, value_checks}
-use Rattle.model.specs.Fault.{outside}
-use Rattle.model.specs.Fault.{fault_in_draw}
+use Rattle.draw_list.specs.Fault.{outside}
+use Rattle.draw_list.specs.Fault.{fault_in_draw}
 use Rattle.list_json.specs.Denotes.{Each, OrDefault, IsIntegerWithin, IsDepthNumber, IsTruth, IsVertex, IsTriangle, IsStripIndex, IsQuad, IsPrimitives, IsArrayOf, IsCull, IsDepthTest, IsBlend, IsWriteMask, IsSampleMaskNumber, IsScissor, IsMerge, IsState, IsDraw, IsSampleCount, IsClearColour, IsOutput, IsListing}
 use Rattle.list_json.proofs.Convex.{convex_is_true}
 use Rattle.list_json.proofs.Corners.{same_places, same_corner}

@@ -5,8 +5,8 @@ use Rattle.serde_json.specs.Find.{get}
 use Rattle.grid.specs.declared.sample_count.SampleCount.{SampleCount}
 use Rattle.grid.specs.declared.sample_count.SampleCount.TheVariants as samples
 use Rattle.shade.specs.declared.sample.Sample.{Sample}
-use Rattle.model.specs.declared.output.Output.{Output}
-use Rattle.model.specs.declared.output.Output.TheVariants as output
+use Rattle.draw_list.specs.declared.output.Output.{Output}
+use Rattle.draw_list.specs.declared.output.Output.TheVariants as output
 use Rattle.list_json.specs.Denotes.{OrDefault, IsSampleCount, IsClearColour, IsDepthNumber, IsOutput}
 
 -- What a value says of the picture: the samples of a pixel, what each sample begins with, and what the picture shows.

@@ -5,15 +5,15 @@ use Rattle.std.specs.Option.{option_map_or}
 use Rattle.std.specs.Ordering.{int_eq}
 use Rattle.serde_json.specs.Data.{Data, Items, no_items, item}
 use Rattle.serde_json.specs.Find.{get, get_item, at, as_object}
-use Rattle.model.specs.declared.draw.Vertex.{Vertex}
-use Rattle.model.specs.declared.fault.ReadKind.{ReadKind}
-use Rattle.model.specs.declared.fault.ReadKind.TheVariants.{NotJson, UnknownKey, MissingKey, WrongKind, OutOfRange, BadIndex, TooMany, OutOfMemory, TwoLists, NotConvex}
-use Rattle.model.specs.declared.fault.ReadFault.{ReadFault}
-use Rattle.model.specs.Fault.{outside, fault_in_draw}
+use Rattle.draw_list.specs.declared.draw.Vertex.{Vertex}
+use Rattle.draw_list.specs.declared.fault.ReadKind.{ReadKind}
+use Rattle.draw_list.specs.declared.fault.ReadKind.TheVariants.{NotJson, UnknownKey, MissingKey, WrongKind, OutOfRange, BadIndex, TooMany, OutOfMemory, TwoLists, NotConvex}
+use Rattle.draw_list.specs.declared.fault.ReadFault.{ReadFault}
+use Rattle.draw_list.specs.Fault.{outside, fault_in_draw}
 use Rattle.list_json.specs.Json.{whole, text, truth, array_of, element, elements, count, length_of, is_among, has_other_key}
 use Rattle.grid.specs.Position.{Position}
 use Rattle.grid.specs.Edge.{side}
-use Rattle.model.specs.Primitives.{strip_count, quads_count}
+use Rattle.draw_list.specs.Primitives.{strip_count, quads_count}
 use Rattle.list_json.specs.Keys.{top_keys, draw_keys, output_words, cull_words, depth_test_words, blend_words}
 use Rattle.checks.specs.FirstFault.{Check, AllPass, check, reported_as}
 

@@ -15,15 +15,15 @@ use Rattle.shade.specs.declared.blend.Blend.{Blend}
 use Rattle.shade.specs.Presets.{none_blend}
 use Rattle.shade.specs.declared.sample.Merge.{Merge}
 use Rattle.shade.specs.declared.state.State.{State}
-use Rattle.model.specs.declared.draw.Vertex.{Vertex}
-use Rattle.model.specs.declared.output.Output.{Output}
-use Rattle.model.specs.declared.output.Output.TheVariants as output
+use Rattle.draw_list.specs.declared.draw.Vertex.{Vertex}
+use Rattle.draw_list.specs.declared.output.Output.{Output}
+use Rattle.draw_list.specs.declared.output.Output.TheVariants as output
 use Rattle.list_json.specs.Json.{json_of, whole, text, truth, array_of, element, elements, length_of, has_other_key}
 use Rattle.list_json.specs.Keys.{top_keys, draw_keys, output_word, cull_word, depth_test_word, NamesBlend}
-use Rattle.model.specs.Primitives.{PrimitiveListing, triangle_list, triangle_strip, quad_list, count_of_triangles, IsConvexOver}
-use Rattle.model.specs.Listing.{DrawListing, Listing, scene_of}
-use Rattle.model.specs.Picture.{picture_box}
-use Rattle.model.specs.Scene.{Scene}
+use Rattle.draw_list.specs.Primitives.{PrimitiveListing, triangle_list, triangle_strip, quad_list, count_of_triangles, IsConvexOver}
+use Rattle.draw_list.specs.Listing.{DrawListing, Listing, scene_of}
+use Rattle.draw_list.specs.Picture.{picture_box}
+use Rattle.draw_list.specs.Scene.{Scene}
 
 -- ---- numbers, words and booleans
 

@@ -6,8 +6,8 @@ use Rattle.shade.specs.declared.blend.Blend.{Blend}
 use Rattle.shade.specs.Presets.{none_blend, over_blend}
 use Rattle.shade.specs.declared.depth.DepthTest.{DepthTest}
 use Rattle.shade.specs.declared.depth.DepthTest.TheVariants as test
-use Rattle.model.specs.declared.output.Output.{Output}
-use Rattle.model.specs.declared.output.Output.TheVariants as output
+use Rattle.draw_list.specs.declared.output.Output.{Output}
+use Rattle.draw_list.specs.declared.output.Output.TheVariants as output
 
 -- The keys of the top object.
 abbrev pub top_keys : List (List ℕ)

@@ -3,8 +3,8 @@ ghost use Rattle.std.specs.Prelude.{◌≡◌, false, MatchOption};
 ghost use Rattle.list_json.specs.Json.{is_among};
 ghost use Rattle.list_json.specs.Keys.{cull_word, cull_words, depth_test_word, depth_test_words, NamesBlend, blend_words, output_word, output_words};
 
+use draw_list::Output;
 use grid::Cull;
-use model::Output;
 use shade::{Blend, DepthTest};
 
 /// The culling that a word names. Returns `None` if it is none of the words.

@@ -1,9 +1,9 @@
 -- The picture files: binary PPM and binary PGM, each in one spelling (Netpbm, ppm(5) and pgm(5)).
 use Rattle.std.specs.Prelude.{◌≡◌, ℕ, List, ◌++◌, codes, decimal}
-use Rattle.model.specs.declared.output.Output.{Output}
-use Rattle.model.specs.declared.output.Output.TheVariants.{Color, Depth}
-use Rattle.model.specs.Scene.{Scene}
-use Rattle.model.specs.Picture.{IsPicture}
+use Rattle.draw_list.specs.declared.output.Output.{Output}
+use Rattle.draw_list.specs.declared.output.Output.TheVariants.{Color, Depth}
+use Rattle.draw_list.specs.Scene.{Scene}
+use Rattle.draw_list.specs.Picture.{IsPicture}
 
 -- The header of a picture of colours: the magic number, the size in decimal digits, and the greatest value. The width comes before
 -- the height (Netpbm, ppm(5)).

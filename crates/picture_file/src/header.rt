@@ -7,7 +7,7 @@ ghost use Rattle.picture_file.specs.Writes.{WritesBytes};
 use crate::counted::Counted;
 use crate::write_all::WriteFault;
 use arrayvec::ArrayVec;
-use model::{DrawList, Output};
+use draw_list::{DrawList, Output};
 use std::io::Write;
 
 /// The length of the longest header, that of depths of 4096 by 4096, in bytes.

@@ -13,7 +13,7 @@ use Rattle.cover.specs.Rasterized.{IsRasterized}
 use Rattle.lanes.specs.declared.block_samples.BlockSamples.{BlockSamples}
 use Rattle.lanes.specs.declared.block_mask.BlockMask.{BlockMask}
 use Rattle.shade.specs.declared.placed.Placed.{Placed}
-use Rattle.planes.specs.Group.{position_in}
+use Rattle.gradients.specs.Group.{position_in}
 use Rattle.lanes.specs.Block.{stored_at, AreDrawn}
 use Rattle.lanes.specs.BlockMask.{CoversBlock, IsBlockDrawnBy, first_of, plane_of}
 use Rattle.shade.specs.declared.state.State.{State}

@@ -8,9 +8,9 @@ ghost use Rattle.raster.specs.Drawing.{LiesIn, AreAllowed, CoversMasks, DrawsMas
 
 use crate::scissor::in_scissor_of_tile;
 use crate::tile::Tile;
+use gradients::Corrections;
 use grid::SampleCount;
 use lanes::{BlockMask, BlockSamples, Fragment, Interpolants};
-use planes::Corrections;
 use shade::State;
 
 /// All pixels of a block if bit `s` of a sample mask is set, else none.

@@ -2,8 +2,8 @@
 ghost use Rattle.std.specs.Prelude.{◌≡◌, false};
 ghost use Rattle.cover.specs.Rasterized.{IsRasterized};
 
+use gradients::Corrections;
 use lanes::Interpolants;
-use planes::Corrections;
 use shade::Placed;
 
 /// The interpolants of one triangle after another, each set up at the first block that is drawn of it.

@@ -16,9 +16,9 @@ use crate::region::{Region, patch};
 use crate::scissor::holds_tile;
 use crate::tile::Tile;
 use cover::{Class, Masks, Setup, Square};
+use gradients::Corrections;
 use grid::{PixelBox, SampleCount, TileSide};
 use lanes::BlockSamples;
-use planes::Corrections;
 use shade::Placed;
 
 /// The masks of a block whose samples are all covered.

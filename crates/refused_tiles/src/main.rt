@@ -66,7 +66,7 @@ fn tiles_of(alloc: Global, bytes: &[u8]) -> Option<Tally>
     requires { length bytes.now ≤ MOST_BYTES }
 {
     let list = read(alloc, bytes).ok()?;
-    let picture = plain::render(alloc, &list).ok()?;
+    let picture = reference::render(alloc, &list).ok()?;
     drawn_tiles(alloc, &list, &picture).ok()
 }
 

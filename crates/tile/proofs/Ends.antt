@@ -5,7 +5,7 @@ use Rattle.shade.specs.declared.placed.Placed.{Placed}
 use Rattle.shade.specs.Placed.{Draws}
 use Rattle.shade.specs.Canvas.{with_alpha, colour_and_depth, keeping_alpha, CanvasDraws}
 use Rattle.shade.proofs.CanvasDrawn.{keeping_draws, keeping_stays}
-use Rattle.model.specs.Scene.{Scene}
+use Rattle.draw_list.specs.Scene.{Scene}
 use Rattle.bins.proofs.Drawn.{HasDrawn, none_drawn, one_drawn, all_drawn}
 use Rattle.raster.specs.declared.tile.Tile.{Tile}
 use Rattle.raster.specs.Samples.{IsSampleOf, planes_of, stored, AreAll}

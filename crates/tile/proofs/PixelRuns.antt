@@ -2,12 +2,12 @@
 use Rattle.std.proofs.Common.{◌≡◌, inl, inr, refl, sym, ap, ◌∙◌, ℕ, ◌+◌, ◌*◌, ◌/◌, ◌%◌, ◌<◌, ◌≤◌, List, [], ◌∷◌, ◌++◌, length, take, slice_index, slice_index_or, slice_set, get_or-set_same, get_or-set_other, Result, Ok, Err, OnOk, length-take, length-set, arith}
 use Rattle.std.proofs.lemmas.Bool.{cases_lt}
 use Rattle.lanes.specs.declared.block_samples.BlockSamples.{BlockSamples}
-use Rattle.model.specs.PixelPrefix.{IsPixelPrefix, IsPixelRun}
-use Rattle.model.specs.Picture.{pixel_at}
-use Rattle.model.specs.Scene.{Scene}
-use Rattle.model.specs.declared.output.Output.TheVariants.{Color, Depth}
-use Rattle.model.proofs.PixelPrefix.{prefix_run}
-use Rattle.model.proofs.Pixels.{same_pixel, pixel_of_part, pixel_of_three, pixel_of_two, pixel_of_colour, pixel_of_depth}
+use Rattle.draw_list.specs.PixelPrefix.{IsPixelPrefix, IsPixelRun}
+use Rattle.draw_list.specs.Picture.{pixel_at}
+use Rattle.draw_list.specs.Scene.{Scene}
+use Rattle.draw_list.specs.declared.output.Output.TheVariants.{Color, Depth}
+use Rattle.draw_list.proofs.PixelPrefix.{prefix_run}
+use Rattle.draw_list.proofs.Pixels.{same_pixel, pixel_of_part, pixel_of_three, pixel_of_two, pixel_of_colour, pixel_of_depth}
 use Rattle.raster.specs.declared.tile.Tile.{Tile}
 use Rattle.raster.specs.Samples.{place_of}
 use Rattle.tiling.specs.Pixels.{AddsPixelRun}

@@ -5,8 +5,8 @@ use Rattle.lanes.specs.declared.block_samples.BlockSamples.{BlockSamples}
 use Rattle.shade.specs.declared.sample.Sample.{Sample}
 use Rattle.shade.specs.Placed.{Meets}
 use Rattle.shade.specs.Canvas.{colour_and_depth}
-use Rattle.model.specs.Scene.{Scene}
-use Rattle.model.specs.Picture.{IsEnd}
+use Rattle.draw_list.specs.Scene.{Scene}
+use Rattle.draw_list.specs.Picture.{IsEnd}
 use Rattle.tiling.specs.Grid.{TileGrid, columns_of}
 use Rattle.bins.specs.Bin.{IsBin}
 use Rattle.raster.specs.declared.tile.Tile.{Tile}

@@ -4,8 +4,8 @@ ghost use Rattle.grid.specs.Pixels.{side_of};
 ghost use Rattle.raster.specs.Samples.{planes_of};
 ghost use Rattle.tile.specs.Picture.{AreDepthsAt};
 
+use draw_list::depth_bytes;
 use lanes::BlockSamples;
-use model::depth_bytes;
 use raster::Tile;
 
 /// The bytes of eight depths in order, from a pixel of a block on.

@@ -1,17 +1,17 @@
 //! The bytes of a tile's pixels.
 ghost use Rattle.std.specs.Prelude.{◌≡◌, ℕ, ◌+◌, ◌*◌, ◌/◌, ◌%◌, ◌<◌, ◌≤◌, ◌++◌, length, take, IfOk, OnOk};
 ghost use Rattle.grid.specs.Pixels.{side_of};
-ghost use Rattle.model.specs.PixelPrefix.{IsPixelPrefix};
-ghost use Rattle.model.specs.Picture.{IsPicturePart};
+ghost use Rattle.draw_list.specs.PixelPrefix.{IsPixelPrefix};
+ghost use Rattle.draw_list.specs.Picture.{IsPicturePart};
 ghost use Rattle.raster.specs.Samples.{planes_of};
 ghost use Rattle.raster.specs.Colours.{AreColoursAt};
 ghost use Rattle.tiling.specs.Pixels.{AddsPixelRun};
 ghost use Rattle.tile.specs.Picture.{IsShown, AreEnds, IsSameRun};
 
 use crate::depths::depths;
+use draw_list::{DrawList, Output};
 use grid::OutOfMemory;
 use lanes::BlockSamples;
-use model::{DrawList, Output};
 use raster::{Tile, colours};
 use std::alloc::Global;
 use std::simd::prelude::*;

@@ -1,7 +1,7 @@
 -- Bins that have those of some tile rows.
 use Rattle.std.proofs.Common.{rules, ◌≡◌, ap, ℕ, ◌+◌, ◌-◌, ◌*◌, ◌≤◌, Result, Ok, Err, IfOk, Vec, vec_len, arith}
 use Rattle.std.proofs.Math.Nat.{mul-le-mul_right}
-use Rattle.model.specs.Scene.{Scene}
+use Rattle.draw_list.specs.Scene.{Scene}
 use Rattle.bins.specs.Bin.{TileBins, AreBins, AreBinsFrom}
 use Rattle.bins.proofs.Binned.{has_tile_of_rows}
 use Rattle.pool.specs.Work.{RightInOrder}

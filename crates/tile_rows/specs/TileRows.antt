@@ -1,7 +1,7 @@
 -- Tile rows that are drawn together.
 use Rattle.std.specs.Prelude.{ℕ, ◌+◌, ◌-◌, ◌*◌, ◌<◌, List, IfOk, IfErr, IfSome}
 use Rattle.bins.specs.Bin.{TileBins, HasBin, AreBins, AreOfTiles}
-use Rattle.model.specs.Scene.{Scene}
+use Rattle.draw_list.specs.Scene.{Scene}
 use Rattle.tiling.specs.Grid.{TileGrid, columns_of}
 use Rattle.tiling.specs.declared.tile_pixels.TilePixels.{TilePixels}
 use Rattle.tiling.specs.TileRow.{AreTileRows}

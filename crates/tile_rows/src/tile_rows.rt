@@ -3,8 +3,8 @@ ghost use Rattle.std.specs.Prelude.{◌≡◌, ◌+◌, ◌-◌, ◌*◌, ◌<�
 ghost use Rattle.tiling.specs.Grid.{rows_of};
 
 use bins::Bins;
+use draw_list::DrawList;
 use grid::OutOfMemory;
-use model::DrawList;
 use pool::{Desks, Gate, Job, PoolFault, run_beside};
 use std::alloc::Global;
 use std::sync::Wait;

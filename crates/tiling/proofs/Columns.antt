@@ -6,11 +6,11 @@ use Rattle.std.proofs.Math.Nat.{mod-lt, div-add-mod'}
 use Rattle.std.proofs.lemmas.Int.{ints}
 use Rattle.grid.specs.Pixels.{side_of}
 use Rattle.grid.specs.declared.pixels.PixelBox.{PixelBox}
-use Rattle.model.specs.PixelPrefix.{IsPixelPrefix, IsPixelRun}
-use Rattle.model.specs.Scene.{Scene}
-use Rattle.model.specs.Picture.{IsPixel, pixel_at}
-use Rattle.model.proofs.PixelPrefix.{prefix_run, part_of_rows}
-use Rattle.model.proofs.Pixels.{bytes_of_both, same_pixel, pixel_before, pixel_behind}
+use Rattle.draw_list.specs.PixelPrefix.{IsPixelPrefix, IsPixelRun}
+use Rattle.draw_list.specs.Scene.{Scene}
+use Rattle.draw_list.specs.Picture.{IsPixel, pixel_at}
+use Rattle.draw_list.proofs.PixelPrefix.{prefix_run, part_of_rows}
+use Rattle.draw_list.proofs.Pixels.{bytes_of_both, same_pixel, pixel_before, pixel_behind}
 use Rattle.tiling.specs.Grid.{TileGrid, columns_of, rect_at, rect_of, tiles_over}
 use Rattle.tiling.specs.Pixels.{AddsPixelRun, IsPictureIn}
 use Rattle.tiling.specs.declared.tile_pixels.TilePixels.{TilePixels}

@@ -3,9 +3,9 @@ use Rattle.std.proofs.Common.{◌≡◌, ap, subst, ◌∙◌, ℕ, ◌+◌, ◌
 use Rattle.std.proofs.Math.Nat.{mul-le-mul_left}
 use Rattle.grid.specs.Pixels.{side_of}
 use Rattle.grid.specs.declared.pixels.TileSide.{TileSide}
-use Rattle.model.specs.Picture.{IsPicturePart}
-use Rattle.model.specs.Scene.{Scene}
-use Rattle.model.proofs.Parts.{part-append}
+use Rattle.draw_list.specs.Picture.{IsPicturePart}
+use Rattle.draw_list.specs.Scene.{Scene}
+use Rattle.draw_list.proofs.Parts.{part-append}
 use Rattle.tiling.specs.Grid.{TileGrid, tiles_over}
 use Rattle.tiling.specs.TileRow.{AddsTileRow, AddsTileRows}
 use Rattle.tiling.proofs.Intervals.{interval_before, interval_next}

@@ -3,7 +3,7 @@ use Rattle.std.proofs.Common.{◌≡◌, refl, sym, ap, subst, ◌∙◌, ℕ, �
 use Rattle.std.proofs.lemmas.List.{length_push, length-take, length-drop}
 use Rattle.std.proofs.lemmas.Option.{none-some, same_Some, slice_get_within}
 use Rattle.std.proofs.Math.Nat.{mod-lt, div-add-mod', mul-le-mul_left}
-use Rattle.model.specs.Scene.{Scene}
+use Rattle.draw_list.specs.Scene.{Scene}
 use Rattle.tiling.specs.Grid.{TileGrid, columns_of, rect_of, rows_of}
 use Rattle.tiling.specs.Pixels.{IsPictureIn}
 use Rattle.tiling.specs.declared.tile_pixels.TilePixels.{TilePixels}

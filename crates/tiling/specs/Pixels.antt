@@ -1,9 +1,9 @@
 -- Bytes of pixels of the picture: those in a rectangle, and those of a row of pixels.
 use Rattle.std.specs.Prelude.{◌≡◌, ℕ, ◌+◌, List, ◌++◌, pos}
 use Rattle.grid.specs.declared.pixels.PixelBox.{PixelBox}
-use Rattle.model.specs.PixelPrefix.{IsPixelRun}
-use Rattle.model.specs.Picture.{IsPicturePart}
-use Rattle.model.specs.Scene.{Scene}
+use Rattle.draw_list.specs.PixelPrefix.{IsPixelRun}
+use Rattle.draw_list.specs.Picture.{IsPicturePart}
+use Rattle.draw_list.specs.Scene.{Scene}
 
 -- The bytes of the picture in a rectangle, row by row.
 pub record IsPictureIn (l : Scene) (r : PixelBox) (bytes : List ℕ) : Type 0 where

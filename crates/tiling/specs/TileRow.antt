@@ -2,8 +2,8 @@
 use Rattle.std.specs.Prelude.{◌≡◌, ℕ, ◌+◌, ◌-◌, ◌*◌, List, ◌++◌, length, min, slice_get, Some}
 use Rattle.grid.specs.Pixels.{side_of}
 use Rattle.grid.specs.declared.pixels.TileSide.{TileSide}
-use Rattle.model.specs.Picture.{IsPicturePart}
-use Rattle.model.specs.Scene.{Scene}
+use Rattle.draw_list.specs.Picture.{IsPicturePart}
+use Rattle.draw_list.specs.Scene.{Scene}
 use Rattle.tiling.specs.Grid.{TileGrid, columns_of, rect_at}
 use Rattle.tiling.specs.declared.tile_pixels.TilePixels.{TilePixels}
 

@@ -1,6 +1,6 @@
 -- The tiles of tile rows, counted row by row.
 use Rattle.std.specs.Prelude.{◌≡◌, ℕ, ◌+◌, ◌-◌, ◌*◌, ◌/◌, ◌%◌, List, length, slice_get, Some}
-use Rattle.model.specs.Scene.{Scene}
+use Rattle.draw_list.specs.Scene.{Scene}
 use Rattle.tiling.specs.Grid.{TileGrid, columns_of}
 use Rattle.tiling.specs.declared.tile_pixels.TilePixels.{TilePixels}
 use Rattle.tiling.specs.TileRow.{IsColumn}

@@ -5,8 +5,8 @@ ghost use Rattle.tiling.specs.TileRow.{AreColumns};
 
 use crate::tile_pixels::TilePixels;
 use crate::tiling::Tiling;
+use draw_list::DrawList;
 use grid::OutOfMemory;
-use model::DrawList;
 
 /// A tile row: its tiles, from left to right, and the rows of pixels in them.
 #[derive(Drop)]
@@ -24,7 +24,7 @@ pub struct TileRow<'a> {
 }
 
 impl<'a> TileRow<'a> {
-    ghost use Rattle.model.specs.PixelPrefix.{IsPixelRun};
+    ghost use Rattle.draw_list.specs.PixelPrefix.{IsPixelRun};
     ghost use Rattle.tiling.specs.Pixels.{AddsPixelRun};
     ghost use Rattle.tiling.specs.TileRow.{tile_row_top, tile_row_height, column_left, column_width as width_of_column, IsColumn, AddsTileRow};
 

@@ -1,9 +1,9 @@
 -- The checks of a list that the caller gives.
 use Rattle.std.proofs.Common.{◌≡◌, ◌≢◌, refl, subst, inl, inr}
 use Rattle.checks.specs.Checking.{Checks}
-use Rattle.model.specs.Scene.{Scene}
-use Rattle.model.specs.declared.fault.ReadFault.{ReadFault}
-use Rattle.model.specs.declared.fault.ReadKind.TheVariants.{OutOfMemory as NoMemory}
+use Rattle.draw_list.specs.Scene.{Scene}
+use Rattle.draw_list.specs.declared.fault.ReadFault.{ReadFault}
+use Rattle.draw_list.specs.declared.fault.ReadKind.TheVariants.{OutOfMemory as NoMemory}
 use Rattle.c_abi.specs.declared.call_error.CallError.{CallError}
 use Rattle.c_abi.specs.declared.fault.Fault.{Fault}
 use Rattle.c_abi.specs.declared.status.Status.{Status}

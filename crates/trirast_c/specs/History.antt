@@ -3,19 +3,19 @@ use Rattle.std.specs.Prelude.{◌≡◌, ◌≢◌, ◌↔◌, ℕ, ◌<◌, Lis
 use Rattle.shade.specs.declared.sample.Sample.{Sample as Stored}
 use Rattle.checks.specs.Checking.{Checks, check, done}
 use Rattle.list_json.specs.Denotes.{Denotes}
-use Rattle.model.specs.Picture.{IsEnd}
-use Rattle.model.specs.Place.{IsPlace}
-use Rattle.model.specs.Scene.{Scene}
-use Rattle.model.specs.declared.place.TrianglePlace.{TrianglePlace}
+use Rattle.draw_list.specs.Picture.{IsEnd}
+use Rattle.draw_list.specs.Place.{IsPlace}
+use Rattle.draw_list.specs.Scene.{Scene}
+use Rattle.draw_list.specs.declared.place.TrianglePlace.{TrianglePlace}
 use Rattle.list_history.specs.Counts.{AreCountsOf}
 use Rattle.list_history.specs.Walk.{history_start}
 use Rattle.c_abi.specs.declared.status.Status.{Status}
 use Rattle.c_abi.specs.declared.status.Status.TheVariants.{BadStructSize, BadSample, BadPixel, BadTriangle}
-use Rattle.sample_events.specs.declared.event.SampleEvent.{SampleEvent}
-use Rattle.sample_events.specs.declared.request.HistoryRequest.{HistoryRequest}
-use Rattle.sample_events.specs.declared.sample_info.SampleInfo.{SampleInfo}
-use Rattle.sample_events.specs.History.{HasSizes, HasRequestedPixel, HasRequestedSample, IsSampleInfo}
-use Rattle.sample_events.specs.Walk.{AreEventsWritten}
+use Rattle.history_c.specs.declared.event.SampleEvent.{SampleEvent}
+use Rattle.history_c.specs.declared.request.HistoryRequest.{HistoryRequest}
+use Rattle.history_c.specs.declared.sample_info.SampleInfo.{SampleInfo}
+use Rattle.history_c.specs.History.{HasSizes, HasRequestedPixel, HasRequestedSample, IsSampleInfo}
+use Rattle.history_c.specs.Walk.{AreEventsWritten}
 use Rattle.trirast_c.specs.Texts.{text_checks}
 use Rattle.trirast_c.specs.declared.triangle.TriangleSamples.{TriangleSamples}
 

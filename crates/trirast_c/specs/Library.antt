@@ -5,8 +5,8 @@ use Rattle.grid.specs.Pixels.{side_of}
 use Rattle.grid.specs.declared.pixels.TileSide.{TileSide}
 use Rattle.checks.specs.Checking.{Checks, done, check, allocate}
 use Rattle.list_json.specs.Denotes.{Denotes}
-use Rattle.model.specs.Picture.{output_pixel_bytes}
-use Rattle.model.specs.Scene.{Scene}
+use Rattle.draw_list.specs.Picture.{output_pixel_bytes}
+use Rattle.draw_list.specs.Scene.{Scene}
 use Rattle.tiling.specs.Grid.{tiles_over}
 use Rattle.tiling.specs.TileRow.{AreTileRows}
 use Rattle.picture_file.specs.File.{header_of, IsPictureFile}

@@ -2,8 +2,8 @@
 use Rattle.std.specs.Prelude.{◌≡◌, ◌≤◌, ℕ, List, length}
 use Rattle.checks.specs.Checking.{Checks, check, allocate}
 use Rattle.checks.specs.FirstFault.{IsFirstFault}
-use Rattle.model.specs.Scene.{Scene}
-use Rattle.model.specs.declared.fault.ReadFault.{ReadFault}
+use Rattle.draw_list.specs.Scene.{Scene}
+use Rattle.draw_list.specs.declared.fault.ReadFault.{ReadFault}
 use Rattle.list_json.specs.Checks.{all_checks}
 use Rattle.list_json.specs.Denotes.{Denotes}
 use Rattle.list_json.specs.Json.{json_of}

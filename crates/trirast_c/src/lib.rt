@@ -14,11 +14,11 @@ mod tile_size;
 mod triangle;
 
 pub use c_abi::{CallError, Error};
+pub use history_c::{HistoryRequest, SampleEvent, SampleInfo};
 pub use image_info::{ImageInfo, trirast_proved_list_info};
 pub use messages::trirast_error_message;
 pub use picture::trirast_proved_list_draw;
 pub use picture_rows::trirast_proved_list_draw_rows;
-pub use sample_events::{HistoryRequest, SampleEvent, SampleInfo};
 pub use sample_history::trirast_proved_list_history;
 pub use triangle::{TriangleSamples, trirast_proved_list_triangle_samples};
 

@@ -1,6 +1,6 @@
 //! The message of an error, in the caller's buffer.
 ghost use Rattle.std.specs.Prelude.{◌≡◌, ◌+◌, ◌-◌, ◌<◌, ◌≤◌, min, length, drop, slice_index, IfSome};
-ghost use Rattle.model.specs.Fault.{kind_number as list_number_of};
+ghost use Rattle.draw_list.specs.Fault.{kind_number as list_number_of};
 
 use arrayvec::ArrayString;
 use c_abi::{Error, NONE, Status};

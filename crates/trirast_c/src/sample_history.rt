@@ -6,7 +6,7 @@ ghost use Rattle.trirast_c.specs.History.{HoldsHistory, history_checks};
 
 use crate::text::list_of;
 use c_abi::{CallError, Error, Status, report};
-use sample_events::{HistoryRequest, SampleEvent, SampleInfo, write_events};
+use history_c::{HistoryRequest, SampleEvent, SampleInfo, write_events};
 use std::alloc::Global;
 
 /// Writes the events of a sample's history at the beginning of the array, in draw order, as many as it holds, and into

@@ -2,7 +2,7 @@
 ghost use Rattle.std.specs.Prelude.{◌≡◌, IfOk};
 ghost use Rattle.checks.specs.Checking.{done};
 ghost use Rattle.list_json.specs.Denotes.{Denotes};
-ghost use Rattle.model.specs.Scene.{Scene};
+ghost use Rattle.draw_list.specs.Scene.{Scene};
 ghost use Rattle.c_abi.specs.Calls.{IsCall};
 ghost use Rattle.trirast_c.specs.Texts.{IsFirstOfText, text_checks};
 

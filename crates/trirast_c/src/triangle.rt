@@ -6,9 +6,9 @@ ghost use Rattle.trirast_c.specs.History.{HoldsCounts, samples_checks};
 
 use crate::text::list_of;
 use c_abi::{CallError, Error, Status, report};
+use draw_list::TrianglePlace;
 use grid::OutOfMemory;
 use list_history::{counts_of, number_of as number_in};
-use model::TrianglePlace;
 use std::alloc::Global;
 
 /// How many samples of the picture a triangle covers, changes and is shown by, laid out as in C.

@@ -2,7 +2,7 @@
 use Rattle.std.specs.Prelude.{◌≡◌, ◌↔◌, ℕ, ◌<◌, ◌≤◌, List, length, take, Option, Result, OnOk, IfErr, codes}
 use Rattle.std.specs.Io.KnownBytes.{Keeps, Appends}
 use Rattle.list_json.specs.Denotes.{Denotes}
-use Rattle.model.specs.Scene.{Scene}
+use Rattle.draw_list.specs.Scene.{Scene}
 use Rattle.list_history.specs.declared.sample_counts.SampleCounts.{SampleCounts}
 use Rattle.engine.specs.declared.fault.Fault.{Fault}
 use Rattle.engine.specs.declared.fault.Fault.TheVariants.{List as BadList, Pool, InputFailed, InputTooLong, WriteFailed, OutOfMemory}

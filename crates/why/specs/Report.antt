@@ -1,9 +1,9 @@
 use Rattle.std.specs.Prelude.{◌≡◌, ℕ, ◌<◌, IfSome, length, slice_index}
 use Rattle.grid.specs.Samples.{count_of}
 use Rattle.shade.specs.declared.sample.Sample.{Sample}
-use Rattle.model.specs.Picture.{IsEnd, IsColour}
-use Rattle.model.specs.Place.{IsPlace}
-use Rattle.model.specs.Scene.{Scene}
+use Rattle.draw_list.specs.Picture.{IsEnd, IsColour}
+use Rattle.draw_list.specs.Place.{IsPlace}
+use Rattle.draw_list.specs.Scene.{Scene}
 use Rattle.list_history.specs.Counts.{AreCountsOf}
 use Rattle.list_history.specs.Walk.{ListPlace}
 use Rattle.list_history.specs.declared.sample_counts.SampleCounts.{SampleCounts}

@@ -1,8 +1,8 @@
 -- The texts of reports, byte by byte but for the histories of samples.
 use Rattle.std.specs.Prelude.{ℕ, ◌-◌, ◌^◌, List, [], ◌++◌, false, codes, decimal, slice_index}
 use Rattle.std.specs.Fmt.{padded_integral, format_spec}
-use Rattle.model.specs.declared.output.Output.{Output}
-use Rattle.model.specs.declared.output.Output.TheVariants.{Color, Depth}
+use Rattle.draw_list.specs.declared.output.Output.{Output}
+use Rattle.draw_list.specs.declared.output.Output.TheVariants.{Color, Depth}
 use Rattle.list_history.specs.declared.sample_counts.SampleCounts.{SampleCounts}
 use Rattle.why.specs.declared.arguments.Asked.{Asked}
 use Rattle.why.specs.declared.arguments.AskedTriangle.{AskedTriangle}

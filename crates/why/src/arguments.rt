@@ -4,7 +4,7 @@ ghost use Rattle.clap.specs.Words.{rule_of};
 ghost use Rattle.why.specs.Arguments.{named_rule, AreTwoNumbers, IsSampleNamed, Asks, AsksForUsage};
 
 use clap::{Arg, ArgAction, Command};
-use model::TrianglePlace;
+use draw_list::TrianglePlace;
 use program_input::LineFault;
 use std::alloc::Global;
 

@@ -1,14 +1,14 @@
 //! The history of one sample, as text.
 ghost use Rattle.std.specs.Prelude.{◌<◌, IfOk};
 ghost use Rattle.grid.specs.Samples.{count_of};
-ghost use Rattle.model.specs.Picture.{IsEnd};
+ghost use Rattle.draw_list.specs.Picture.{IsEnd};
 ghost use Rattle.why.specs.Report.{IsSameSample};
 
 use crate::arguments::{Asked, Form};
 use crate::{json, table};
+use draw_list::DrawList;
 use grid::sample_at;
 use list_history::{ListEvent, ListHistory};
-use model::DrawList;
 use shade::Sample;
 use std::alloc::AllocError;
 use std::fmt::Write as _;

@@ -5,8 +5,8 @@ ghost use Rattle.why.specs.Text.{place_json, numbers_json, line, counts_text};
 
 use crate::arguments::{AskedTriangle, Form};
 use crate::text::ReportFault;
+use draw_list::DrawList;
 use list_history::{SampleCounts, counts_of, number_of};
-use model::DrawList;
 use std::alloc::{AllocError, Global};
 use std::fmt::Write as _;
 

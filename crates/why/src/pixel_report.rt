@@ -5,7 +5,7 @@ ghost use Rattle.why.specs.Text.{value_json, value_table, pixel_text};
 
 use crate::arguments::{Asked, Form};
 use crate::text::Pixel;
-use model::Output;
+use draw_list::Output;
 use std::alloc::AllocError;
 use std::fmt::Write as _;
 

@@ -6,7 +6,7 @@ ghost use Rattle.why.specs.Text.{pixel_text};
 use crate::arguments::Asked;
 use crate::asked_sample::AskedSample;
 use crate::pixel_report::push_pixel;
-use model::DrawList;
+use draw_list::DrawList;
 use shade::{MAX_SAMPLES, resolved_colour};
 use std::alloc::{AllocError, Global};
 

@@ -1,7 +1,7 @@
 //! Lists that are made without a text, of which their maker says only whether they are within the limits.
+use draw_list::{DEFAULT_CLEAR, DEFAULT_OUTPUT, DEFAULT_STATE, Target};
 use grid::{Point, SampleCount};
 use list::{Draw, DrawList, Primitives, Vertex};
-use model::{DEFAULT_CLEAR, DEFAULT_OUTPUT, DEFAULT_STATE, Target};
 use std::alloc::{AllocError, Global};
 
 /// What comes of a list of this size with these draws.

@@ -1,6 +1,6 @@
 use Rattle.std.proofs.Common.{◌≡◌, ℕ, ◌*◌, ◌<◌, length, arith, rules}
 use Rattle.std.proofs.Math.Nat.{zero-mul, mul_comm}
-use Rattle.model.specs.Scene.{Scene}
+use Rattle.draw_list.specs.Scene.{Scene}
 use Rattle.tiling.specs.Grid.{TileGrid, columns_of, rows_of, tiles_of}
 use Rattle.bins.specs.Bin.{TileBins, HasBin, AreBins}
 use Rattle.refused_tiles.proofs.drawn_tiles.Goals as goal

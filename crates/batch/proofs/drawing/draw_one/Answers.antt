@@ -1,7 +1,7 @@
 use Rattle.std.proofs.Common.{subst, take, List, ℕ, Option, Some, None, arith}
 use Rattle.std.specs.List.{range_with_len}
 use Rattle.std.proofs.lemmas.List.FromFn.{length-range_with_len}
-use Rattle.model.specs.Primitives.{triangles_of}
+use Rattle.draw_list.specs.Primitives.{triangles_of}
 use Rattle.canvas.specs.Drawing.{HaveEnds}
 use Rattle.batch.specs.Ids.{drawn_as}
 use Rattle.batch.specs.Listed.{primitives_listed}

@@ -1,7 +1,7 @@
 use Rattle.std.proofs.Common.{◌+◌, ◌≤◌, subst}
 use Rattle.std.proofs.lemmas.List.{length-map}
-use Rattle.model.specs.Primitives.{count_of_triangles}
-use Rattle.model.proofs.Triangulated.{length-triangles_of}
+use Rattle.draw_list.specs.Primitives.{count_of_triangles}
+use Rattle.draw_list.proofs.Triangulated.{length-triangles_of}
 use Rattle.canvas.specs.Drawing.{HaveEnds}
 use Rattle.batch.specs.Listed.{primitives_listed}
 use Rattle.batch.proofs.Elements.{names_seen}

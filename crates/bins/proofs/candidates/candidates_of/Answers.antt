@@ -1,6 +1,6 @@
 use Rattle.std.proofs.Common.{◌≡◌, sym, ◌∙◌, length, arith}
 use Rattle.std.proofs.lemmas.Bool.{false≢true}
-use Rattle.model.specs.Rows.{IsRowSpan}
+use Rattle.draw_list.specs.Rows.{IsRowSpan}
 use Rattle.bins.proofs.Gathering.{missed_rows}
 use Rattle.bins.proofs.InRows.{candidates_past, candidates_more}
 use Rattle.bins.proofs.candidates.candidates_of.Goals as goal

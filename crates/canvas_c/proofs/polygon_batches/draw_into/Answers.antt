@@ -11,9 +11,9 @@ use Rattle.polygons.specs.Cells.{flags_by}
 use Rattle.polygons.specs.ManyRows.{row_of}
 use Rattle.canvas.specs.declared.canvas.Canvas.{Canvas}
 use Rattle.grid.specs.Samples.{parts_of, pattern_of}
-use Rattle.painting.specs.Batches.{AreFit}
-use Rattle.painting.specs.Painting.{ArePainted, IsOriginInBand}
-use Rattle.painting.specs.Parts.{flag_columns_of, counter_columns_of}
+use Rattle.fills.specs.Batches.{AreFit}
+use Rattle.fills.specs.Painting.{ArePainted, IsOriginInBand}
+use Rattle.fills.specs.Parts.{flag_columns_of, counter_columns_of}
 use Rattle.c_abi.specs.declared.status.Status.{Status}
 use Rattle.c_abi.specs.declared.status.Status.TheVariants.{BadBatch, BadPosition, BadStructSize, BufferTooSmall}
 use Rattle.c_abi.specs.Sizes.{IsOwnSize}

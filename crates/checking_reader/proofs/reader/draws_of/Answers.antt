@@ -3,14 +3,14 @@ use Rattle.std.proofs.lemmas.Result.{err_from_is_err_and}
 use Rattle.std.proofs.lemmas.List.{map-append, drop_all}
 use Rattle.std.proofs.lemmas.List.Sums.{sum_by-append}
 use Rattle.serde_json.specs.View.{view, items_view}
-use Rattle.model.specs.declared.fault.ReadFault.{ReadFault}
+use Rattle.draw_list.specs.declared.fault.ReadFault.{ReadFault}
 use Rattle.checks.specs.FirstFault.{first_fault}
-use Rattle.model.specs.declared.fault.ReadKind.TheVariants.{OutOfMemory}
+use Rattle.draw_list.specs.declared.fault.ReadKind.TheVariants.{OutOfMemory}
 use Rattle.list_json.specs.Checks.{numbered_draw_checks, triangles_counted}
-use Rattle.model.specs.Fault.{fault_in_draw}
+use Rattle.draw_list.specs.Fault.{fault_in_draw}
 use Rattle.list_json.specs.Denotes.{IsDraw}
-use Rattle.model.specs.Primitives.{count_of_triangles}
-use Rattle.model.specs.Listing.{draw_listing, DrawListing}
+use Rattle.draw_list.specs.Primitives.{count_of_triangles}
+use Rattle.draw_list.specs.Listing.{draw_listing, DrawListing}
 use Rattle.list_json.proofs.Counts.{given_is}
 use Rattle.checking_reader.proofs.Draws.{draw_fails, draw_passes}
 use Rattle.checking_reader.proofs.ArrayElements.{one_more, all_read}

@@ -1,7 +1,7 @@
 use Rattle.std.proofs.Common.{◌≡◌, ◌≤◌, map, sum_by}
 use Rattle.list_json.specs.Denotes.{IsDraw}
-use Rattle.model.specs.Primitives.{count_of_triangles}
-use Rattle.model.specs.Listing.{draw_listing}
+use Rattle.draw_list.specs.Primitives.{count_of_triangles}
+use Rattle.draw_list.specs.Listing.{draw_listing}
 use Rattle.checking_reader.proofs.Draws.{DrawsPassed}
 use Rattle.checking_reader.proofs.ArrayElements.{Continues}
 use Rattle.checking_reader.proofs.Reached.{AllPassedTo}

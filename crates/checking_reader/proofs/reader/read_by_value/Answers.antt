@@ -1,6 +1,6 @@
 use Rattle.std.proofs.Common.{inl, inr, ap, refl, ◌∙◌}
 use Rattle.serde_json.specs.View.{view}
-use Rattle.model.specs.declared.fault.ReadFault.{ReadFault}
+use Rattle.draw_list.specs.declared.fault.ReadFault.{ReadFault}
 use Rattle.list_json.specs.Json.{json_of}
 use Rattle.list_json.specs.Checks.{all_checks}
 use Rattle.list_json.proofs.Bytes.{json_value, no_json}

@@ -1,7 +1,7 @@
 use Rattle.std.proofs.Common.{map}
 use Rattle.std.proofs.lemmas.Result.{err_from_is_err_and}
 use Rattle.serde_json.specs.View.{view, items_view}
-use Rattle.model.specs.Listing.{draw_listing}
+use Rattle.draw_list.specs.Listing.{draw_listing}
 use Rattle.checking_reader.proofs.Headed.{headed}
 use Rattle.list_json.proofs.Accepted.{listing_within}
 use Rattle.list_json.proofs.Passes.{value_passes}

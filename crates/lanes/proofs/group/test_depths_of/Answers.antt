@@ -2,7 +2,7 @@ use Rattle.std.proofs.Common.{◌+◌, ◌∙◌, get_or, sym, subst, w32}
 use Rattle.std.proofs.lemmas.Int.{to_z-of_z}
 use Rattle.std.proofs.lemmas.Simd.{get_or-replicate}
 use Rattle.shade.proofs.Values.{quotient-unique}
-use Rattle.planes.specs.Group.{position_in}
+use Rattle.gradients.specs.Group.{position_in}
 use Rattle.lanes.specs.Sources.{GivesDepth}
 use Rattle.lanes.proofs.Groups.{untested_lane, tested_as}
 use Rattle.lanes.proofs.group.test_depths_of.Goals.{in-Unused, in-Flat, in-Plane}

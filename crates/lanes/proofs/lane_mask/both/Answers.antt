@@ -1,6 +1,6 @@
 use Rattle.std.proofs.Common.{◌<◌, get_or, ap, ◌∙◌, arith, bit_and, w16, Fits}
 use Rattle.std.proofs.lemmas.Simd.{Each1-get_or}
-use Rattle.planes.proofs.Lanes.{itself, zipped}
+use Rattle.gradients.proofs.Lanes.{itself, zipped}
 use Rattle.lanes.proofs.LaneNumbers.{all_and}
 use Rattle.lanes.proofs.lane_mask.both.Goals as goal
 

@@ -1,7 +1,7 @@
 use Rattle.std.proofs.Common.{leb, get_or, replicate, ap, ◌∙◌, arith, w16}
 use Rattle.std.proofs.lemmas.Simd.{tops_compared}
 use Rattle.std.specs.Simd.Lanes.{sel_l}
-use Rattle.planes.proofs.Lanes.{itself, chosen, splat}
+use Rattle.gradients.proofs.Lanes.{itself, chosen, splat}
 use Rattle.lanes.proofs.Lanes.{high_chosen}
 use Rattle.lanes.proofs.lane_mask.choose.Goals as goal
 

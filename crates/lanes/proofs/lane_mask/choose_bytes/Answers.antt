@@ -2,8 +2,8 @@ use Rattle.std.proofs.Common.{◌≡◌, ℕ, ◌/◌, ◌<◌, List, map, leb, 
 use Rattle.std.proofs.lemmas.Simd.{tops_compared, Each1-get_or}
 use Rattle.std.proofs.lemmas.List.{map-id}
 use Rattle.std.specs.Simd.Lanes.{sel_l, zip2, Each1, top}
-use Rattle.planes.specs.Lanes.{HasLanes}
-use Rattle.planes.proofs.Lanes.{itself, zipped, chosen, splat, of_each}
+use Rattle.gradients.specs.Lanes.{HasLanes}
+use Rattle.gradients.proofs.Lanes.{itself, zipped, chosen, splat, of_each}
 use Rattle.lanes.proofs.Lanes.{high_chosen}
 use Rattle.lanes.proofs.Lanewise.{shifted}
 use Rattle.lanes.proofs.lane_mask.choose_bytes.Goals as goal

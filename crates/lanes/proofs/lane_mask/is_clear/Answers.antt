@@ -1,7 +1,7 @@
 use Rattle.std.proofs.Common.{◌≡◌, ℕ, eqb, get_or, arith, w16, IsTrue}
 use Rattle.std.proofs.lemmas.Simd.{bitmask_splat}
 use Rattle.std.proofs.lemmas.Bool.Decides.{nat_tests, Decides-eqb}
-use Rattle.planes.proofs.Lanes.{is_set}
+use Rattle.gradients.proofs.Lanes.{is_set}
 use Rattle.lanes.proofs.lane_mask.is_clear.Goals as goal
 
 zero : (n : ℕ) → IsTrue (eqb n 0) → n ≡ 0

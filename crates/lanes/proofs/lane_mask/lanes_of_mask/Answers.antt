@@ -3,8 +3,8 @@ use Rattle.std.specs.List.{range_with_len}
 use Rattle.std.specs.Simd.Lanes.{sel_l, zip2}
 use Rattle.std.proofs.lemmas.List.FromFn.{get_or-map-range_with_len}
 use Rattle.std.proofs.lemmas.Simd.{tops_compared}
-use Rattle.planes.specs.Lanes.{HasLanes}
-use Rattle.planes.proofs.Lanes.{zipped, splat}
+use Rattle.gradients.specs.Lanes.{HasLanes}
+use Rattle.gradients.proofs.Lanes.{zipped, splat}
 use Rattle.lanes.specs.Lanes.{IsMask}
 use Rattle.lanes.proofs.Lanes.{reported, not_equal, rephrased}
 use Rattle.lanes.proofs.LaneNumbers.{in_group}

@@ -3,7 +3,7 @@ use Rattle.std.specs.Simd.Lanes.{sel_l, zip2, top}
 use Rattle.std.proofs.lemmas.Simd.{tops_compared}
 use Rattle.std.proofs.lemmas.Bool.Decides.{Decides-ltb, Decides-eqb}
 use Rattle.lanes.specs.Lanes.{IsMask}
-use Rattle.planes.proofs.Lanes.{itself}
+use Rattle.gradients.proofs.Lanes.{itself}
 use Rattle.lanes.proofs.Lanes.{reported, always, never, not_equal, at_most}
 use Rattle.lanes.proofs.merging.passes_lanes.Goals.{in-Never, in-Less, in-Equal, in-LessEqual, in-Greater, in-NotEqual, in-GreaterEqual, in-Always}
 use Rattle.lanes.proofs.merging.passes_lanes.Goals as goal

@@ -1,6 +1,6 @@
 use Rattle.std.proofs.Common.{sym, subst, arith, ◌+◌, ◌*◌, ◌<◌}
 use Rattle.shade.specs.Canvas.{IsCanvasDrawnAt}
-use Rattle.planes.specs.Group.{position_in}
+use Rattle.gradients.specs.Group.{position_in}
 use Rattle.lanes.specs.Block.{stored_at, AreDrawn}
 use Rattle.lanes.proofs.LaneNumbers.{is_one, is_set}
 use Rattle.lanes.proofs.Blocks.{rows_kept, one_more, one_drawn, one_kept}

@@ -1,6 +1,6 @@
 use Rattle.std.proofs.Common.{ℕ, ◌<◌, IsBitSet, slice_index}
 use Rattle.grid.specs.Triangle.{Covers}
-use Rattle.planes.specs.Group.{position_in}
+use Rattle.gradients.specs.Group.{position_in}
 use Rattle.lanes.specs.BlockMask.{first_of}
 use Rattle.lanes_tests.proofs.blocks.covers_mask.Given as goal
 

@@ -1,6 +1,6 @@
 use Rattle.std.proofs.Common.{ℕ, ◌<◌, IsBitSet}
 use Rattle.grid.specs.Triangle.{Covers}
-use Rattle.planes.specs.Group.{position_in}
+use Rattle.gradients.specs.Group.{position_in}
 use Rattle.lanes_tests.proofs.blocks.covers_plane.Given as goal
 
 abbrev pub invariant-loop-k : goal.invariant-loop-k

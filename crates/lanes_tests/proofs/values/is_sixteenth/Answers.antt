@@ -1,6 +1,6 @@
 use Rattle.std.proofs.Common.{◌≡◌, pos, rules, w32}
 use Rattle.std.proofs.lemmas.Int.{to_z-of_z}
-use Rattle.planes.proofs.WholeValues.{sixteenth_when}
+use Rattle.gradients.proofs.WholeValues.{sixteenth_when}
 use Rattle.lanes_tests.proofs.values.is_sixteenth.Goals as goal
 
 pub returns : goal.returns

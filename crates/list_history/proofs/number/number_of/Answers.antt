@@ -1,6 +1,6 @@
 use Rattle.std.proofs.Common.{◌≡◌, ap, true, false, below_more}
 use Rattle.std.proofs.lemmas.Bool.{eq-eqb}
-use Rattle.model.specs.declared.place.TrianglePlace.{TrianglePlace}
+use Rattle.draw_list.specs.declared.place.TrianglePlace.{TrianglePlace}
 use Rattle.list_history.proofs.Numbers.{place-unique}
 use Rattle.list_history.proofs.number.number_of.Goals as goal
 

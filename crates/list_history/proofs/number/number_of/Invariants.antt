@@ -1,5 +1,5 @@
 use Rattle.std.proofs.Common.{ℕ, ◌<◌}
-use Rattle.model.specs.Place.{IsPlace}
+use Rattle.draw_list.specs.Place.{IsPlace}
 use Rattle.list_history.proofs.number.number_of.Given as goal
 
 abbrev pub invariant-loop-number : goal.invariant-loop-number

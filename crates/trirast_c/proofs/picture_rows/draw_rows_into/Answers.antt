@@ -2,7 +2,7 @@ use Rattle.std.proofs.Common.{◌≡◌, ◌≤◌, ◌+◌, ◌-◌, ◌/◌, �
 use Rattle.grid.specs.Pixels.{side_of}
 use Rattle.grid.specs.declared.pixels.TileSide.{TileSide}
 use Rattle.list_json.specs.Denotes.{Denotes}
-use Rattle.model.specs.Scene.{Scene}
+use Rattle.draw_list.specs.Scene.{Scene}
 use Rattle.engine.specs.Picture.{rows_length}
 use Rattle.trirast_c.specs.Library.{HasTileRows}
 use Rattle.trirast_c.proofs.picture_rows.draw_rows_into.Goals as goal

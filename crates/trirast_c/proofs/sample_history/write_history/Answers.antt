@@ -2,12 +2,12 @@ use Rattle.std.proofs.Common.{rules, inr}
 use Rattle.std.proofs.lemmas.Result.{err_from_is_err_and}
 use Rattle.checks.specs.Checking.{Checks, done, check}
 use Rattle.list_json.specs.Denotes.{Denotes}
-use Rattle.model.specs.Scene.{Scene}
+use Rattle.draw_list.specs.Scene.{Scene}
 use Rattle.checks.proofs.Checking.{fails_before}
 use Rattle.trirast_c.specs.Texts.{text_checks}
 use Rattle.c_abi.specs.declared.status.Status.{Status}
 use Rattle.c_abi.specs.declared.status.Status.TheVariants.{BadPixel, BadSample}
-use Rattle.sample_events.specs.History.{HasSizes, HasRequestedPixel, HasRequestedSample}
+use Rattle.history_c.specs.History.{HasSizes, HasRequestedPixel, HasRequestedSample}
 use Rattle.trirast_c.proofs.sample_history.write_history.Goals as goal
 
 pub returns-in_err-list-clause-judged : goal.returns-in_err-list-clause-judged

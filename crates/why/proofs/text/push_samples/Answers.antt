@@ -2,7 +2,7 @@ use Rattle.std.proofs.Common.{◌≡◌, refl, arith}
 use Rattle.grid.specs.Samples.{count_of}
 use Rattle.shade.specs.Mean.{sample_of}
 use Rattle.shade.proofs.Resolved.{few_samples, some_samples}
-use Rattle.model.proofs.Colours.{no_ends, one_end_more, colour_of_ends}
+use Rattle.draw_list.proofs.Colours.{no_ends, one_end_more, colour_of_ends}
 use Rattle.why.proofs.text.push_samples.Goals as goal
 
 pub loop-s-init : goal.loop-s-init

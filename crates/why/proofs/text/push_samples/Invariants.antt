@@ -1,4 +1,4 @@
-use Rattle.model.proofs.Colours.{AreEnds}
+use Rattle.draw_list.proofs.Colours.{AreEnds}
 use Rattle.why.proofs.text.push_samples.Given as goal
 
 abbrev pub invariant-loop-s : goal.invariant-loop-s

@@ -1,7 +1,7 @@
 use Rattle.std.proofs.Common.{◌∙◌, sym}
 use Rattle.std.proofs.lemmas.List.{length-map}
-use Rattle.model.specs.Primitives.{triangles_of}
-use Rattle.model.proofs.Triangulated.{length-triangles_of}
+use Rattle.draw_list.specs.Primitives.{triangles_of}
+use Rattle.draw_list.proofs.Triangulated.{length-triangles_of}
 use Rattle.batch.specs.Listed.{primitives_listed}
 use Rattle.batch.specs.Parts.{seen_from}
 use Rattle.batch.proofs.part.PartTriangles.count.Goals as goal

@@ -1,7 +1,7 @@
 use Rattle.std.proofs.Common.{◌≡◌, ◌∷◌, [], Some, length, rules, arith}
 use Rattle.json.specs.Token.{Token}
 use Rattle.json.specs.Json.{after_end_array}
-use Rattle.model.specs.Primitives.{IsConvexOver}
+use Rattle.draw_list.specs.Primitives.{IsConvexOver}
 use Rattle.fast_reader.specs.Took.{Took}
 use Rattle.fast_reader.proofs.TakenArrays.{Index, four_within, took_quad}
 use Rattle.fast_reader.proofs.index_lists.QuadReaderElementReader.take.Goals as goal

@@ -1,7 +1,7 @@
 use Rattle.std.proofs.Common.{◌+◌, ◌*◌, subst, sym, rules}
 use Rattle.grid.specs.Position.{Position}
-use Rattle.planes.specs.Multiple.{IsSixteenth}
-use Rattle.planes.proofs.WholeValues.{sample_x, sample_y}
+use Rattle.gradients.specs.Multiple.{IsSixteenth}
+use Rattle.gradients.proofs.WholeValues.{sample_x, sample_y}
 use Rattle.lanes.proofs.block_mask.BlockMask.first.Goals as goal
 
 pub returns-clause-on_screen : goal.returns-clause-on_screen

@@ -1,7 +1,7 @@
 use Rattle.std.proofs.Common.{◌∙◌, sym, subst, w32}
 use Rattle.std.proofs.lemmas.Int.{to_z-of_z}
 use Rattle.shade.proofs.Values.{quotient-unique}
-use Rattle.planes.specs.Group.{position_in}
+use Rattle.gradients.specs.Group.{position_in}
 use Rattle.lanes.specs.Sources.{GivesColour}
 use Rattle.lanes.proofs.sources.ColourSource.values.Goals as goal
 

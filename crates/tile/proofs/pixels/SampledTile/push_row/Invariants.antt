@@ -1,5 +1,5 @@
 use Rattle.std.proofs.Common.{◌+◌, ◌*◌, min}
-use Rattle.model.specs.PixelPrefix.{IsPixelPrefix}
+use Rattle.draw_list.specs.PixelPrefix.{IsPixelPrefix}
 use Rattle.tile.proofs.pixels.SampledTile.push_row.Given as goal
 
 abbrev pub invariant-loop-column : goal.invariant-loop-column

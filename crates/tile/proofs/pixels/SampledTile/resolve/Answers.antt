@@ -1,5 +1,5 @@
 use Rattle.std.proofs.Common.{◌≡◌, arith}
-use Rattle.model.proofs.PixelPrefix.{part_of_rows}
+use Rattle.draw_list.proofs.PixelPrefix.{part_of_rows}
 use Rattle.tile.proofs.pixels.SampledTile.resolve.Goals as goal
 
 pub returns : goal.returns

@@ -1,5 +1,5 @@
 use Rattle.std.proofs.Common.{◌*◌}
-use Rattle.model.specs.PixelPrefix.{IsPixelPrefix}
+use Rattle.draw_list.specs.PixelPrefix.{IsPixelPrefix}
 use Rattle.tile.proofs.pixels.SampledTile.resolve.Given as goal
 
 abbrev pub invariant-loop-row : goal.invariant-loop-row

@@ -1,6 +1,6 @@
 use Rattle.std.proofs.Common.{rules, refl, ap, ap₂, ℕ, ◌+◌, ◌*◌, ◌≤◌, length, ◌∙◌}
-use Rattle.model.specs.Picture.{output_pixel_bytes}
-use Rattle.model.proofs.PixelPrefix.{part_run, row_within}
+use Rattle.draw_list.specs.Picture.{output_pixel_bytes}
+use Rattle.draw_list.proofs.PixelPrefix.{part_run, row_within}
 use Rattle.tiling.proofs.tile_row.TileRow.row_of.Goals as goal
 
 pub slice_bounds-result-end : goal.slice_bounds-result-end

@@ -1,6 +1,0 @@
-use Rattle.std.proofs.Common.{arith}
-use Rattle.cursor.proofs.Eights.{others_mask}
-use Rattle.cursor.proofs.row.others_mask.Goals as goal
-
-pub returns : goal.returns
-returns c = others_mask 64 c.args.offsets c.requires (omega arith)

@@ -1,7 +1,0 @@
-use Rattle.cursor.proofs.Rows.{space_taken}
-use Rattle.cursor.proofs.row.pass_gap.Goals as goal
-
-pub returns-in-Some-clause-same : goal.returns-in-Some-clause-same
-returns-in-Some-clause-same c =
-    let gap = c.in-Some.ensures in
-    space_taken c.args.bytes.now c.args.ahead.at c.in-Some.behind.at gap.0 gap.1 gap.2

@@ -1,0 +1,17 @@
+use Rattle.std.proofs.Common.{◌≡◌, ◌∷◌, Some, refl, rules, arith}
+use Rattle.json.specs.Token.{begin_array}
+use Rattle.json.specs.Json.{after_end_array}
+use Rattle.json_tokens.proofs.Rows.{at_64_bits}
+use Rattle.json_tokens.proofs.cursor.Cursor.take_seven_slowly.Goals as goal
+
+pub returns : goal.returns
+returns c =
+    let opens : c.args.self.now ≡ begin_array ∷ c.take_begin_array.new.self = search rules in
+    let closes : after_end_array c.take_natural-5.new.self ≡ Some c.take_end_array.new.self = grind arith in
+    record {
+      first = _;
+      last = _;
+      opens = opens;
+      integers = (_, at_64_bits _ _ _ c.in_ok-first.ensures, (_, at_64_bits _ _ _ c.in_ok-second.ensures, (_, c.in_ok-third.ensures, (_, c.in_ok-fourth.ensures, (_, c.in_ok-fifth.ensures, (_, c.in_ok-sixth.ensures, (_, c.in_ok-seventh.ensures, refl)))))));
+      closes = closes;
+    }

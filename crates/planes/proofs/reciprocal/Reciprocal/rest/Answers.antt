@@ -1,7 +1,0 @@
-use Rattle.planes.proofs.Exactness.{rest_is}
-use Rattle.planes.proofs.reciprocal.Reciprocal.rest.Goals as goal
-
-pub returns : goal.returns
-returns c =
-    let r = c.args.self in
-    rest_is c.args.bits r.area c.args.number c.args.quotient r.small c.requires.below
