@@ -50,6 +50,12 @@
 #include <stddef.h>
 #include <stdint.h>
 
+/* C++ need not warn of the casts of C in what is inline here. */
+#if defined(__cplusplus) && defined(__GNUC__)
+#pragma GCC diagnostic push
+#pragma GCC diagnostic ignored "-Wold-style-cast"
+#endif
+
 #ifdef __cplusplus
 extern "C" {
 #endif
@@ -77,7 +83,7 @@ uint32_t trirast_interface(void);
 /* end of stack */
 
 /* No index: what the error names is not in a draw, or no element. */
-#define TRIRAST_NONE ((size_t)-1)
+#define TRIRAST_NONE SIZE_MAX
 
 /* generated: message_size */
 /* Bytes that are enough for each message of trirast_error_message with its zero byte. */
@@ -230,7 +236,10 @@ typedef enum trirast_topology {
     TRIRAST_TOPOLOGY_QUADS = 2      /* strictly convex quads, four indices each */
 } trirast_topology;
 
-/* Which triangles are dropped. Front-facing ones run clockwise on the screen. */
+/* Which triangles are dropped. Front-facing ones run clockwise on the screen, as it is seen: there y goes down, so
+ * (bx - ax) * (cy - ay) - (by - ay) * (cx - ax) is positive. Before trirast_clip.h y goes up, and the same number of the
+ * same triangles is negative. So of a model whose outer sides run counter-clockwise as they are seen, as OBJ files and
+ * OpenGL have them, TRIRAST_CULL_FRONT drops the inner sides, and TRIRAST_CULL_BACK the outer ones. */
 typedef enum trirast_cull {
     TRIRAST_CULL_NONE = 0,
     TRIRAST_CULL_FRONT = 1, /* front-facing ones */
@@ -942,7 +951,11 @@ trirast_status trirast_canvas_store(trirast_canvas *canvas, uint32_t sample, tri
 /* The entries of a tile of a canvas with so many samples a pixel (1, not 0): 64 blocks of 8 by 8 pixels, row by row; in
  * a block sample index by sample index; of each the 64 pixels, row by row. So entry (b * samples + s) * 64 + k is of
  * sample s of the pixel in column 8 * (b % 8) + k % 8 and row 8 * (b / 8) + k / 8 of the tile. */
+#ifdef __cplusplus
+#define TRIRAST_TILE_ENTRIES(samples) (4096 * static_cast<size_t>(samples))
+#else
 #define TRIRAST_TILE_ENTRIES(samples) (4096 * (size_t)(samples))
+#endif
 
 /* Writes the ids of all samples of one tile, red + 256 * green + 65536 * blue each, those of pixels beside the picture
  * too. If all blocks of the tile are stored as cleared and have one id, as after trirast_canvas_clear, only that entry
@@ -1357,6 +1370,10 @@ static inline trirast_status trirast_checked_canvas_draw_polygon_ids(trirast_can
 
 #define trirast_canvas_draw_ids trirast_checked_canvas_draw_ids
 #define trirast_canvas_draw_polygon_ids trirast_checked_canvas_draw_polygon_ids
+#endif
+
+#if defined(__cplusplus) && defined(__GNUC__)
+#pragma GCC diagnostic pop
 #endif
 
 #endif

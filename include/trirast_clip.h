@@ -47,6 +47,12 @@
 
 #include "trirast.h"
 
+/* C++ need not warn of the casts of C in what is inline here. */
+#if defined(__cplusplus) && defined(__GNUC__)
+#pragma GCC diagnostic push
+#pragma GCC diagnostic ignored "-Wold-style-cast"
+#endif
+
 #if defined(__FAST_MATH__)
 #error "trirast_clip.h: with -ffast-math triangles would not fit together along their edges"
 #endif
@@ -519,5 +525,9 @@ static inline trirast_clip_status trirast_clip_triangles(const trirast_clip *cli
     }
     return trirast_clipping_add_triangles(&view, positions, position_count, indices, triangles, out);
 }
+
+#if defined(__cplusplus) && defined(__GNUC__)
+#pragma GCC diagnostic pop
+#endif
 
 #endif

@@ -58,9 +58,9 @@ inline void enlarge(Clipped &arrays, std::size_t positions, std::size_t cuts, st
 
 inline void check_clip(trirast_clip_status status) {
     const char *text = trirast_clip_status_string(status);
-    if (status == TRIRAST_CLIP_BAD_INDEX) throw std::out_of_range(text);
-    if (status == TRIRAST_CLIP_TOO_MANY) throw std::length_error(text);
-    if (status != TRIRAST_CLIP_OK) throw std::invalid_argument(text);
+    if (status == TRIRAST_CLIP_BAD_INDEX) raise(std::out_of_range(text));
+    if (status == TRIRAST_CLIP_TOO_MANY) raise(std::length_error(text));
+    if (status != TRIRAST_CLIP_OK) raise(std::invalid_argument(text));
 }
 
 } // namespace detail

@@ -44,6 +44,12 @@
 #include "trirast.h"
 #include "trirast_clip.h"
 
+/* C++ need not warn of the casts of C in what is inline here. */
+#if defined(__cplusplus) && defined(__GNUC__)
+#pragma GCC diagnostic push
+#pragma GCC diagnostic ignored "-Wold-style-cast"
+#endif
+
 #if defined(__FAST_MATH__)
 #error "trirast_shade.h: with -ffast-math no bound of an error holds"
 #endif
@@ -480,5 +486,9 @@ static inline trirast_status trirast_shade_rows(trirast_canvas *canvas, const tr
             status = trirast_shade_tile(canvas, column, row, shade, entries, count);
     return status;
 }
+
+#if defined(__cplusplus) && defined(__GNUC__)
+#pragma GCC diagnostic pop
+#endif
 
 #endif

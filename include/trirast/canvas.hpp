@@ -64,7 +64,7 @@ public:
         canvas.samples = options.samples ? options.samples : 1;
         canvas.channels = options.alpha ? 4 : 3, canvas.origin_x = options.origin.x, canvas.origin_y = options.origin.y;
         const std::size_t bytes = trirast_canvas_size(&canvas);
-        if (bytes == 0) throw Error(TRIRAST_STATUS_BAD_CANVAS, detail::canvas_values(canvas));
+        if (bytes == 0) detail::raise(Error(TRIRAST_STATUS_BAD_CANVAS, detail::canvas_values(canvas)));
         memory_ = detail::memory_for_samples(bytes);
         detail::check(trirast_canvas_init(&canvas, memory_.get(), bytes));
         detail::check(trirast_canvas_clear(&canvas, nullptr));

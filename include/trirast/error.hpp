@@ -4,11 +4,22 @@
 
 #include <cstddef>
 #include <cstdint>
+#include <cstdio>
+#include <cstdlib>
+#include <exception>
 #include <optional>
 #include <stdexcept>
 #include <string>
 
 #include "../trirast.h"
+
+/* 0 if the compiler has no exceptions (-fno-exceptions): then a call that would throw prints what it would throw, and
+ * aborts. */
+#if defined(__cpp_exceptions) || defined(_CPPUNWIND)
+#define TRIRAST_EXCEPTIONS 1
+#else
+#define TRIRAST_EXCEPTIONS 0
+#endif
 
 namespace trirast {
 
@@ -64,28 +75,54 @@ private:
 
 namespace detail {
 
+/* Throws an error; without exceptions prints it, and aborts. */
+template <class Thrown>
+[[noreturn]] void raise(const Thrown &error) {
+#if TRIRAST_EXCEPTIONS
+    throw error;
+#else
+    std::fprintf(stderr, "trirast: %s\n", error.what());
+    std::abort();
+#endif
+}
+
+/* Makes a call. Returns what it has thrown, if it has. */
+template <class Call>
+std::exception_ptr thrown_by(const Call &call) noexcept {
+#if TRIRAST_EXCEPTIONS
+    try {
+        call();
+    } catch (...) {
+        return std::current_exception();
+    }
+#else
+    call();
+#endif
+    return nullptr;
+}
+
 inline void check(trirast_status status) {
-    if (status != TRIRAST_STATUS_OK) throw Error(status);
+    if (status != TRIRAST_STATUS_OK) raise(Error(status));
 }
 
 /* values(status) is asked for the values only if the call failed. */
 template <class Values>
 void check(trirast_status status, const Values &values) {
-    if (status != TRIRAST_STATUS_OK) throw Error(status, values(status));
+    if (status != TRIRAST_STATUS_OK) raise(Error(status, values(status)));
 }
 
 /* Makes a call that writes an error. */
 template <class Call>
 void check_call(Call call) {
     trirast_error error{};
-    if (call(&error) != TRIRAST_STATUS_OK) throw Error(error);
+    if (call(&error) != TRIRAST_STATUS_OK) raise(Error(error));
 }
 
 /* values(error) is asked for the values only if the call failed. */
 template <class Call, class Values>
 void check_call(Call call, const Values &values) {
     trirast_error error{};
-    if (call(&error) != TRIRAST_STATUS_OK) throw Error(error, values(error));
+    if (call(&error) != TRIRAST_STATUS_OK) raise(Error(error, values(error)));
 }
 
 }  // namespace detail

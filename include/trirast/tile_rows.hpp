@@ -89,11 +89,7 @@ public:
         std::vector<std::thread> started;
         started.reserve(threads < end() - first() ? threads : end() - first());
         const auto start = [&started](const std::function<void()> &task) {
-            try {
-                started.emplace_back(task);
-            } catch (...) {
-                task();
-            }
+            if (detail::thrown_by([&] { started.emplace_back(task); })) task();
         };
         const auto wait = [&started] {
             for (std::thread &thread : started) thread.join();
@@ -109,11 +105,7 @@ public:
         std::vector<TileRows> parts = split(threads);
         std::vector<std::exception_ptr> failed(parts.size());
         const auto run = [&parts, &failed, &work](std::size_t k) {
-            try {
-                work(parts[k]);
-            } catch (...) {
-                failed[k] = std::current_exception();
-            }
+            failed[k] = detail::thrown_by([&] { work(parts[k]); });
         };
         /* All of them are there before the first is started, so that memory does not run out between. */
         std::vector<std::function<void()>> tasks;

@@ -10,7 +10,7 @@ TYPES = {
     "int32_t": "i32", "int64_t": "i64", "size_t": "usize",
 }
 # Numbers of the header that are not written in digits, as the crate writes them.
-WORDS = {"((size_t)-1)": "usize::MAX"}
+WORDS = {"SIZE_MAX": "usize::MAX"}
 # Calls that the plain ones make for those who program in C, and what they pass.
 PROVED = "trirast_proved_"
 
@@ -48,7 +48,7 @@ def in_c(header: str) -> dict[str, str]:
     plain = header.partition("#ifdef TRIRAST_CHECKS")[0]
     text = re.sub(r"\s+", " ", re.sub(r"/\*.*?\*/", "", plain, flags=re.DOTALL))
     enums = enumerations(text)
-    found = dict(re.findall(r"(?:#define )?\b(TRIRAST_\w+) (?:= )?(\d+|\(\(size_t\)-1\))(?=[ ,])", text))
+    found = dict(re.findall(r"(?:#define )?\b(TRIRAST_\w+) (?:= )?(\d+|SIZE_MAX)(?=[ ,])", text))
     found = {name: WORDS.get(number, number) for name, number in found.items()}
     for members, name in re.findall(r"typedef struct \w+ \{([^{}]*)\} (\w+);", text):
         if not name.startswith(PROVED):

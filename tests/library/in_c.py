@@ -4,6 +4,7 @@ from __future__ import annotations
 
 import os
 import re
+import signal
 import subprocess
 from typing import Iterator, Sequence
 
@@ -11,6 +12,7 @@ from tools import places
 from tests.cases import MAX_SECONDS, Case, MissingError, case, must
 from tests.library import sanitized
 from tests.library.commands import OUT, SHARED, WARNINGS, must_be_silent, need, run
+from tools.packaging import sizes
 from tools.places import INCLUDE, LEVEL, LIB, SECOND_LEVEL, SHARED_LIBRARY, STATIC_LIBRARY, TOP
 
 SOURCES = os.path.join(TOP, "tests", "library")
@@ -40,16 +42,75 @@ OF_THE_LINKER = {
 OF_THE_C_LIBRARY = {"malloc", "realloc", "free", "memcpy", "memmove", "memset", "memcmp", "bcmp"}
 
 
+# What many programs in C++ are compiled by: warnings of their own, and without exceptions.
+CPP_WARNINGS = ("-Wold-style-cast", "-Wshadow", "-Wnon-virtual-dtor", "-Woverloaded-virtual")
+WITHOUT = ("-fno-exceptions", "-fno-rtti")
+
+
 # ---- The header and the libraries
 
 
-def check_header(compiler: str, language: str, standard: str, header: str = "trirast.h") -> None:
+def check_header(compiler: str, language: str, standard: str, header: str = "trirast.h", *flags: str) -> None:
     """A header compiles without a warning, also if it is included twice."""
     command = [
-        need(compiler), f"-std={standard}", *WARNINGS, "-Wconversion", "-fsyntax-only", "-I", INCLUDE, "-x", language,
-        "-",
+        need(compiler), f"-std={standard}", *WARNINGS, "-Wconversion", *flags, "-fsyntax-only", "-I", INCLUDE, "-x",
+        language, "-",
     ]
     run(command, input=2 * f"#include <{header}>\n".encode())
+
+
+# Macros with a cast, which is warned of where they are used.
+MACROS = '''
+#include <trirast_shade.h>
+size_t entries = TRIRAST_TILE_ENTRIES(4u), none = TRIRAST_NONE;
+trirast_blend over = TRIRAST_BLEND_OVER;
+'''
+
+# Makes what is a template, and then asks for a canvas that there is not.
+WITHOUT_EXCEPTIONS = '''
+#include <trirast_shade.hpp>
+int main() {
+    trirast::Canvas canvas({64, 128});
+    const trirast_vertex corners[3] = {{0, 0, 0, 0, 0, 0, 0, 0}, {9, 0, 0, 0, 0, 0, 0, 0}, {0, 9, 0, 0, 0, 0, 0, 0}};
+    canvas.draw(corners, {}, {}, 2);
+    canvas.share(2, [](trirast::TileRows &rows) { rows.clear({255, 255, 255}); });
+    trirast::Clipped seen;
+    trirast::Clip clip{};
+    clip.width = 64, clip.height = 128;
+    trirast::clip_triangles(clip, {}, {}, seen);
+    const auto shader = [](const trirast::Fragments &, trirast::Colors &out) { out = {1.0f, 2.0f, 3.0f}; };
+    trirast::shade(canvas, trirast::ShadeTriangles(seen), trirast::Rate::pixel, {0, 0, 0}, shader);
+    return trirast::Canvas({0, 1}).width() == 0;
+}
+'''
+
+
+def check_macros(compiler: str) -> None:
+    """What the headers in C define is used from C++ without a warning."""
+    flags = ["-std=c++11", *WARNINGS, "-Wconversion", *CPP_WARNINGS, "-fsyntax-only"]
+    run([need(compiler), *flags, "-I", INCLUDE, "-x", "c++", "-"], input=MACROS.encode())
+
+
+def check_without_exceptions(compiler: str) -> None:
+    """A program without exceptions and types at run time compiles, and a call that would throw prints why and
+    aborts."""
+    program = os.path.join(OUT, f"without-exceptions-{compiler}")
+    flags = ["-std=c++17", *WARNINGS, "-Wconversion", *CPP_WARNINGS, *WITHOUT, "-I", INCLUDE, "-pthread"]
+    run([need(compiler), *flags, "-x", "c++", "-", "-o", program, "-x", "none", STATIC_LIBRARY, "-lm"],
+        input=WITHOUT_EXCEPTIONS.encode())
+    done = subprocess.run([program], stderr=subprocess.PIPE, timeout=MAX_SECONDS)
+    must(done.returncode == -signal.SIGABRT, f"status {done.returncode}")
+    wanted = b"trirast: no such canvas: 1 to 4096 pixels a side and 1, 2, 4, 8 or 16 samples a pixel, and not 0 by 1 and 1"
+    must(done.stderr.strip() == wanted, done.stderr.decode())
+
+
+def check_sizes() -> None:
+    """The page's sizes of the libraries are within a twentieth of what they are."""
+    stated, found = sizes.stated(), sizes.measured()
+    must(
+        len(stated) == len(found) and all(abs(a - b) <= b // 20 for a, b in zip(stated, found)),
+        f"{sizes.PAGE} states {stated} bytes, but they are {found}: python3 -m tools.packaging.sizes --write",
+    )
 
 
 def symbols(path: str, *flags: str, tool: str) -> set[str]:
@@ -106,6 +167,7 @@ def check_release() -> str:
 
 def library_cases() -> Iterator[Case]:
     yield case("the header has the repository's release", check_release)
+    yield case("the page has the sizes of the libraries", check_sizes)
     for compiler in ("gcc", "clang"):
         for standard in ("c99", "c11", "c17"):
             yield case(f"header as {standard} by {compiler}", check_header, compiler, "c", standard)
@@ -116,6 +178,16 @@ def library_cases() -> Iterator[Case]:
             yield case(
                 f"trirast.hpp as {standard} by {compiler}", check_header, compiler, "c++", standard, "trirast.hpp"
             )
+        for path in places.files("include", "**", "*.h*"):
+            name = os.path.relpath(path, "include")
+            standard = "c++11" if path.endswith(".h") else "c++17"
+            for flags in (CPP_WARNINGS, WITHOUT, ("-DTRIRAST_CHECKS", *CPP_WARNINGS)):
+                yield case(
+                    f"{name} by {compiler}: {' '.join(flags)}", check_header, compiler, "c++", standard, name, *flags,
+                    is_long=flags[0].startswith("-D"),
+                )
+        yield case(f"macros in C++ by {compiler}", check_macros, compiler)
+        yield case(f"without exceptions by {compiler}", check_without_exceptions, compiler)
     for path, flags in ((SHARED_LIBRARY, ("-D",)), (STATIC_LIBRARY, ()), (SECOND_LEVEL, ("-D",))):
         name = os.path.relpath(path, LIB)
         yield case(f"{name} shows the calls of the header alone", check_exports, path, *flags)
