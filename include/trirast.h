@@ -236,10 +236,10 @@ typedef enum trirast_topology {
     TRIRAST_TOPOLOGY_QUADS = 2      /* strictly convex quads, four indices each */
 } trirast_topology;
 
-/* Which triangles are dropped. Front-facing ones run clockwise on the screen, as it is seen: there y goes down, so
- * (bx - ax) * (cy - ay) - (by - ay) * (cx - ax) is positive. Before trirast_clip.h y goes up, and the same number of the
- * same triangles is negative. So of a model whose outer sides run counter-clockwise as they are seen, as OBJ files and
- * OpenGL have them, TRIRAST_CULL_FRONT drops the inner sides, and TRIRAST_CULL_BACK the outer ones. */
+/* Which triangles are dropped. Front-facing ones run clockwise as they are seen on the screen: y goes down there, and
+ * (bx - ax) * (cy - ay) - (by - ay) * (cx - ax) is above 0. Where y goes up, as in trirast_clip.h, that number of the
+ * same triangles is below 0. If the outer sides of a model run counter-clockwise, as in OBJ files and OpenGL,
+ * TRIRAST_CULL_FRONT drops the inner sides, and TRIRAST_CULL_BACK the outer ones. */
 typedef enum trirast_cull {
     TRIRAST_CULL_NONE = 0,
     TRIRAST_CULL_FRONT = 1, /* front-facing ones */
