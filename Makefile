@@ -12,6 +12,7 @@
 #   make install   program, manual page, headers, libraries, pkg-config and CMake files and schema below PREFIX (an absolute path,
 #                  /usr/local if not given), behind DESTDIR where that is given; make uninstall takes them away.
 #                  The program is installed for both levels of x86-64, and the loader takes that of the processor
+#   make platforms the library for Windows and macOS on x86-64 and ARM64, and for Linux on RISC-V, from the same proved build: lib/platforms/
 #   make web       the coverage explorer for browsers, in web/out, as python3 -m http.server -d web/out serves it
 #   make clean     remove what this file made; what rt keeps in crates/*/out/ stays
 #
@@ -187,8 +188,13 @@ $(OBJECTS:%/trirast.o=%/calls.o): packaging/calls.c include/trirast.h
 
 $(ARCHIVE) $(CANVAS_ARCHIVE): crates/%: $(SOURCES)
 	@$(KIT)
-	$(if $(OVER_RT_CI),$(PYTHON) -m tools.packaging.archive $(@F:lib%.a=%) x86-64-v2 --rt $(RT) -o $@,cd $(@D:%/out=%) && $(RT) lib)
-	touch $@
+	$(if $(OVER_RT_CI),$(PYTHON) -m tools.packaging.archive $(@F:lib%.a=%) x86-64-v2 --module $(MODULE) --rt $(RT) -o $@,\
+	    cd $(@D:%/out=%) && $(RT) lib)
+	touch $@ $(if $(OVER_RT_CI),$(MODULE))
+
+# The LLVM module of which an archive was made; `make platforms` builds from it.
+$(ARCHIVE) $(CANVAS_ARCHIVE): MODULE = lib/modules/$(FIRST_LEVEL)/$(@F:lib%.a=%).ll
+lib/aarch64/trirast_c.a lib/aarch64/canvas_c.a: MODULE = lib/modules/aarch64/$(@F:.a=.ll)
 
 # The same proved crates for another processor, over what rt lib has kept.
 CORES := $(foreach folder,lib/$(LEVEL) lib/aarch64,$(folder)/trirast_c.a $(folder)/canvas_c.a)
@@ -196,7 +202,7 @@ $(filter %/trirast_c.a,$(CORES)): $(ARCHIVE)
 $(filter %/canvas_c.a,$(CORES)): $(CANVAS_ARCHIVE)
 $(CORES):
 	@mkdir -p $(@D)
-	$(PYTHON) -m tools.packaging.archive $(basename $(@F)) $(notdir $(@D)) --rt $(RT) -o $@
+	$(PYTHON) -m tools.packaging.archive $(basename $(@F)) $(notdir $(@D)) $(MODULE:%=--module %) --rt $(RT) -o $@
 
 # For ARM64 the tools of a cross compiler, and a heap in C: the toolchain's own is for x86-64.
 CROSS = aarch64-linux-gnu-
@@ -289,6 +295,7 @@ uninstall:
 	    "$(DESTDIR)$(PREFIX)/$(folder)") 2> /dev/null || true
 
 include packaging/web.mk
+include packaging/platforms.mk
 
 clean:
 	rm -rf $(MADE_FOLDERS) .mypy_cache

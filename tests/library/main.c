@@ -314,8 +314,11 @@ int main(int count, char **arguments) {
     } ways[] = {
         {"pictures", compare_pictures},   {"rows", compare_rows},           {"buffers", compare_buffers},
         {"refused", compare_refused},     {"odd", compare_odd_lists},       {"messages", compare_messages},
-        {"threads", compare_threads},     {"stack", compare_stack},         {"canvases", compare_canvases},
-        {"large", compare_large_batches}, {"histories", compare_histories},
+        {"threads", compare_threads},     {"canvases", compare_canvases},   {"large", compare_large_batches},
+        {"histories", compare_histories},
+#ifndef _WIN32
+        {"stack", compare_stack},
+#endif
 #ifdef WRAPPED
         {"memory", compare_memory},
 #endif

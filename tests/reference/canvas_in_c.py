@@ -9,15 +9,17 @@ from functools import lru_cache
 from typing import Any, Iterable, Sequence
 
 from conformance.blending import FACTORS, OPERATIONS
-from tests.library.commands import WARNINGS, need, run
+from tests.library.commands import WARNINGS
 from tests.library.lists import CULLS, DEPTH_TESTS, indices_of, topology_of
+from tests.library.runners import RUNNERS
 from tools.draw_list import Draw, DrawList
-from tools.places import INCLUDE, OUT, STATIC_LIBRARY, TOP
+from tools.places import OUT, TOP
 from tests.reference import blending
 
 SOURCE = os.path.join(TOP, "tests", "reference", "canvas_in_c.c")
-PROGRAM = os.path.join(OUT, "compare", "canvas_in_c")
 EVERY_SAMPLE = 65535
+# The platform for which the program is built, of those in tests/library/runners.py: `--on` sets another.
+platform = "linux-x86_64"
 
 
 def numbers_of_blend(given: Any) -> Iterable[int]:
@@ -52,9 +54,9 @@ def numbers_of_batch(batch: Sequence[Draw]) -> Iterable[int]:
 @lru_cache(maxsize=None)
 def program() -> subprocess.Popen[bytes]:
     """The program, which is built and started once."""
-    os.makedirs(os.path.dirname(PROGRAM), exist_ok=True)
-    run([need("gcc"), "-std=c11", "-O2", *WARNINGS, "-I", INCLUDE, "-pthread", "-o", PROGRAM, SOURCE, STATIC_LIBRARY])
-    return subprocess.Popen([PROGRAM], stdin=subprocess.PIPE, stdout=subprocess.PIPE)
+    path = os.path.join(OUT, "compare", f"canvas_in_c-{platform}.exe")
+    RUNNERS[platform].build(path, [SOURCE], ["-std=gnu11", "-O2", *WARNINGS])
+    return subprocess.Popen(RUNNERS[platform].command(path), stdin=subprocess.PIPE, stdout=subprocess.PIPE)
 
 
 def read(count: int) -> bytes:

@@ -1,15 +1,15 @@
 """Compares canvases with the slow reference renderer, sample by sample, on generated draw lists, and with the program.
 
-    python3 -m tests.reference.compare_canvas [--lists 1000] [--seed 1] [--samples 1 2 4 8 16]
+    python3 -m tests.reference.compare_canvas [--lists 1000] [--seed 1] [--samples 1 2 4 8 16] [--on PLATFORM]
 
 Each list of tests/reference/generated_lists.py has one of these numbers of samples a pixel, alpha or none, masks of 16
 bits and any blend equations (tests/reference/blending.py). It is split at random into batches, one triangle a batch
 among them, and drawn on a canvas by some threads, with and without a window, by the Python package and by a program in
-C. Some batches have no indices, but the vertices of each triangle in their order, and those in C have vertices with
-strides. Every pixel, with colours as they are stored and divided by alpha, and of every sample the colour, alpha, the
-depth and the id of the last triangle that passes there, is compared with the reference's; with one or four samples, and
-no other blending than a list has, every pixel and depth also with the program's. Exit status 1 on any difference; the
-list is then left in out/compare/.
+C, with --on for another platform, by Wine or qemu. Some batches have no indices, but the vertices of each triangle in
+their order, and those in C have vertices with strides. Every pixel, with colours as they are stored and divided by
+alpha, and of every sample the colour, alpha, the depth and the id of the last triangle that passes there, is compared
+with the reference's; with one or four samples, and no other blending than a list has, every pixel and depth also with
+the program's. Exit status 1 on any difference; the list is then left in out/compare/.
 """
 
 from __future__ import annotations
@@ -27,6 +27,7 @@ from tests.reference import canvas_in_c, generated_lists, renderer
 from tools.draw_list import Draw, DrawList, encode, triangles_of
 from tests.library.commands import PACKAGE_ENVIRONMENT
 from tests.library.lists import indices_of
+from tests.library.runners import RUNNERS
 from tools.places import PROGRAM, SHARED_LIBRARY, TOP, is_built
 
 LISTS = 1000
@@ -336,7 +337,11 @@ def main() -> int:
     parser.add_argument(
         "--samples", type=int, nargs="+", choices=counts, default=counts, help="samples of a pixel, list after list"
     )
+    parser.add_argument(
+        "--on", choices=RUNNERS, default=canvas_in_c.platform, help="the platform of the program in C (default here)"
+    )
     options = parser.parse_args()
+    canvas_in_c.platform = options.on
     status = run_with_package("tests.reference.compare_canvas")
     return compare_lists(options.lists, options.seed, list(options.samples)) if status is None else status
 

@@ -21,6 +21,7 @@ from tools.places import write_text
 BUILDS = {
     "program": ("bin/trirast",),
     "library": ("library",),
+    "platforms": ("platforms",),
     "why": ("bin/trirast_why",),
     "installed": ("lib/stub/trirast", "lib/x86-64-v3/program.so"),
     "readers": ("bin/refused_tiles", "bin/list_bench"),
@@ -223,10 +224,11 @@ CHECKS = (
     ),
     Check(
         name="check-library",
-        about="the library, the header, the packages for Python and Rust, and the examples, against the program",
-        command="pytest tests/library", seconds=350,
-        long="-m 'long or not long'", long_seconds=390,
-        runs=INSTALLATION, needs=COMPILER,
+        about="the library, the header, the packages for Python and Rust, and the examples, against the program, also "
+        "by Wine and qemu",
+        command="pytest tests/library", seconds=400,
+        long="-m 'long or not long'", long_seconds=440,
+        runs=(*INSTALLATION, "platforms"), needs=COMPILER,
     ),
     Check(
         name="pages",

@@ -1,11 +1,11 @@
 """Builds the archives of the library for C over the libraries that were proved before, so that nothing is proved twice.
 
     python3 -m tools.packaging.archive trirast_c|canvas_c|trirast_cli x86-64-v2|x86-64-v3|aarch64|wasm64 -o PATH
-        [--rt rt]
+        [--module PATH.ll] [--rt rt]
 
 `make library` and `make web` run this for a processor for which `rt lib` has not built, since `rt lib` has one place
 for its archive. Of the program it builds the object file, without what the toolchain brings in C for x86-64 alone:
-`make install` links it.
+`make install` links it. With --module the LLVM module is kept of which clang makes the archive: module.py says how.
 """
 
 from __future__ import annotations
@@ -14,8 +14,10 @@ import argparse
 import os
 import subprocess
 import sys
+import tempfile
 from typing import Iterable, Sequence
 
+from tools.packaging.module import kit_folder, kit_that_keeps, write_text_of
 from tools.sources.crates import Uses, below, uses_in
 from tools.places import TOP
 
@@ -57,12 +59,22 @@ def build_command(top: str, kit: str, uses: Uses, crate: str, archive: str, more
     return [*command, "--incremental", KEPT, *more, "-o", os.path.join(top, archive)]
 
 
-def run(top: str, rt: str, crate: str, archive: str, more: Sequence[str]) -> bool:
+def run(kit: str, crate: str, archive: str, more: Sequence[str]) -> bool:
     """Builds the archive of a crate over what is proved. Returns whether it was built."""
-    page = subprocess.run([rt, "doc"], stdout=subprocess.PIPE, text=True, check=True).stdout.strip()
-    command = build_command(top, os.path.dirname(page), uses_in(top), crate, archive, more)
-    place = os.path.join(top, "crates", crate)
+    command = build_command(TOP, kit, uses_in(TOP), crate, archive, more)
+    place = os.path.join(TOP, "crates", crate)
     return subprocess.run(command, cwd=place, stdin=subprocess.DEVNULL).returncode == 0
+
+
+def run_and_keep(kit: str, crate: str, archive: str, more: Sequence[str], module: str) -> bool:
+    """The same, and keeps the LLVM module of the archive as text."""
+    with tempfile.TemporaryDirectory() as work:
+        folder, kept = os.path.join(work, "kit"), os.path.join(work, "module")
+        kit_that_keeps(kit, folder, kept)
+        if not run(folder, crate, archive, more):
+            return False
+        write_text_of(kit, kept, module)
+    return True
 
 
 def main() -> int:
@@ -71,10 +83,12 @@ def main() -> int:
     parser.add_argument("processor", choices=PROCESSORS)
     parser.add_argument("-o", dest="archive", required=True, metavar="PATH", help="where the archive goes")
     parser.add_argument("--rt", default="rt", help="the toolchain's command (default rt)")
+    parser.add_argument("--module", metavar="PATH", help="where the LLVM module goes")
     options = parser.parse_args()
-    return (
-        0 if run(TOP, options.rt, options.crate, os.path.abspath(options.archive), PROCESSORS[options.processor]) else 1
-    )
+    kit, more, path = kit_folder(options.rt), PROCESSORS[options.processor], os.path.abspath(options.archive)
+    if options.module:
+        return 0 if run_and_keep(kit, options.crate, path, more, os.path.abspath(options.module)) else 1
+    return 0 if run(kit, options.crate, path, more) else 1
 
 
 if __name__ == "__main__":

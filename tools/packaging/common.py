@@ -12,6 +12,8 @@ from tools.places import TOP
 
 DIST = os.path.join(TOP, "dist")
 OUT = os.path.join(places.OUT, "packages")
+# The SHA-256 checksums of a folder's files, in the form that `sha256sum -c` reads.
+SUMS = "SHA256SUMS"
 # Of a package's files: read by all, written by the owner.
 FILE_MODE, PROGRAM_MODE = 0o644, 0o755
 

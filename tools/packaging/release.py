@@ -15,10 +15,9 @@ import subprocess
 import sys
 
 from tools import places
-from tools.packaging.common import DIST, release
+from tools.packaging.common import DIST, SUMS, release
 from tools.places import TOP
 
-SUMS = "SHA256SUMS"
 # What make conformance-windows leaves in dist/. Its name has no release.
 CONFORMANCE = "trirast-conformance-windows.zip"
 
