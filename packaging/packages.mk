@@ -11,5 +11,6 @@ deb: $(STUB) $(PROGRAMS) $(WHY) $(LIBRARY_x86_64)
 wheel: $(LIBRARY_x86_64) $(if $(WITH_ARM64),$(LIBRARY_aarch64))
 	$(PYTHON) -m tools.packaging.wheel x86_64 $(if $(WITH_ARM64),aarch64)
 
-release: deb wheel
+release: deb wheel platforms
+	$(PYTHON) -m tools.packaging.archives
 	$(PYTHON) -m tools.packaging.release

@@ -2,14 +2,60 @@
 get_filename_component(trirast_PREFIX "${CMAKE_CURRENT_LIST_DIR}/@PREFIX_FROM_HERE@" ABSOLUTE)
 get_filename_component(trirast_LIBRARY_DIR "${CMAKE_CURRENT_LIST_DIR}/../.." ABSOLUTE)
 
+# An archive of a release has a folder for each platform, as windows-x86_64. An installation has none.
+string(TOLOWER "${CMAKE_SYSTEM_PROCESSOR}" trirast_PROCESSOR)
+if(trirast_PROCESSOR MATCHES "^(amd64|x64)$")
+  set(trirast_PROCESSOR x86_64)
+elseif(trirast_PROCESSOR STREQUAL "aarch64")
+  set(trirast_PROCESSOR arm64)
+endif()
+if(APPLE AND CMAKE_OSX_ARCHITECTURES)
+  set(trirast_PROCESSOR "${CMAKE_OSX_ARCHITECTURES}")
+endif()
+if(WIN32)
+  set(trirast_PLATFORM "windows-${trirast_PROCESSOR}")
+elseif(APPLE)
+  set(trirast_PLATFORM "macos-${trirast_PROCESSOR}")
+else()
+  set(trirast_PLATFORM "linux-${trirast_PROCESSOR}")
+endif()
+file(GLOB trirast_PLATFORMS RELATIVE "${trirast_LIBRARY_DIR}"
+  "${trirast_LIBRARY_DIR}/linux-*" "${trirast_LIBRARY_DIR}/macos-*" "${trirast_LIBRARY_DIR}/windows-*")
+if(EXISTS "${trirast_LIBRARY_DIR}/${trirast_PLATFORM}")
+  set(trirast_LIBRARY_DIR "${trirast_LIBRARY_DIR}/${trirast_PLATFORM}")
+elseif(trirast_PLATFORMS)
+  set(trirast_FOUND FALSE)
+  set(trirast_NOT_FOUND_MESSAGE
+    "expected a library for ${trirast_PLATFORM}, got ${trirast_PLATFORMS}; unpack the archive for it too")
+  return()
+endif()
+
+set(trirast_STATIC "libtrirast.a")
+if(WIN32)
+  set(trirast_SHARED "trirast.dll")
+  if(NOT MINGW)
+    set(trirast_STATIC "trirast_static.lib")
+  endif()
+elseif(APPLE)
+  set(trirast_SHARED "libtrirast.dylib")
+else()
+  set(trirast_SHARED "libtrirast.so.2")
+endif()
+
 if(NOT TARGET trirast::trirast)
   add_library(trirast::trirast SHARED IMPORTED)
   set_target_properties(trirast::trirast PROPERTIES
-    IMPORTED_LOCATION "${trirast_LIBRARY_DIR}/libtrirast.so.2"
-    IMPORTED_SONAME "libtrirast.so.2"
+    IMPORTED_LOCATION "${trirast_LIBRARY_DIR}/${trirast_SHARED}"
     INTERFACE_INCLUDE_DIRECTORIES "${trirast_PREFIX}/include")
+  if(WIN32)
+    set_target_properties(trirast::trirast PROPERTIES IMPORTED_IMPLIB "${trirast_LIBRARY_DIR}/trirast.lib")
+  elseif(APPLE)
+    set_target_properties(trirast::trirast PROPERTIES IMPORTED_SONAME "@rpath/libtrirast.dylib")
+  else()
+    set_target_properties(trirast::trirast PROPERTIES IMPORTED_SONAME "libtrirast.so.2")
+  endif()
   add_library(trirast::static STATIC IMPORTED)
   set_target_properties(trirast::static PROPERTIES
-    IMPORTED_LOCATION "${trirast_LIBRARY_DIR}/libtrirast.a"
+    IMPORTED_LOCATION "${trirast_LIBRARY_DIR}/${trirast_STATIC}"
     INTERFACE_INCLUDE_DIRECTORIES "${trirast_PREFIX}/include")
 endif()

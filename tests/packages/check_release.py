@@ -10,16 +10,16 @@ from tools import places
 from tests.cases import Case, case, must
 from tests.library.commands import need, run
 from tools.packaging import release as releases
-from tools.packaging.common import DIST, release
+from tools.packaging.common import DIST, SUMS, release
 
 
 def check_checksums() -> str:
     """The file of checksums names all that is in dist/, and sha256sum agrees."""
     need("git")
     must(releases.main() == 0, "no release was made")
-    run([need("sha256sum"), "--check", "--strict", "--quiet", releases.SUMS], cwd=DIST)
-    named = [line.split()[1] for line in places.text_of(DIST, releases.SUMS).splitlines()]
-    others = sorted(set(os.listdir(DIST)) - {releases.SUMS})
+    run([need("sha256sum"), "--check", "--strict", "--quiet", SUMS], cwd=DIST)
+    named = [line.split()[1] for line in places.text_of(DIST, SUMS).splitlines()]
+    others = sorted(set(os.listdir(DIST)) - {SUMS})
     must(named == others, f"{sorted(set(named) ^ set(others))} in one alone")
     return f"{len(named)} files"
 

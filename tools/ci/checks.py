@@ -273,9 +273,9 @@ CHECKS = (
     ),
     Check(
         name="check-packages",
-        about="Debian packages, wheels and CMake files, each installed in a clean folder",
+        about="Debian packages, wheels, archives and CMake files, each installed in a clean folder",
         command="pytest tests/packages", seconds=50,
-        runs=INSTALLATION, needs=COMPILER,
+        runs=(*INSTALLATION, "platforms"), needs=COMPILER,
     ),
     Check(
         name="check-poster",
