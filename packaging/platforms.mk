@@ -24,9 +24,10 @@ lib/platforms/linux-riscv64/SHA256SUMS: $(call MODULES_IN,x86-64-v2)
 lib/modules/x86-64-v2-optimized/%.ll: lib/modules/x86-64-v2/%.ll
 	$(PYTHON) -m tools.packaging.module $< $@ --rt $(RT)
 
-# Where a module was not kept as its archive was built.
+# Where a module was not kept as its archive was built, by this run of make or by an earlier one.
 lib/modules/x86-64-v2/canvas_c.ll: $(CANVAS_ARCHIVE)
 lib/modules/x86-64-v2/trirast_c.ll: $(ARCHIVE)
 $(call MODULES_IN,aarch64): lib/modules/aarch64/%.ll: lib/aarch64/%.a
 $(foreach processor,x86-64-v2 aarch64,$(call MODULES_IN,$(processor))):
-	$(PYTHON) -m tools.packaging.archive $(basename $(@F)) $(notdir $(@D)) --module $@ --rt $(RT) -o $(@:.ll=.a)
+	test -e $@ -a ! $< -nt $@ || \
+	    $(PYTHON) -m tools.packaging.archive $(basename $(@F)) $(notdir $(@D)) --module $@ --rt $(RT) -o $(@:.ll=.a)

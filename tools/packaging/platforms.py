@@ -53,17 +53,20 @@ class Builder:
         lines = self.tool("clang", f"--target={self.platform.triple}", *words).splitlines(keepends=True)
         return "".join(line for line in lines if line.startswith("target "))
 
+    def form(self) -> list[str]:
+        """The flags for the form of an object file: on Windows one without the time, elsewhere for shared libraries."""
+        return ["-mno-incremental-linker-compatible"] if self.platform.is_windows else ["-fPIC"]
+
     def compiled(self, crate: str) -> str:
         """Compiles the module of a crate. Returns the object file."""
         module = text_of(MODULES, self.platform.module, f"{crate}.ll")
         source, target = f"{crate}.ll", f"{crate}.o"
         write(os.path.join(self.work, source), portable(module, self.platform, self.header()).encode())
         flags = flags_of(module)
-        pic = [] if self.platform.is_windows else ["-fPIC"]
         # Without the first the division of 128 bits is a call, for which not every system has a library. Without the
         # second there is a table of symbols by numbers, which strip and objcopy change.
         words = ["-mllvm", "-expand-div-rem-bits=64", "-fno-addrsig", "-c", "-x", "ir", source, "-o", target]
-        self.tool("clang", f"--target={self.platform.triple}", *flags, *pic, *words)
+        self.tool("clang", f"--target={self.platform.triple}", *flags, *self.form(), *words)
         # Elsewhere linkers know the parts of a file by symbols that strip would take.
         if self.platform.system == "linux":
             self.tool("llvm-strip", "--strip-unneeded", target)
@@ -73,9 +76,8 @@ class Builder:
         """Compiles the functions that trirast.h defines. Returns the object file."""
         target = f"calls-{triple}.o"
         flags = ["-std=c99", "-O2", "-ffreestanding", "-Wall", "-Wextra", "-Werror", f"-I{INCLUDE}"]
-        flags += [] if self.platform.is_windows else ["-fPIC"]
         source = os.path.join(TOP, "packaging", "calls.c")
-        run(["clang", f"--target={triple}", *flags, "-c", source, "-o", target], cwd=self.work)
+        run(["clang", f"--target={triple}", *flags, *self.form(), "-c", source, "-o", target], cwd=self.work)
         return target
 
     def calls(self, objects: Sequence[str]) -> list[str]:
@@ -114,7 +116,7 @@ class Builder:
         processor = self.platform.processor
         machine = MACHINES[processor]
         probe = os.path.join(PARTS, f"stack_probe_{processor}.s")
-        self.tool("clang", f"--target={self.platform.triple}", "-c", probe, "-o", "stack_probe.o")
+        self.tool("clang", f"--target={self.platform.triple}", *self.form(), "-c", probe, "-o", "stack_probe.o")
         self.tool("llvm-lib", f"/def:{os.path.join(PARTS, 'ucrtbase.def')}", f"/machine:{machine}", "/out:ucrtbase.lib")
         exports = "".join(f"{name}\n" for name in self.calls(objects))
         write(os.path.join(self.work, "trirast.def"), f"LIBRARY trirast.dll\nEXPORTS\n{exports}".encode())
