@@ -20,6 +20,7 @@ from ._fragments import Fragments, Rate, fragments_of
 from ._numbers import FORMATS as FORMATS
 from ._numbers import HIGHEST_ORIGIN, LOWEST_ORIGIN, MAX_ID, MAX_SIDE, PATTERNS, Cull, DepthTest
 from ._numbers import TILE_SIZE as TILE_SIZE
+from ._numpy import np
 from ._patterns import COUNTS
 from ._picture import Path, Picture, save_png
 from ._png import png_chunks
@@ -378,8 +379,6 @@ class Canvas:
         other tiles. Needs numpy, and vertices with the fields x and y.
 
         Raises TileError if the canvas has no such tile."""
-        import numpy as np
-
         if tile is None:
             ids = np.stack([self.ids(sample, threads=threads) for sample in range(self.samples)])
             return fragments_of(ids, self.origin, vertices, triangles, w, rate)
@@ -421,8 +420,6 @@ class Canvas:
 
     def _tile_ids(self, column: int, row: int) -> Any:
         """The ids of all samples of a tile, as far as it lies in the canvas: of the shape (samples, height, width)."""
-        import numpy as np
-
         entries, uniform = np.empty(self.samples * TILE_SIZE**2, np.uint32), ctypes.c_uint32()
         with self._lock:
             library().trirast_canvas_tile_ids(self._whole, column, row, entries.ctypes.data, len(entries), uniform)
@@ -434,8 +431,6 @@ class Canvas:
 
     def _store_tile(self, tile: Tuple[int, int], pictures: Any) -> None:
         """Stores the colours of all samples of a tile: bytes of the shape (samples, height, width, 4)."""
-        import numpy as np
-
         colors = np.zeros((self.samples, TILE_SIZE, TILE_SIZE), "<u4")
         height, width = self._sides(tile)
         colors[:, :height, :width] = pictures.view("<u4")[..., 0]

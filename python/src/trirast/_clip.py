@@ -5,6 +5,7 @@ from typing import Any, List, NamedTuple, Sequence, SupportsIndex, Tuple
 from ._arguments import between, named, of_length, shown
 from ._buffers import refuse_masked
 from ._cut_triangle import MADE, Corner, Ears, Plane, kept
+from ._numpy import np
 from ._records import HIGH, LOW, index_columns, indices_of
 from ._vertices import VERTEX
 
@@ -37,8 +38,6 @@ class Clipped(NamedTuple):
     def attributes(self, values: Any) -> Array:
         """Attributes of all vertices: those of the positions, a row each, and then weighted sums for
         those that cuts made."""
-        import numpy as np
-
         given = np.asarray(values)
         wanted = len(self.vertices) - len(self.cuts)
         if given.ndim == 0 or len(given) != wanted:
@@ -68,8 +67,6 @@ class View:
     def marks(self, places: Array) -> Array:
         """A bit for each plane that does not keep the position, then for each side of the viewport that it lies beyond,
         then one if a coordinate is infinite or not a number."""
-        import numpy as np
-
         found = np.zeros(places.shape[1], np.uint16)
         beyond = (Plane(1.0, sign, axis) for axis in (0, 1) for sign in (1.0, -1.0))
         with np.errstate(all="ignore"):
@@ -87,8 +84,6 @@ class View:
 
     def snapped(self, places: Array) -> Array:
         """The vertices of positions that all planes keep."""
-        import numpy as np
-
         x, y, z, w = places
         right, down = np.rint(x / w * self.scales[0]), np.rint(-y / w * self.scales[1])
         depth = np.rint((z + self.near_factor * w) / w * self.scales[2])
@@ -122,8 +117,6 @@ class Parts:
     def add(self, source: int, corners: Sequence[Corner], marks: int) -> None:
         """Cuts a triangle by those planes that a corner is behind, and by no others: rounding errors would cut parts
         off a triangle that lies in a plane."""
-        import numpy as np
-
         for bit, plane in enumerate(self._view.planes):
             if marks >> bit & 1:
                 corners = tuple(kept(plane, corners))
@@ -164,8 +157,6 @@ def clip(
 
     The results are those of trirast_clip.h for positions of 32 bits. Triangles that cover no sample of the viewport may
     be left out, and those with a coordinate that is infinite, not a number or above 3.4e38 are."""
-    import numpy as np
-
     view = View(viewport, named("near_plane", NEAR_PLANES, near_plane), named("sides", SIDES, sides), depths)
     places = places_of(positions)
     rows = np.frombuffer(indices_of("triangles", triangles, index_columns(3)), np.uint32).reshape(-1, 3)
@@ -193,8 +184,6 @@ def joined(
     view: View, places: Array, vertices: Array, rows: Array, uncut: Array, parts: Parts
 ) -> Clipped:
     """Triangles that no plane cuts and parts of others, in the order of the source."""
-    import numpy as np
-
     made = np.array([corner.place for corner in parts.made]).reshape(-1, 4).T
     # A w that no float holds is that of a position which is left out.
     with np.errstate(all="ignore"):
@@ -217,8 +206,6 @@ def joined(
 
 def places_of(positions: Any) -> Array:
     """Positions as four rows of doubles: x, y, z and w."""
-    import numpy as np
-
     refuse_masked("positions", positions)
     try:
         given = np.asarray(positions)
@@ -236,8 +223,6 @@ def places_of(positions: Any) -> Array:
 
 def check_indices(rows: Array, count: int, of_what: str) -> None:
     """Raises ValueError at an index that is past the last position or vertex."""
-    import numpy as np
-
     wrong = np.argwhere(rows >= count)
     if len(wrong):
         row, column = wrong[0].tolist()

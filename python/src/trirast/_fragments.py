@@ -5,6 +5,7 @@ from typing import Any, Literal, NamedTuple, Optional, Sequence, Tuple
 
 from ._arguments import named, shown
 from ._clip import check_indices
+from ._numpy import np
 from ._patterns import SAMPLES
 from ._records import index_columns, indices_of
 
@@ -44,8 +45,6 @@ class Fragments(NamedTuple):
         return self._mean(self.down, values)
 
     def _mean(self, by: Array, values: Any) -> Array:
-        import numpy as np
-
         given = np.asarray(values)
         wanted = int(self.corners.max(initial=-1)) + 1
         if given.ndim == 0 or len(given) < wanted:
@@ -57,8 +56,6 @@ class Fragments(NamedTuple):
         """The colours of all samples: bytes of the shape (samples, height, width, 4), of which the last are 255.
         Fragments have rows of three colours of 0 to 255, rounded to the nearest byte, halves up; what is no number is
         0. Where there is no fragment the background stands, one colour or one for each pixel."""
-        import numpy as np
-
         given = floats("colors", colors)
         if given.shape != (len(self.id), 3):
             raise ValueError(
@@ -73,8 +70,6 @@ class Fragments(NamedTuple):
 
 def floats(name: str, values: Any) -> Array:
     """Numbers as doubles. Raises TypeError at what is no number, and ValueError at one that no double holds."""
-    import numpy as np
-
     try:
         given = np.asarray(values)
         if given.dtype.kind not in "fiubO":
@@ -88,8 +83,6 @@ def floats(name: str, values: Any) -> Array:
 
 def packed(given: Array) -> Array:
     """Colours as bytes, four in 32 bits."""
-    import numpy as np
-
     found = np.full((*given.shape[:-1], 4), 255, np.uint8)
     with np.errstate(invalid="ignore"):
         found[..., :3] = np.where(given == given, np.clip(given, 0, 255) + 0.5, 0)
@@ -98,16 +91,12 @@ def packed(given: Array) -> Array:
 
 def places_of(samples: int) -> Array:
     """Where samples lie in a pixel, in 1/256 pixel."""
-    import numpy as np
-
     return np.array(SAMPLES[samples], np.int64)
 
 
 def shown_by(ids: Array, count: int, rate: str) -> Tuple[Array, Array, Tuple[Array, Array]]:
     """Of the ids of all samples: the row of each sample's fragment, or -1; the triangles of the rows; and their places
     in the picture."""
-    import numpy as np
-
     is_shown = ids < count
     owner = np.broadcast_to(np.arange(len(ids))[:, None, None], ids.shape).copy()
     if rate != "sample":
@@ -127,8 +116,6 @@ def middles(index: Array, count: int) -> Array:
     """Where each fragment is shaded in its pixel: in the centre if all samples show it, else in the middle of those
     that do, rounded to 1/256; of three of sixteen in that of the first and the last, since the mean of three on a line
     may be rounded off it."""
-    import numpy as np
-
     sample, *_pixel = np.nonzero(index >= 0)
     rows, places = index[index >= 0], places_of(len(index))
     number = np.bincount(rows, minlength=count)
@@ -148,8 +135,6 @@ def middles(index: Array, count: int) -> Array:
 def weigh(corners: Array, w: Array, points: Array) -> Tuple[Array, Array, Array]:
     """The weights at points in triangles, and how they differ at the next pixels. `corners` has rows of three pairs of
     x and y."""
-    import numpy as np
-
     from_point = corners - points[:, None]
     ahead, behind = np.roll(from_point, -1, 1), np.roll(from_point, -2, 1)
     edges = (ahead[..., 0] * behind[..., 1] - ahead[..., 1] * behind[..., 0]) / w
@@ -167,8 +152,6 @@ def fragments_of(
     ids: Array, origin: Sequence[int], vertices: Any, triangles: Any, w: Any, rate: str
 ) -> Fragments:
     """The fragments of ids, of the shape (samples, height, width)."""
-    import numpy as np
-
     named("rate", RATES, rate)
     if not {"x", "y"} <= set(getattr(getattr(vertices, "dtype", None), "names", None) or ()):
         raise TypeError("vertices: an array with the fields x and y, as those of trirast.clip")

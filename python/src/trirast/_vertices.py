@@ -5,6 +5,7 @@ from typing import Any, Optional
 
 from ._arguments import between, color_of, has_length
 from ._buffers import exact_bytes, refuse_masked
+from ._numpy import np
 from ._records import Column, Columns, Copy, table_of
 
 # The fields of a vertex, as numpy takes them: numpy.zeros(3, trirast.VERTEX) are three. x and y are in 1/256 pixel.
@@ -60,8 +61,6 @@ def records_of(vertices: Any) -> Copy:
 
 def of_fields(vertices: Any) -> Copy:
     """Vertices of an array of numpy with fields."""
-    import numpy as np
-
     refuse_masked("vertices", vertices)
     # A view of our own: its size stays if someone gives the array another type or shape in place.
     given: Any = np.asarray(vertices).view()
@@ -70,7 +69,7 @@ def of_fields(vertices: Any) -> Copy:
         raise ValueError(
             f"vertices: one dimension, with the fields x and y, and not {', '.join(names)} of the shape {given.shape}"
         )
-    if has_members(np, given) and not given.dtype.hasobject and len(given):
+    if has_members(given) and not given.dtype.hasobject and len(given):
         made = bytearray(VERTEX_BYTES * len(given))
         np.frombuffer(made, RECORD)[:] = given.getfield(RECORD, given.dtype.fields["x"][1])
         return made
@@ -81,14 +80,14 @@ def of_fields(vertices: Any) -> Copy:
     return made
 
 
-def is_own_layout(np: Any, vertices: Any) -> bool:
+def is_own_layout(vertices: Any) -> bool:
     """Whether an array has the records that C reads, one at the end of another."""
     # numpy takes records at any address for aligned.
     is_packed = vertices.itemsize == VERTEX_BYTES and vertices.flags.c_contiguous and vertices.ctypes.data % 4 == 0
-    return bool(is_packed and has_members(np, vertices) and len(vertices))
+    return bool(is_packed and has_members(vertices) and len(vertices))
 
 
-def has_members(np: Any, vertices: Any) -> bool:
+def has_members(vertices: Any) -> bool:
     """Whether each record of an array has the members of VERTEX in their order, anywhere in it."""
     fields, whole = vertices.dtype.fields, np.dtype(VERTEX).fields
     names = [column.name for column in WHOLE]

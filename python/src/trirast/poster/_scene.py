@@ -298,7 +298,7 @@ def own_vertices(array: Any, copy: bool) -> Vertices:
     """Records one after another, which cannot be written to. They are the array itself only if it has such records and
     `copy` is false. Raises ArraysError if it has neither records nor rows of seven integers that fit."""
     array = exact_array("vertices", array)
-    if array.dtype.names and is_own_layout(np, array):
+    if array.dtype.names and is_own_layout(array):
         found: Vertices = (np.array(array, order="C") if copy else array).view(VERTEX)
     elif array.ndim == 2 and array.shape[1] != len(VERTEX) - 1:
         raise ArraysError(f"vertices: rows of 7 integers, and not {array.dtype} of the shape {array.shape}")
