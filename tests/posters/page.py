@@ -8,15 +8,15 @@ screenshots are left in FOLDER.
 
 from __future__ import annotations
 
+import io
 import json
 import os
 import shutil
-import struct
 import time
-import zlib
 from typing import Any, Iterator
 
 import numpy as np
+from PIL import Image
 
 from trirast import poster
 
@@ -30,48 +30,6 @@ WIDTH, HEIGHT = 900, 640
 SECONDS = 60
 # The part of the page that the buttons cover.
 NAVIGATION = (260, 60)
-PIXELS = {2: 3, 6: 4}
-
-
-def decoded(file: bytes) -> Any:
-    """The pixels, red, green and blue, of a PNG file of 8 bits a channel (PNG, second edition, 9: filters)."""
-    width, height, _, colours = struct.unpack(">IIBB", file[16:26])
-    at, stream = 8, b""
-    while at < len(file):
-        (length,) = struct.unpack(">I", file[at : at + 4])
-        stream += file[at + 8 : at + 8 + length] if file[at + 4 : at + 8] == b"IDAT" else b""
-        at += 12 + length
-    step = PIXELS[colours]
-    data = zlib.decompress(stream)
-    above = np.zeros((width, step), np.int64)
-    rows = []
-    for row in range(height):
-        first = row * (1 + step * width)
-        line = np.frombuffer(data, np.uint8, step * width, first + 1).reshape(width, step).astype(np.int64)
-        above = unfiltered(data[first], line, above)
-        rows.append(above[:, :3].astype(np.uint8))
-    return np.stack(rows)
-
-
-def unfiltered(kind: int, line: Any, above: Any) -> Any:
-    if kind == 0:
-        return line
-    if kind == 1:
-        return np.add.accumulate(line, 0) & 255
-    if kind == 2:
-        return (line + above) & 255
-    done = np.zeros_like(line)
-    left = corner = np.zeros(line.shape[1], np.int64)
-    for k, (now, up) in enumerate(zip(line, above)):
-        if kind == 3:
-            left = (now + (left + up) // 2) & 255
-        else:
-            guess = left + up - corner
-            a, b, c = abs(guess - left), abs(guess - up), abs(guess - corner)
-            left = (now + np.where((a <= b) & (a <= c), left, np.where(b <= c, up, corner))) & 255
-        corner = up
-        done[k] = left
-    return done
 
 
 def levels_of(pixels: Any) -> list[Any]:
@@ -101,7 +59,7 @@ def check_view(page: Page, levels: list[Any], path: str) -> int:
     screenshot = page.screenshot()
     with open(path, "wb") as file:
         file.write(screenshot)
-    shown = decoded(screenshot)
+    shown = np.asarray(Image.open(io.BytesIO(screenshot)).convert("RGB"))
     must(shown.shape == (HEIGHT, WIDTH, 3), f"a screenshot of {shown.shape}")
     level = levels[finer]
     columns, rows = np.arange(WIDTH) - round(left), np.arange(HEIGHT) - round(top)

@@ -6,16 +6,16 @@
 from __future__ import annotations
 
 import copy
+import io
 import json
 import os
 import random
 import shutil
-import struct
-import zlib
 from typing import Any, Iterator, Optional
 from unittest import mock
 
 import numpy as np
+from PIL import Image
 
 import trirast
 from trirast import poster
@@ -28,6 +28,8 @@ from tests.posters import lists
 from tests.posters.common import Options, content, dask, generated, local_cluster, program_file
 
 TILE = 256
+# The pictures are our own, whatever their size.
+Image.MAX_IMAGE_PIXELS = None
 # How much windows weigh that a thread takes together: as much as the package says, or little.
 WEIGHTS = (_threads.WEIGHT, 300)
 
@@ -155,23 +157,12 @@ def check_wide(options: Options) -> str:
 
 
 def png_pixels(file: bytes) -> bytes:
-    """The pixels of a PNG file with the filter Sub, read in a way of its own: one stream, row by row."""
-    must(file.startswith(b"\x89PNG\r\n\x1a\n"), "no PNG file")
-    width, height, bits, colours = struct.unpack(">IIBB", file[16:26])
-    at, stream = 8, b""
-    while at < len(file):
-        (length,), kind, data = (
-            struct.unpack(">I", file[at : at + 4]), file[at + 4 : at + 8],
-            file[at + 8 : at + 8 + struct.unpack(">I", file[at : at + 4])[0]],
-        )
-        must(struct.unpack(">I", file[at + 8 + length : at + 12 + length])[0] == zlib.crc32(kind + data), "a wrong CRC")
-        stream += data if kind == b"IDAT" else b""
-        at += 12 + length
-    must(kind == b"IEND", "no end of the PNG file")
-    step = {(8, 2): 3, (16, 0): 2}[bits, colours]
-    rows = np.frombuffer(zlib.decompress(stream), np.uint8).reshape(height, 1 + step * width)
-    must(bool((rows[:, 0] == 1).all()), "another filter")
-    return bytes(np.add.accumulate(rows[:, 1:].reshape(height, width, step), 1, dtype=np.uint8).tobytes())
+    """The bytes of the pixels of a PNG file, as Pillow reads them; of depths the high byte first. Each CRC is right."""
+    with Image.open(io.BytesIO(file)) as image:
+        image.verify()
+    with Image.open(io.BytesIO(file)) as image:
+        pixels = np.asarray(image)
+    return bytes(pixels.astype(np.uint8 if pixels.ndim == 3 else ">u2").tobytes())
 
 
 def mean_of_four(pixels: Any) -> Any:

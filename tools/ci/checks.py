@@ -282,7 +282,7 @@ CHECKS = (
         about="posters against the program: interrupted, damaged and resumed",
         command="pytest tests/posters", seconds=260,
         long="--long -m 'long or not long'", long_seconds=1400,
-        runs=EVERYTHING, needs=(*COMPILER, "python:numpy"),
+        runs=EVERYTHING, needs=(*COMPILER, "python:numpy", "python:PIL"),
     ),
     Check(
         name="check-web",
