@@ -4,11 +4,13 @@ programs that may crash."""
 import importlib
 import importlib.util
 import os
+import struct
 import subprocess
 import sys
 import textwrap
+import zlib
 from contextlib import contextmanager
-from typing import Any, Dict, Iterator, List, Sequence
+from typing import Any, Dict, Iterator, List, Sequence, Tuple
 
 import trirast
 
@@ -51,6 +53,19 @@ def without(name: str) -> Iterator[None]:
 
 def bytes_of(buffer: Any) -> bytes:
     return memoryview(buffer).tobytes()
+
+
+def chunks(file: bytes) -> List[Tuple[bytes, bytes]]:
+    """The chunks of a PNG file: kind and data. Each CRC must be right."""
+    assert file[:8] == b"\x89PNG\r\n\x1a\n"
+    at, found = 8, []
+    while at < len(file):
+        (length,) = struct.unpack(">I", file[at : at + 4])
+        kind, data, crc = struct.unpack(f">4s{length}sI", file[at + 4 : at + 12 + length])
+        assert crc == zlib.crc32(kind + data), kind
+        found.append((kind, data))
+        at += 12 + length
+    return found
 
 
 def drawn(vertices: Any, triangles: Any = None, **more: Any) -> bytes:

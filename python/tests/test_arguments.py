@@ -11,7 +11,7 @@ from typing import Any, Callable, List, Tuple, Type
 
 import trirast
 
-from .common import DRAW_LIST, FILE, NUMPY, PIXELS, VERTICES, bytes_of, drawn, run
+from .common import DRAW_LIST, FILE, NUMPY, PIXELS, VERTICES, bytes_of, chunks, drawn, run
 
 Case = Tuple[Callable[[], Any], Type[Exception], str]
 SNAP = "; use trirast.snap(xy)"
@@ -511,23 +511,13 @@ class Files(Refusals):
 
 
 def read_png(file: bytes) -> Tuple[int, int, bytes, bytes]:
-    """Width, height, bits and colour type, and the pixels of a PNG file without filters. Each CRC must be right."""
-    at, chunks = 8, {}
-    while at < len(file):
-        (length,), kind = struct.unpack(">I", file[at : at + 4]), file[at + 4 : at + 8]
-        data, crc = file[at + 8 : at + 8 + length], file[at + 8 + length : at + 12 + length]
-        if zlib.crc32(kind + data) != int.from_bytes(crc, "big"):
-            raise ValueError(f"a wrong CRC of {kind!r}")
-        chunks[kind] = data
-        at += 12 + length
-    if list(chunks) != [b"IHDR", b"IDAT", b"IEND"] or file[:8] != b"\x89PNG\r\n\x1a\n":
-        raise ValueError("no PNG file")
-    width, height = struct.unpack(">II", chunks[b"IHDR"][:8])
-    rows, step = zlib.decompress(chunks[b"IDAT"]), len(zlib.decompress(chunks[b"IDAT"])) // height
-    return (
-        width, height, chunks[b"IHDR"][8:10],
-        b"".join(rows[first + 1 : first + step] for first in range(0, len(rows), step)),
-    )
+    """Width, height, bits and colour type, and the pixels of a PNG file without filters."""
+    (*kinds, last), (head, packed, _) = zip(*chunks(file))
+    assert (kinds, last) == ([b"IHDR", b"IDAT"], b"IEND")
+    width, height = struct.unpack(">II", head[:8])
+    rows = zlib.decompress(packed)
+    step = len(rows) // height
+    return width, height, head[8:10], b"".join(rows[k + 1 : k + step] for k in range(0, len(rows), step))
 
 
 class WithoutNumpy(unittest.TestCase):

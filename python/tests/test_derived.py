@@ -2,7 +2,6 @@
 what it has, or refused, and no memory is read that it does not have."""
 
 import unittest
-from typing import Any
 
 from .common import DRAW_LIST, NUMPY, run
 

@@ -12,9 +12,8 @@ from unittest import mock
 from .common import run
 from .figures import BOTH, INSIDE, colors, drawn, stars, tiles, unlike
 
-import matplotlib
 import numpy as np
-from matplotlib.backends.backend_agg import FigureCanvasAgg, RendererAgg
+from matplotlib.backends.backend_agg import FigureCanvasAgg
 from matplotlib.collections import PolyCollection
 from matplotlib.figure import Figure
 from matplotlib.patches import Circle, PathPatch, Rectangle

@@ -8,7 +8,7 @@ import os
 import struct
 import unittest
 from contextlib import redirect_stderr
-from typing import Any, List, Tuple
+from typing import Any, List
 from unittest import mock
 
 if importlib.util.find_spec("numpy") is None:
@@ -21,7 +21,7 @@ from trirast import poster
 from trirast.poster import _command
 from trirast.poster._journal import Journal
 
-from .common import DRAW_LIST, VERTICES
+from .common import DRAW_LIST, VERTICES, chunks
 from .poster_common import Files, random_scene
 
 IMAGE: Any = importlib.import_module("PIL.Image") if importlib.util.find_spec("PIL") else None
@@ -33,16 +33,6 @@ def drawn() -> trirast.Canvas:
     canvas.clear()
     canvas.draw(VERTICES, [(0, 1, 2)])
     return canvas
-
-
-def chunks(file: bytes) -> List[Tuple[bytes, bytes]]:
-    """The chunks of a PNG file: kind and data."""
-    at, found = 8, []
-    while at < len(file):
-        (length,) = struct.unpack(">I", file[at : at + 4])
-        found.append((file[at + 4 : at + 8], file[at + 8 : at + 8 + length]))
-        at += 12 + length
-    return found
 
 
 def dots_in(file: bytes) -> Any:

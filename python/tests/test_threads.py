@@ -11,7 +11,7 @@ from unittest import mock
 import trirast
 from trirast import _threads
 
-from .common import DRAW_LIST, NUMPY, VERTICES, bytes_of, run
+from .common import DRAW_LIST, NUMPY, bytes_of, run
 
 # `interrupted` makes a call, and interrupts it after some milliseconds, and then every 4 ms as long as it runs.
 INTERRUPTS = """

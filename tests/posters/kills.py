@@ -9,7 +9,6 @@ Only processes that these checks started are ended, each by its number.
 from __future__ import annotations
 
 import contextlib
-import json
 import os
 import random
 import shutil

@@ -10,11 +10,8 @@ from __future__ import annotations
 
 import contextlib
 import functools
-import importlib.util
-import json
 import os
 import random
-import shutil
 import signal
 import socket
 import subprocess
@@ -26,7 +23,7 @@ import numpy as np
 
 from trirast import poster
 
-from tests.cases import Case, CheckError, case, must
+from tests.cases import Case, case, must
 from tests.posters.common import Options, content, dask, folder_files
 from tools.processes import descendants
 
