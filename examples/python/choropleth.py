@@ -40,7 +40,7 @@ def areas_of(sheet: poster.Sheet, polygons: poster.Polygons) -> Tuple[Any, int]:
     """The area of each polygon in samples, and that of no polygon: each sample has the id of the polygon that was
     drawn there last."""
     canvas = canvas_of(sheet, GROUND)
-    canvas.draw_polygons(polygons.corners, polygons.ring_ends, polygons.polygon_ends, first_id=0)
+    canvas.draw_polygons(polygons, first_id=0)
     counts = np.zeros(NONE + 1, np.int64)
     for sample in range(sheet.samples):
         counts += np.bincount(canvas.ids(sample).ravel(), minlength=NONE + 1)
@@ -50,7 +50,7 @@ def areas_of(sheet: poster.Sheet, polygons: poster.Polygons) -> Tuple[Any, int]:
 def covers_of(sheet: poster.Sheet, polygons: poster.Polygons) -> Any:
     """How many samples are covered by no polygon, by one, by two and so on: each adds 1 to the red of its samples."""
     canvas = canvas_of(sheet, (0, 0, 0))
-    canvas.draw_polygons(polygons.corners, polygons.ring_ends, polygons.polygon_ends, (1, 0, 0, 255), blend="add")
+    canvas.draw_polygons(polygons, colors=(1, 0, 0, 255), blend="add")
     return sum(np.bincount(canvas.colors(sample)[..., 0].ravel(), minlength=256) for sample in range(sheet.samples))
 
 
@@ -100,7 +100,7 @@ def draw(options: argparse.Namespace) -> None:
     """Draws the picture and prints what was counted."""
     sheet, polygons = land_by_squares() if options.map is None else given_map(options.map, options.style)
     canvas = canvas_of(sheet, sheet.clear)
-    canvas.draw_polygons(*polygons.arrays, blend="over", threads=os.cpu_count() or 1)
+    canvas.draw_polygons(polygons, blend="over", threads=os.cpu_count() or 1)
     canvas.save(options.picture)
     areas, rest = areas_of(sheet, polygons)
     covers = covers_of(sheet, polygons)

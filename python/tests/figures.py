@@ -12,12 +12,18 @@ import numpy as np
 from matplotlib.backend_bases import RendererBase
 from matplotlib.backends.backend_agg import FigureCanvasAgg
 from matplotlib.figure import Figure
+from matplotlib.path import Path
 
 from trirast.matplotlib import FigureCanvasTrirast, RendererTrirast
 
 Draws = Callable[[Any], Any]
 BOTH = (FigureCanvasAgg, FigureCanvasTrirast)
 WHITE = [255] * 4
+OUTER = [(0.1, 0.1), (0.9, 0.15), (0.8, 0.9), (0.1, 0.1)]
+CLOSED = [Path.MOVETO, Path.LINETO, Path.LINETO, Path.CLOSEPOLY]
+# A ring with another inside of it, and with lines behind it.
+HOLE = Path(OUTER + [(0.4, 0.3), (0.5, 0.6), (0.6, 0.4), (0.4, 0.3)], CLOSED * 2)
+BEHIND = Path(OUTER + [(0.2, 0.8), (0.05, 0.5)], CLOSED + [Path.LINETO, Path.LINETO])
 # The pixels of the axes: 32 to 288 and 24 to 216.
 INSIDE = (slice(30, 210), slice(40, 280))
 

@@ -33,3 +33,24 @@ def flat(polygons: Sequence[Sequence[Sequence[Corner]]]) -> Tuple[List[Corner], 
             rings.append(len(corners))
         ends.append(len(rings))
     return corners, rings, ends
+
+
+def area(ring: Sequence[Any]) -> float:
+    """The area of a ring, negative if it runs the other way round."""
+    return float(sum(x * v - u * y for (x, y), (u, v) in zip(ring, [*ring[1:], *ring[:1]])) / 2)
+
+
+def clipped(ring: Sequence[Any], low: Sequence[float], high: Sequence[float]) -> Sequence[Any]:
+    """The part of a ring within a rectangle, side by side."""
+    for axis in (0, 1):
+        for limit, sign in ((low[axis], 1), (high[axis], -1)):
+            kept = []
+            for p, q in zip(ring, [*ring[1:], *ring[:1]]):
+                is_kept = sign * (p[axis] - limit) >= 0
+                if is_kept:
+                    kept.append(p)
+                if is_kept != (sign * (q[axis] - limit) >= 0):
+                    share = (limit - p[axis]) / (q[axis] - p[axis])
+                    kept.append([a + share * (b - a) for a, b in zip(p, q)])
+            ring = kept
+    return ring

@@ -10,7 +10,7 @@ import tempfile
 import unittest
 from typing import Any, Dict, List
 
-from trirast import BLENDS, _blend, _declarations, _errors, _numbers, _polygons, _vertices
+from trirast import BLENDS, _blend, _declarations, _errors, _numbers, _rings, _vertices
 
 from .common import PYTHON
 
@@ -74,9 +74,9 @@ class Layout(unittest.TestCase):
         self.assertEqual(answers(expressions), [_vertices.VERTEX_BYTES, *columns.values()])
 
     def test_of_boxes(self) -> None:
-        columns = {column.name: column.begin for column in _polygons.BOX}
+        columns = {column.name: column.begin for column in _rings.BOX}
         expressions = ["sizeof(trirast_box)", *(f"offsetof(trirast_box, {name})" for name in columns)]
-        self.assertEqual(answers(expressions), [_polygons.BOX_BYTES, *columns.values()])
+        self.assertEqual(answers(expressions), [_rings.BOX_BYTES, *columns.values()])
 
     def test_of_numbers(self) -> None:
         self.assertEqual(dict(zip(ENUMERATORS, answers(list(ENUMERATORS)))), ENUMERATORS)

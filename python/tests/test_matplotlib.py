@@ -4,12 +4,14 @@ none, and far zooms."""
 import importlib.util
 import io
 import unittest
-from typing import Any, Callable, List, Optional, Tuple
+from typing import Any, Callable, Optional, Tuple
 from unittest import mock
 
 for needed in ("numpy", "matplotlib"):
     if importlib.util.find_spec(needed) is None:
         raise unittest.SkipTest(f"the backend needs {needed}")
+
+from .polygon_rule import area, clipped
 
 import matplotlib
 import numpy as np
@@ -19,9 +21,11 @@ from matplotlib.patches import Circle
 from matplotlib.tri import Triangulation
 from matplotlib.transforms import IdentityTransform
 
+from trirast._box import Box
 from trirast.matplotlib import FigureCanvasTrirast, RendererTrirast, _drawing, _mesh, _renderer, _samples, _triangles
 from trirast.matplotlib._mesh import Gouraud, Mesh
-from trirast.matplotlib._triangles import REACH, Box, Triangles
+from trirast.matplotlib._polygons import REACH
+from trirast.matplotlib._triangles import Triangles
 
 # Its functions have no types.
 ma: Any = np.ma
@@ -428,7 +432,8 @@ class Far(unittest.TestCase):
         self.assertEqual(float(np.abs(cut.points).max()), REACH)
         # Colours that go with the position stay so at each new corner.
         self.assertLess(farthest(cut.colors[..., :2] * REACH, cut.points), 1e-6)
-        self.assertAlmostEqual(area(cut.points) / sum(area_inside(each) for each in corners), 1, places=9)
+        inside = sum(abs(area(clipped(each, (-REACH, -REACH), (REACH, REACH)))) for each in corners.tolist())
+        self.assertAlmostEqual(sum(abs(area(each)) for each in cut.points.tolist()) / inside, 1, places=9)
 
     def test_parts_stand_where_their_triangle_stood(self) -> None:
         far = np.array([[(-9e4, 0), (9e4, 1), (0, 9e4)], [(0, 0), (1, 0), (0, 1)], [(-9e4, 0), (9e4, 1), (0, 9e4)]])
@@ -444,27 +449,6 @@ class Far(unittest.TestCase):
         points = np.array([[(0, 0), (40000, 0), (0, 4)], [(40000, 0), (40000, 4), (0, 4)]], float)
         _drawing.draw_triangles(figure, Triangles(points, np.full((2, 3, 4), 0.5)), Box(0, 0, 40000, 4))
         self.assertEqual(colors_in(figure), [[191, 191, 191, 255]])
-
-
-def area(triangles: Any) -> float:
-    a, b, c = triangles.transpose(1, 0, 2)
-    (x, y), (u, v) = (b - a).T, (c - a).T
-    return float(np.abs(x * v - y * u).sum() / 2)
-
-
-def area_inside(triangle: Any) -> float:
-    """The area of a triangle within REACH, by cutting its polygon side by side."""
-    polygon: List[Any] = list(triangle)
-    for axis in (0, 1):
-        for sign in (1, -1):
-            kept = []
-            for p, q in zip(polygon, polygon[1:] + polygon[:1]):
-                if sign * p[axis] <= REACH:
-                    kept.append(p)
-                if (sign * p[axis] <= REACH) != (sign * q[axis] <= REACH):
-                    kept.append(p + (q - p) * (sign * REACH - p[axis]) / (q[axis] - p[axis]))
-            polygon = kept
-    return abs(sum(float(p[0] * q[1] - p[1] * q[0]) for p, q in zip(polygon, polygon[1:] + polygon[:1]))) / 2
 
 
 if __name__ == "__main__":

@@ -5,7 +5,9 @@ import unittest
 from typing import Any, Callable, Dict, Tuple
 from unittest import mock
 
-from .figures import BOTH, INSIDE, Draws, OneByOne, colors, differences, drawn, stars, tiles, twice, unlike
+from .figures import (
+    BEHIND, BOTH, HOLE, INSIDE, Draws, OneByOne, colors, differences, drawn, stars, tiles, twice, unlike,
+)
 
 import numpy as np
 from matplotlib import rc_context
@@ -211,15 +213,9 @@ class Items(unittest.TestCase):
         )
 
     def test_holes_and_lines_behind_a_closed_ring(self) -> None:
-        outer, inner = (
-            [(0.1, 0.1), (0.9, 0.15), (0.8, 0.9), (0.1, 0.1)], [(0.4, 0.3), (0.5, 0.6), (0.6, 0.4), (0.4, 0.3)]
-        )
-        ring = [Path.MOVETO, Path.LINETO, Path.LINETO, Path.CLOSEPOLY]
-        hole = Path(outer + inner, ring * 2)
-        behind = Path(outer + [(0.2, 0.8), (0.05, 0.5)], ring + [Path.LINETO, Path.LINETO])
         self.check(
             lambda axes: PatchCollection(
-                [PathPatch(hole), PathPatch(behind)], facecolors=[(0, 0, 1, 0.5), (1, 0, 0, 0.5)]
+                [PathPatch(HOLE), PathPatch(BEHIND)], facecolors=[(0, 0, 1, 0.5), (1, 0, 0, 0.5)]
             )
         )
 

@@ -6,9 +6,8 @@ import unittest
 from typing import Any, Dict, List
 from unittest import mock
 
-from .figures import BOTH, INSIDE, WHITE, Draws, colors, differences, drawn, stars, tiles, twice, unlike
+from .figures import BEHIND, BOTH, HOLE, INSIDE, WHITE, Draws, colors, differences, drawn, stars, tiles, twice, unlike
 
-import matplotlib
 import numpy as np
 from matplotlib.backends.backend_agg import FigureCanvasAgg, RendererAgg
 from matplotlib.backends.backend_pdf import RendererPdf
@@ -18,7 +17,7 @@ from matplotlib.patches import Circle, Ellipse, PathPatch, Polygon, Rectangle, W
 from matplotlib.path import Path
 from matplotlib.transforms import Bbox, IdentityTransform
 
-from trirast import Canvas
+from trirast import Canvas, Polygons
 from trirast.matplotlib import FigureCanvasTrirast, RendererTrirast, _colors, _corners, _inside, _polygons
 
 from . import neighbours
@@ -279,19 +278,13 @@ class NearAgg(unittest.TestCase):
         self.check(draw, 30)
 
     def test_holes_and_lines_behind_a_closed_ring(self) -> None:
-        outer, inner = (
-            [(0.1, 0.1), (0.9, 0.15), (0.8, 0.9), (0.1, 0.1)], [(0.4, 0.3), (0.5, 0.6), (0.6, 0.4), (0.4, 0.3)]
-        )
-        ring = [Path.MOVETO, Path.LINETO, Path.LINETO, Path.CLOSEPOLY]
-        hole = Path(outer + inner, ring * 2)
-        behind = Path(outer + [(0.2, 0.8), (0.05, 0.5)], ring + [Path.LINETO, Path.LINETO])
-        for path in (hole, behind):
+        for path in (HOLE, BEHIND):
             self.check(lambda axes: axes.add_patch(PathPatch(path, linewidth=0)), 30)
             patches = [PathPatch(path), Circle((0.95, 0.95), 0.02)]
             self.check(
                 lambda axes: axes.add_collection(PatchCollection(patches, facecolors="r", edgecolors="none")), 80
             )
-        picture = drawn(lambda axes: axes.add_patch(PathPatch(hole, linewidth=0)))
+        picture = drawn(lambda axes: axes.add_patch(PathPatch(HOLE, linewidth=0)))
         self.assertEqual(picture[240 - round(24 + 0.43 * 192), round(32 + 0.5 * 256)].tolist(), WHITE)
 
 
@@ -520,24 +513,24 @@ class Rules(unittest.TestCase):
                     ring[:half, axis].sort()
                     ring[half:, axis] = -np.sort(-ring[half:, axis])
                     rings[n] = np.roll(ring, pick.integers(12), 0)
-            polygons = _polygons.Polygons(np.concatenate(rings).astype(np.int32), np.cumsum(lengths), np.arange(1, 31))
+            polygons = Polygons(np.concatenate(rings).astype(np.int32), np.cumsum(lengths), np.arange(1, 31)).owned()
             turned = _polygons.turn_once(polygons.corners, polygons.ring_ends)
             self.assertTrue(turned[np.arange(30) % 3 < 2].all())
-            some = polygons.taken(np.flatnonzero(turned))
-            self.assertTrue(some.are_simple)
-            fills = pick.integers(0, 256, (len(some.polygon_ends), 4)).astype(np.uint8)
+            some = polygons.take(np.flatnonzero(turned))
+            self.assertTrue(_polygons.are_simple(some))
+            fills = pick.integers(0, 256, (some.count, 4)).astype(np.uint8)
             pictures = []
             rules: Any = ("even-odd", "nonzero")
             for rule in rules:
                 canvas = Canvas(80, 70, 16)
-                canvas.draw_polygons(*some, fills, rule=rule, blend="over")
+                canvas.draw_polygons(some, colors=fills, rule=rule, blend="over")
                 pictures.append([canvas.colors(sample) for sample in range(16)])
             self.assertTrue(np.array_equal(pictures[0], pictures[1]))
             known += int(turned.sum())
         self.assertGreater(known, 800)
         star = np.array(((0, 9), (6, 0), (9, 8), (0, 3), (9, 3)), np.int32)[None]
-        self.assertFalse(polygons_of(star).are_simple)
-        self.assertTrue(polygons_of(star[:, [0, 3, 1, 4, 2]]).are_simple)
+        self.assertFalse(_polygons.are_simple(polygons_of(star)))
+        self.assertTrue(_polygons.are_simple(polygons_of(star[:, [0, 3, 1, 4, 2]])))
 
     def test_nonzero(self) -> None:
         """What a star's ring winds around twice is inside."""
@@ -566,8 +559,7 @@ class Rules(unittest.TestCase):
             both = [Canvas(80, 70, 16) for _ in range(2)]
             for canvas in both:
                 canvas.clear((200, 255, 30))
-            corners, ring_ends, polygon_ends = polygons
-            both[0].draw_polygons(corners, ring_ends, polygon_ends, fills, rule="nonzero", blend="over", depth=number)
+            both[0].draw_polygons(polygons.colored(fills), rule="nonzero", blend="over", depth=number)
             vertices = _corners.vertices_of_corners(polygons.corners, fills, number)
             both[1].draw(vertices, _corners.triangles_of(polygons), blend="over")
             self.assertTrue(all(np.array_equal(*(canvas.colors(sample) for canvas in both)) for sample in range(16)))
@@ -575,7 +567,7 @@ class Rules(unittest.TestCase):
         self.assertGreater(drawn_so, 600)
         crossed = np.array((((0, 0), (900, 900), (900, 0), (0, 900)),), np.int32)
         self.assertIsNone(_corners.triangles_of(polygons_of(crossed)))
-        mixed = _polygons.together([polygons_of(crossed[:, :3]), polygons_of(crossed[:, [0, 2, 1, 3]])])
+        mixed = polygons_of(crossed[:, :3]).followed_by(polygons_of(crossed[:, [0, 2, 1, 3]]))
         self.assertIsNone(_corners.triangles_of(mixed))
 
     def test_vertices_behind_each_other(self) -> None:
@@ -590,11 +582,9 @@ class Rules(unittest.TestCase):
             self.assertEqual(found.tolist(), np.concatenate(arrays).tolist())
 
 
-def polygons_of(rings: Any) -> Any:
+def polygons_of(rings: Any) -> Polygons:
     """Polygons of a ring each, all of one length."""
-    count, length = rings.shape[:2]
-    each = np.arange(1, count + 1)
-    return _polygons.Polygons(rings.reshape(-1, 2), length * each, each)
+    return _polygons.rings_of_one_length(rings)
 
 
 if __name__ == "__main__":

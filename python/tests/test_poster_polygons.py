@@ -17,7 +17,7 @@ import numpy as np
 
 import trirast
 from trirast import poster
-from trirast.poster import _polygons, _strips
+from trirast.poster import _strips
 
 Rings = Sequence[Sequence[Corner]]
 RULES = ("even-odd", "nonzero")
@@ -126,7 +126,7 @@ class Windows(Files):
         scene = poster.scene_of_polygons(given, {"width": 40, "height": 40, "samples": 1})
         canvas = trirast.Canvas(40, 40, 16)
         canvas.clear()
-        canvas.draw_polygons(*given.arrays[:3])
+        canvas.draw_polygons(given, colors=(255, 255, 255))
         self.assertTrue((self.pixels(scene, samples=16) == canvas.rgb()).all())
 
     def test_files_of_arrays(self) -> None:
@@ -149,7 +149,7 @@ class Corners(unittest.TestCase):
         for _ in range(60):
             given = random_polygons(pick, 3, (-60, 300))
             (left, width), (top, height) = ((16 * pick.randrange(150), 16 * pick.randrange(1, 60)) for _ in "xy")
-            whole = _polygons.own_polygons(polygons_of(given))
+            whole = polygons_of(given).owned()
             cut = whole.within(1, top, top + height).within(0, left, left + width)
             taken = cut.take(numbers).followed_by(cut).part(1, 6)
             for k, rule in ((number, rule) for number in range(3) for rule in RULES):
@@ -425,7 +425,7 @@ class Maps(Files):
         scene = self.scene(value, {"window": [0, 0, 6, 3], "width": 60, "samples": 16})
         canvas = trirast.Canvas(scene.sheet.width, scene.sheet.height, scene.sheet.samples)
         canvas.clear((255, 255, 255))
-        canvas.draw_polygons(*scene.polygons.arrays[:3], first_id=0)
+        canvas.draw_polygons(scene.polygons, first_id=0)
         ids = np.stack([canvas.ids(sample) for sample in range(scene.sheet.samples)])
         self.assertEqual([int((ids == number).sum()) for number in (0, 1, 2, 0xFFFFFF)], [12800, 0, 3200, 12800])
 

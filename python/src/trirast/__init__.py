@@ -24,6 +24,8 @@ looked for. It is loaded at the first call. Python 3.9 or later, standard librar
 given if numpy is there.
 """
 
+from typing import TYPE_CHECKING, Any
+
 from ._blend import BLENDS, Blend
 from ._boxes import polygon_boxes
 from ._canvas import Canvas, edges_at
@@ -66,3 +68,14 @@ __all__ = [
     "TileSizeError", "TriangleError", "TriangleSamples", "VERTEX", "__version__", "clip", "draw", "draw_file",
     "edges_at", "image_info", "polygon_boxes", "snap", "triangle_samples", "why",
 ]
+
+if TYPE_CHECKING:
+    from ._polygons import Polygons as Polygons
+else:
+    # Its module imports numpy, so it is loaded at its first use. `from trirast import *` leaves it out.
+    def __getattr__(name: str) -> Any:
+        if name == "Polygons":
+            from ._polygons import Polygons
+
+            return Polygons
+        raise AttributeError(f"module {__name__!r} has no attribute {name!r}")

@@ -1,24 +1,24 @@
 """The boxes of polygons, by which a call that draws passes over those beside its canvas."""
 
-from typing import Any
+from typing import Any, Optional
 
 from ._batch import address_of
 from ._declarations import CError, CPolygons
 from ._errors import BatchError, Error, adding
 from ._ffi import library
-from ._polygons import BOX, BOX_BYTES, put_boxes, rings_of
+from ._rings import BOX, BOX_BYTES, put_boxes, rings_of
 from ._threads import with_stack
 from ._values import OF_DRAWS, PolygonValues
 
 
-def polygon_boxes(corners: Any, ring_ends: Any, polygon_ends: Any) -> memoryview:
-    """The box of each polygon's corners in 1/256 pixel of the screen: rows of left, top, right and bottom, which are
-    the least x and y of them and the greatest. A polygon without corners has 2147483647 on its left and at its top, and
-    -2147483648 on its right and at its bottom.
+def polygon_boxes(corners: Any, ring_ends: Optional[Any] = None, polygon_ends: Optional[Any] = None) -> memoryview:
+    """Returns the box of each polygon's corners in 1/256 pixel of the screen: rows of left, top, right and bottom,
+    which are the least x and y of them and the greatest. A polygon without corners has 2147483647 on its left and at
+    its top, and -2147483648 on its right and at its bottom.
 
-    All three parameters are as for `Canvas.draw_polygons`, which takes the boxes of the same polygons as `boxes`.
-    Returns a memoryview of signed 32-bit integers, of the shape (n, 4), which cannot be written to. `numpy.asarray`
-    makes an array of it that shares its memory.
+    The parameters are as for `Canvas.draw_polygons`, which takes the boxes of the same polygons as `boxes`: three
+    arrays, or a `Polygons` alone. The result is a memoryview of signed 32-bit integers, of the shape (n, 4), which
+    cannot be written to. `numpy.asarray` makes an array of it that shares its memory.
 
     Raises BatchError if the ends fall or leave the arrays, or a corner lies outside of -8388608 to 8388607; its
     element is the ring, the polygon or the corner. Raises TypeError or ValueError, which name the parameter, row and

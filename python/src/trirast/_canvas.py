@@ -24,8 +24,8 @@ from ._numpy import np
 from ._patterns import COUNTS
 from ._picture import Path, Picture, save_png
 from ._png import png_chunks
-from ._polygons import RULES, UNIT, Rule, polygons_of, rows_crossed, scratch_of
-from ._records import HIGH, LOW, POSITION, table_of
+from ._records import HIGH, LOW, POSITION, UNIT, table_of
+from ._rings import RULES, Rule, polygons_of, rings_of, rows_crossed, scratch_of
 from ._threads import share
 from ._values import OF_DRAWS, BatchValues, PolygonValues, point_values
 from ._version import INTERFACE
@@ -95,20 +95,17 @@ class Canvas:
     @property
     def width(self) -> int:
         """The width in pixels."""
-        found: int = self._whole.width
-        return found
+        return int(self._whole.width)
 
     @property
     def height(self) -> int:
         """The height in pixels."""
-        found: int = self._whole.height
-        return found
+        return int(self._whole.height)
 
     @property
     def samples(self) -> int:
         """The samples of a pixel."""
-        found: int = self._whole.samples
-        return found
+        return int(self._whole.samples)
 
     @property
     def alpha(self) -> bool:
@@ -245,9 +242,9 @@ class Canvas:
     def draw_polygons(
         self,
         corners: Any,
-        ring_ends: Any,
-        polygon_ends: Any,
-        colors: Any = (255, 255, 255),
+        ring_ends: Optional[Any] = None,
+        polygon_ends: Optional[Any] = None,
+        colors: Optional[Any] = None,
         *,
         rule: Rule = "even-odd",
         depth: Optional[Any] = None,
@@ -265,11 +262,12 @@ class Canvas:
 
         A polygon is any number of rings, and a ring any number of corners: rings may be holes, touch and cross each
         other and themselves. `corners` are rows of x and y in 1/256 pixel of the screen, of all rings one after
-        another; `trirast.snap` makes them of floats in pixels. `ring_ends` has of each ring the index behind its last
-        corner, and `polygon_ends` of each polygon the index behind its last ring: for Polygons the offsets of
+        another; `trirast.snap` makes them of floats in pixels. `ring_ends` has the end index of each ring, past its
+        last corner, and `polygon_ends` that of each polygon, past its last ring: for polygons the offsets of
         `shapely.to_ragged_array` (shapely 2) without their leading 0. `colors` is one colour of 3 or 4 channels, red,
-        green, blue and alpha of 0 to 255, or a row of them for each polygon. `depth` is one depth, 0 to 65535, or one
-        for each; 0, if there are none.
+        green, blue and alpha of 0 to 255, or a row of them for each polygon; white, if there are none. `depth` is one
+        depth, 0 to 65535, or one for each; 0, if there are none. A `Polygons` replaces all three arrays, and has
+        colours if none are given.
 
         By the rule "even-odd" a sample is inside if a ray from it to the left crosses an odd number of edges, by
         "nonzero" if it crosses more that run downwards than upwards, or fewer. This is exact: polygons that share
@@ -282,7 +280,7 @@ class Canvas:
         each as a whole, and no error says so. Without any the call finds them itself, once for all threads.
 
         All else is as for `draw`. With `first_id` each polygon is drawn in the colour of its id, whatever `colors` are.
-        Arrays are copied.
+        Arrays are copied, except those that `Polygons.owned` returns.
 
         Raises BatchError, and then nothing was drawn, if the ends fall or leave the arrays; if there are boxes, but
         fewer than polygons; or if there are none, and a corner lies outside of -8388608 to 8388607. Its element is the
@@ -290,9 +288,8 @@ class Canvas:
         if the canvas's origin is not -32768 to 28672.
         """
         state = state_in_c("none", depth_test, depth_write, keep, sample_mask, scissor, blend)
-        polygons = polygons_of(
-            corners, ring_ends, polygon_ends, colors, depth, boxes, named("rule", RULES, rule), state
-        )
+        given = rings_of(corners, ring_ends, polygon_ends)
+        polygons = polygons_of(given, colors, depth, boxes, named("rule", RULES, rule), state)
         ids = () if first_id is None else (between("first_id", first_id, 0, MAX_ID + 1),)
         call = library().trirast_canvas_draw_polygon_ids if ids else library().trirast_canvas_draw_polygons
         size = library().trirast_polygons_scratch(self._whole, polygons.fill_rule)
@@ -460,10 +457,11 @@ class Canvas:
 
     # ---- Pieces
 
-    def _pieces(self, count: int) -> List[Tuple[CCanvas, int]]:
-        """The canvas in this many pieces, each with its first row of pixels."""
-        rows = self._whole.end
-        ends = [k * rows // count for k in range(count + 1)]
+    def _pieces(self, count: int, start: int = 0, stop: Optional[int] = None) -> List[Tuple[CCanvas, int]]:
+        """Returns tile rows in this many pieces, each with its first row of pixels: from `start` to before `stop`, or
+        to the last one."""
+        rows = (self._whole.end if stop is None else stop) - start
+        ends = [start + k * rows // count for k in range(count + 1)]
         found = []
         for first, end in zip(ends, ends[1:]):
             piece = CCanvas()

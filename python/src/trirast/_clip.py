@@ -6,7 +6,7 @@ from ._arguments import between, named, of_length, shown
 from ._buffers import refuse_masked
 from ._cut_triangle import MADE, Corner, Ears, Plane, kept
 from ._numpy import np
-from ._records import HIGH, LOW, index_columns, indices_of
+from ._records import HIGH, LOW, UNIT, index_columns, indices_of
 from ._vertices import VERTEX
 
 # One of numpy, which the package does without until a call needs it.
@@ -57,8 +57,8 @@ class View:
         self.near_depth, far_depth = (between("depths", each, 0, 65535) for each in of_length("depths", depths, 2))
         self.least_depth, self.greatest_depth = sorted((self.near_depth, far_depth))
         self.near_factor = float(near_plane)
-        self.scales = (*(128.0 * size for size in sizes), (far_depth - self.near_depth) / (1 + self.near_factor))
-        self.centre = tuple(256.0 * start + 128.0 * size for start, size in zip(starts, sizes))
+        self.scales = (*(UNIT / 2 * size for size in sizes), (far_depth - self.near_depth) / (1 + self.near_factor))
+        self.centre = tuple(UNIT * start + UNIT / 2 * size for start, size in zip(starts, sizes))
         guards = [guard(half, middle) if sides == 0 else 1.0 for half, middle in zip(self.scales, self.centre)]
         beside = (Plane(guards[axis], sign, axis) for axis in (0, 1) for sign in (1.0, -1.0))
         # In the order in which they cut.
@@ -98,7 +98,7 @@ def guard(half: float, middle: float) -> float:
     """The largest power of two of half viewports from the middle that fit the positions of a canvas, with a pixel to
     spare: on the screen, and as seen from an origin anywhere in the viewport."""
     found = 1.0
-    while 2 * found * half + max(abs(middle), half) <= HIGH - 256:
+    while 2 * found * half + max(abs(middle), half) <= HIGH - UNIT:
         found *= 2
     return found
 

@@ -10,15 +10,13 @@ from ._declarations import CDraw
 from ._numbers import CULLS as CULLS
 from ._numbers import DEPTH_TESTS as DEPTH_TESTS
 from ._numbers import TOPOLOGIES, Cull, DepthTest
-from ._records import Copy, index_columns, indices_of
+from ._records import UNIT, Copy, index_columns, indices_of
 from ._vertices import count_of, vertices_of
 
 CHANNELS = "rgba"
 # The sample mask that has every sample, however many a pixel has.
 EVERY_SAMPLE = 0xFFFF
 INDEX_BYTES = 4
-# In 1/256 pixel.
-UNIT = 256
 # Of so many triangles, spread over all of a draw, it is looked how many pixels they meet.
 MOST_LOOKED_AT = 256
 

@@ -7,13 +7,13 @@ from ._arguments import named, shown
 from ._clip import check_indices
 from ._numpy import np
 from ._patterns import SAMPLES
-from ._records import index_columns, indices_of
+from ._records import UNIT, index_columns, indices_of
 
 # One of numpy, which the package does without until a call needs it.
 Array = Any
 Rate = Literal["pixel", "centre", "sample"]
 RATES: Tuple[Rate, ...] = ("pixel", "centre", "sample")
-CENTRE, UNIT = 128, 256
+CENTRE = UNIT // 2
 
 
 class Fragments(NamedTuple):

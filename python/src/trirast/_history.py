@@ -7,6 +7,7 @@ from ._declarations import CError, CEvent, CFragment, CHistoryRequest, CSampleCo
 from ._draw_list import DrawList, as_bytes, read_image_info
 from ._errors import PixelError, SampleError, TriangleError, adding
 from ._ffi import library
+from ._records import UNIT
 from ._threads import with_stack
 
 Color = Tuple[int, int, int]
@@ -79,7 +80,7 @@ class SampleHistory(NamedTuple):
     end: Stored
 
     def __str__(self) -> str:
-        x, y = (z / 256 for z in self.position)
+        x, y = (z / UNIT for z in self.position)
         lines = [f"sample {self.sample} at ({x:.3f}, {y:.3f})", f"  begins {self.begin}"]
         lines += [f"  {event}" for event in self.events]
         return "\n".join([*lines, f"  ends {self.end}"])

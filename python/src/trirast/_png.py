@@ -12,6 +12,8 @@ SIGNATURE = b"\x89PNG\r\n\x1a\n"
 # Bits of a channel and colour type, by the bytes of a pixel.
 KINDS = {3: (8, 2), 4: (8, 6), 2: (16, 0)}
 NO_FILTER = b"\0"
+# How well rows are deflated: as zlib does it by default.
+LEVEL = 6
 # In metres. A chunk pHYs has dots per metre, 1 to 2**31 - 1, and the unit 1 for metres.
 INCH = 0.0254
 LEAST_DPI, GREATEST_DPI = INCH, 54546084
@@ -52,11 +54,16 @@ def head_of(width: int, height: int, pixel_bytes: int, dpi: Optional[float] = No
 
 
 def png_chunks(pixels: memoryview, dpi: Optional[float] = None) -> Iterator[bytes]:
-    """The pieces of a file, of pixels of the shape (height, width, 3), with alpha (height, width, 4), or (height,
-    width, 2) of depths with the high byte first."""
+    """Returns the pieces of a file, of pixels of the shape (height, width, 3), with alpha (height, width, 4), or of
+    depths with the high byte first (height, width, 2)."""
     height, width, pixel_bytes = pixels.shape or (0, 0, 0)
-    yield head_of(width, height, pixel_bytes, dpi)
     flat, row = pixels.cast("B"), width * pixel_bytes
     rows = b"".join(NO_FILTER + flat[first : first + row] for first in range(0, len(flat), row))
-    yield chunk(b"IDAT", zlib.compress(rows))
+    return chunks_of(width, height, pixel_bytes, rows, dpi)
+
+
+def chunks_of(width: int, height: int, pixel_bytes: int, rows: Any, dpi: Optional[float] = None) -> Iterator[bytes]:
+    """Returns the pieces of a file, of rows that are filtered."""
+    yield head_of(width, height, pixel_bytes, dpi)
+    yield chunk(b"IDAT", zlib.compress(rows, LEVEL))
     yield chunk(b"IEND", b"")

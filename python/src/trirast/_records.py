@@ -13,6 +13,8 @@ from ._arguments import CHANNEL, of_length, shown
 from ._buffers import OTHER_ORDER, buffer_of, exact_bytes, family_of, kind_of, refuse_masked
 from ._numbers import HIGHEST_POSITION, LOWEST_POSITION
 
+# Positions are in 1/256 pixel, and these are the least and the greatest: the guard band.
+UNIT = 256
 LOW, HIGH = LOWEST_POSITION, HIGHEST_POSITION
 POSITION = " in 1/256 pixel"
 SNAP = "use trirast.snap(xy)"

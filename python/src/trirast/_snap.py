@@ -4,9 +4,8 @@ from typing import Any, SupportsFloat
 
 from ._arguments import of_length, real, shown
 from ._buffers import buffer_of, family_of, refuse_masked
-from ._records import HIGH, LOW
+from ._records import HIGH, LOW, UNIT
 
-UNIT = 256
 # The guard band in pixels.
 BAND = f"{LOW // UNIT} to {HIGH / UNIT} pixels"
 

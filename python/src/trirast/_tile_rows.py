@@ -1,7 +1,7 @@
 """Some tile rows of a canvas, loaded and resolved by themselves, from and to arrays of numpy that have a
 word for each pixel."""
 
-from typing import Any, Callable, List, Tuple
+from typing import Any, Callable, Tuple
 
 from ._canvas import FORMATS, TILE_SIZE, Canvas
 from ._declarations import CCanvas
@@ -50,14 +50,7 @@ class TileRows:
             call(piece, *chosen, start + top * stride, (rows - 1) * stride + row_bytes, stride)
 
         with self._canvas._lock:
-            share(on_piece, self._pieces, max(min(self._threads, self._end - self._first), 1))
-
-    def _pieces(self, count: int) -> List[Tuple[CCanvas, int]]:
-        """These tile rows in this many pieces, each with its first row of pixels."""
-        ends = [self._first + k * (self._end - self._first) // count for k in range(count + 1)]
-        found = []
-        for first, end in zip(ends, ends[1:]):
-            piece = CCanvas()
-            library().trirast_canvas_split(self._canvas._whole, first, end, piece)
-            found.append((piece, first * TILE_SIZE))
-        return found
+            share(
+                on_piece, lambda count: self._canvas._pieces(count, self._first, self._end),
+                max(min(self._threads, self._end - self._first), 1),
+            )

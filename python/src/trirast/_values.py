@@ -7,11 +7,9 @@ from typing import Any, NamedTuple, Optional, Tuple
 from ._declarations import CBatch, CPolygons
 from ._errors import BatchError
 from ._numbers import COUNTS, TOPOLOGIES
-from ._polygons import CORNER_BYTES, leading_zero
-from ._records import HIGH, LOW
+from ._records import HIGH, LOW, UNIT
+from ._rings import CORNER_BYTES, ends_of, leading_zero
 
-# Of a pixel.
-UNIT = 256
 INDEX = ctypes.c_uint32
 # What the library's line says of draws beside what it says of polygons.
 OF_DRAWS = "a vertex or an index is in no draw, or "
@@ -73,7 +71,7 @@ class PolygonValues(NamedTuple):
             return f"{wanted}, and not {passed}"
         if error.name == "BadPosition":
             return position_values(place_at(given.corners + CORNER_BYTES * (element or 0)), (0, 0))
-        rings, polygons = ends_of(given.ring_ends, given.ring_count), ends_of(given.polygon_ends, given.polygon_count)
+        rings, polygons = ends_of(given)
         if error.name not in ("BadRing", "BadPolygon", "LeftOver"):
             return ""
         is_ring = error.name == "BadRing" or (error.name == "LeftOver" and last_of(rings) < given.corner_count)
@@ -82,11 +80,6 @@ class PolygonValues(NamedTuple):
             if is_ring else ("polygon", polygons, element, f"{given.ring_count} rings")
         )
         return end_values(*ends) + leading_zero(rings, polygons)
-
-
-def ends_of(address: Any, count: int) -> Any:
-    """Where rings or polygons end."""
-    return (INDEX * count).from_address(address) if count else ()
 
 
 def last_of(ends: Any) -> int:

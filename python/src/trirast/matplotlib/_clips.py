@@ -6,8 +6,8 @@ import math
 from itertools import count
 from typing import Any, List, NamedTuple, Optional
 
+from .._box import Box
 from ._paths import path_polygon
-from ._triangles import Box
 from ._window import Clip
 
 # Clip paths that are kept as polygons.

@@ -6,9 +6,9 @@ from typing import Any, Dict, List, NamedTuple, Sequence
 
 import numpy as np
 
+from .._polygons import Polygons
 from ._colors import rows_of_colors
 from ._inside import HIDDEN
-from ._polygons import Polygons
 from ._transforms import cycled, unmasked
 
 
@@ -71,19 +71,16 @@ class Part(NamedTuple):
     """One round: faces for samples, and what Agg draws over them."""
 
     polygons: Polygons
-    colors: Any
     by_agg: Any
 
 
-def rounds_in_order(
-    whole: Collection, polygons: Polygons, colors: Any, ours: Any, by_agg: Any, rounds: Any
-) -> List[Part]:
-    """The rounds of a collection, one after another. Faces that are drawn here are hidden from Agg."""
+def rounds_in_order(whole: Collection, polygons: Polygons, ours: Any, by_agg: Any, rounds: Any) -> List[Part]:
+    """Returns the rounds of a collection, one after another. Faces that are drawn here are hidden from Agg."""
     spread = whole.spread()
     spread.faces[ours] = HIDDEN
     found = []
     for number in range(int(rounds.max(initial=0)) + 1):
         here = rounds == number
         faces, others = np.flatnonzero(here & ours), np.flatnonzero(here & by_agg)
-        found.append(Part(polygons.taken(faces), colors[faces], spread.of(others) if len(others) else None))
+        found.append(Part(polygons.take(faces), spread.of(others) if len(others) else None))
     return found

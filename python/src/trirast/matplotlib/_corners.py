@@ -7,8 +7,9 @@ from typing import Any, Optional, Tuple
 
 import numpy as np
 
+from .._polygons import Polygons
 from .._vertices import VERTEX
-from ._polygons import Polygons, as_numbers
+from ._polygons import are_rings, as_numbers
 
 # The corners of the triangles on both sides of a quad's first diagonal, and of its second one.
 FIRST, SECOND = np.array(((0, 1, 2, 0, 2, 3), (1, 2, 3, 1, 3, 0)), np.uint32)
@@ -25,8 +26,8 @@ def triangles_of(polygons: Polygons) -> Optional[Any]:
     Two triangles on both sides of a diagonal have no sample in common, and in the rule of polygons the
     diagonal cancels.
     """
-    count = len(polygons.polygon_ends)
-    length = int(polygons.ring_ends[0]) if polygons.are_rings else 0
+    count = polygons.count
+    length = int(polygons.ring_ends[0]) if are_rings(polygons) else 0
     if (
         length not in (3, 4) or polygons.ring_ends[-1] != length * count
         or (np.diff(polygons.ring_ends) != length).any()

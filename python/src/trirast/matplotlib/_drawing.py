@@ -8,10 +8,12 @@ from typing import Iterator, Optional
 import numpy as np
 from numpy.typing import NDArray
 
+from .._box import Box
 from .._canvas import Canvas
 from ._colors import OPAQUE
 from ._mesh import Gouraud
-from ._triangles import Box, bounds_of, is_near
+from ._polygons import is_near
+from ._triangles import bounds_of
 
 # A canvas of this side takes 103 MB with four samples a pixel. With more of them it has half of this side.
 MAX_SIDE = 2048

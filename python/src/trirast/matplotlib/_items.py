@@ -8,11 +8,12 @@ from typing import Any, List, NamedTuple, Optional, Sequence, Tuple
 import numpy as np
 from matplotlib.path import Path
 
+from .._polygons import Polygons, ranges, with_zero
 from ._inside import MAX_SNAPPED, STRAIGHT, all_codes, all_vertices, are_one, cleaned, stacked, stacked_codes
 from ._paths import range_any, rectilinear
 from ._polygons import (
-    CLOSEPOLY, LINETO, MOVETO, NOTHING, REACH, Polygons, Rings, as_corners, as_numbers, equal_rings, in_units, joined,
-    polygons, ranges_of, rings, rings_of_one_length,
+    CLOSEPOLY, LINETO, MOVETO, NOTHING, REACH, Rings, as_corners, as_numbers, equal_rings, in_units, is_near, joined,
+    of_arrays, rings, rings_of_one_length,
 )
 from ._transforms import applied, matrix_of
 
@@ -207,12 +208,6 @@ def are_behind(codes: Any) -> Any:
     return (codes[1:] == LINETO) & (codes[:-1] == CLOSEPOLY)
 
 
-def is_near(points: Any) -> bool:
-    """Whether all positions are numbers in the guard band."""
-    with np.errstate(invalid="ignore"):
-        return bool(len(points)) and bool(-REACH <= points.min() and points.max() <= REACH)
-
-
 def is_seen_whole(points: Any, size: Tuple[int, int]) -> bool:
     """Whether all positions lie in a picture of this size."""
     with np.errstate(invalid="ignore"):
@@ -250,9 +245,9 @@ def path_members(items: Items) -> Tuple[Any, Any, Any]:
     vertices, codes = stacked(arrays), joined_codes(items.paths, lengths)
     if len(items.paths) == len(items.path_of):
         return np.asarray(vertices, np.float64), codes, lengths
-    members, ends = ranges_of(np.cumsum(lengths), items.path_of)
-    vertices, codes = vertices[members], codes[members]
-    return np.asarray(vertices, np.float64), codes, np.diff(ends, prepend=0)
+    ends = with_zero(np.cumsum(lengths))
+    members = ranges(ends[items.path_of], ends[items.path_of + 1])
+    return np.asarray(vertices[members], np.float64), codes[members], lengths[items.path_of]
 
 
 def joined_codes(paths: Sequence[Any], lengths: Any) -> Any:
@@ -314,7 +309,7 @@ def spread(given: Polygons, places: Any) -> Polygons:
     """The polygons in the places that are set, and empty ones in the others."""
     counts = np.zeros(len(places), np.int64)
     counts[places] = np.diff(given.polygon_ends, prepend=0)
-    return given._replace(polygon_ends=np.cumsum(counts))
+    return of_arrays(given.corners, given.ring_ends, np.cumsum(counts))
 
 
 def spread_flags(flags: Any, places: Any) -> Any:
@@ -330,16 +325,14 @@ def quad_faces(coordinates: Any, transform: Any, snap: Optional[bool], stroke: f
     """The quads of a grid of points, row after row, by one transform; None if one is too far or no number. All are
     snapped or none."""
     grid = applied(transform, np.asarray(coordinates, np.float64))
-    with np.errstate(invalid="ignore"):
-        if not (grid.size and -REACH <= grid.min() and grid.max() <= REACH):
-            return None
+    if not is_near(grid):
+        return None
     across, down = np.abs(grid[:, 1:] - grid[:, :-1]), np.abs(grid[1:] - grid[:-1])
     upright = bool((across < STRAIGHT).any(-1).all() and (down < STRAIGHT).any(-1).all())
     if snap or (snap is None and upright):
         grid = np.floor(grid + 0.5) + half_of_odd(np.float64(stroke))
     # Corners are rounded before they are put together, of which each is four times there.
-    whole = as_numbers(polygons(grid, (), ()).corners).reshape(grid.shape[:2])
+    whole = as_numbers(in_units(grid).reshape(-1, 2).astype(np.int32)).reshape(grid.shape[:2])
     corners = as_corners(np.stack((whole[:-1, :-1], whole[:-1, 1:], whole[1:, 1:], whole[1:, :-1]), 2).reshape(-1))
-    count = len(corners) // 4
-    found = Polygons(corners, 4 * np.arange(1, count + 1), np.arange(1, count + 1))
-    return Faces(found, np.full(count, upright and snap is not False))
+    found = rings_of_one_length(corners.reshape(-1, 4, 2))
+    return Faces(found, np.full(found.count, upright and snap is not False))

@@ -6,7 +6,8 @@ from typing import Any, Iterator, NamedTuple, Union
 
 import numpy as np
 
-from ._triangles import Batch, Colors, Points, Triangles, is_near, vertices_of
+from ._polygons import is_near
+from ._triangles import Batch, Colors, Points, Triangles, vertices_of
 
 
 class Mesh(NamedTuple):

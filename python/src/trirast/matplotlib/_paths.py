@@ -7,8 +7,9 @@ from typing import Any, Optional
 import numpy as np
 from matplotlib.path import Path
 
+from .._polygons import Polygons
 from ._inside import MAX_SNAPPED, STRAIGHT, cleaned
-from ._polygons import LINETO, MOVETO, REACH, Polygons, joined, polygons
+from ._polygons import LINETO, MOVETO, REACH, joined, polygons
 from ._transforms import affine, applied
 
 LINE, CLOSED = bytes((LINETO,)), bytes((Path.CLOSEPOLY,))

@@ -6,10 +6,11 @@ from typing import Any, List, Optional
 
 import numpy as np
 from matplotlib.backends.backend_agg import RendererAgg
-from matplotlib.path import Path
 
 from .._arguments import flag, integer, thread_count
+from .._box import Box
 from .._patterns import COUNTS, PATTERNS
+from .._polygons import Polygons
 from ._clips import Clips, clip_box
 from ._collection import Collection, rounds_in_order
 from ._colors import OPAQUE, byte_of, color_bytes, edge_alpha, edges_of, face_bytes
@@ -18,11 +19,10 @@ from ._inside import HIDDEN, face_alpha, faces_have_their_alpha, take_grids
 from ._items import Faces, Items, faces_of, quad_faces
 from ._mesh import Gouraud, Mesh, mesh_of
 from ._paths import has_curve, is_odd, is_snapped, is_snapped_rectangle, path_polygon
-from ._polygons import Polygons
 from ._rounds import have_common_sides, reach_of, rounds_of
 from ._samples import Samples
 from ._transforms import cycled, placed, unmasked
-from ._triangles import Box, Points, Triangles
+from ._triangles import Points, Triangles
 
 # Its functions have no types.
 ma: Any = np.ma
@@ -192,7 +192,8 @@ class RendererTrirast(RendererAgg):
         if not by_agg.any():
             self._draw(gc, faces.polygons, colors)
             return True
-        return self._draw_with_edges(gc, whole, faces.polygons, colors, ours, by_agg, self.points_to_pixels(points))
+        polygons = faces.polygons.colored(np.asarray(colors, np.uint8))
+        return self._draw_with_edges(gc, whole, polygons, ours, by_agg, self.points_to_pixels(points))
 
     def _faces(self, gc: Any, whole: Collection, widths: Any, alone: bool, has_edges: bool) -> Faces:
         count, height = whole.item_count, int(self.height)
@@ -206,7 +207,7 @@ class RendererTrirast(RendererAgg):
         return faces_of(items, gc.get_snap(), alone, (int(self.width), height), margin)
 
     def _draw_with_edges(
-        self, gc: Any, whole: Collection, polygons: Polygons, colors: Any, ours: Any, by_agg: Any, widths: Any
+        self, gc: Any, whole: Collection, polygons: Polygons, ours: Any, by_agg: Any, widths: Any
     ) -> bool:
         """Draws faces and what Agg draws over them, in rounds. With too many of them opaque faces are drawn below
         Agg's, where they show between these. Hatched faces may have their neighbours in other collections, as
@@ -215,13 +216,13 @@ class RendererTrirast(RendererAgg):
             return False
         rounds = rounds_of(polygons, ours, by_agg, widths, int(self.width), int(self.height))
         if rounds is None:
-            if not (colors[ours, 3] == OPAQUE).all():
+            if not (polygons.colors[ours, 3] == OPAQUE).all():
                 return False
             some = np.flatnonzero(ours)
-            self._draw(gc, polygons if len(some) == len(ours) else polygons.taken(some), colors[some])
+            self._add(gc, polygons if len(some) == len(ours) else polygons.take(some))
             return False
-        for part in rounds_in_order(whole, polygons, colors, ours, by_agg, rounds):
-            self._draw(gc, part.polygons, part.colors)
+        for part in rounds_in_order(whole, polygons, ours, by_agg, rounds):
+            self._add(gc, part.polygons)
             if part.by_agg is not None:
                 part.by_agg.by_agg(self._renderer, gc)
         return True
@@ -294,9 +295,13 @@ class RendererTrirast(RendererAgg):
         return antialiased | True if flag("RendererTrirast.smooth", self.smooth) else antialiased
 
     def _draw(self, gc: Any, polygons: Polygons, colors: Any) -> None:
+        self._add(gc, polygons.colored(np.asarray(colors, np.uint8)))
+
+    def _add(self, gc: Any, polygons: Polygons) -> None:
+        """Draws polygons in their colours."""
         box = self._clip_box(gc)
-        if not box.is_empty and len(polygons.polygon_ends):
-            self._all_samples().add(polygons, np.asarray(colors, np.uint8), box, self._clips.of(gc))
+        if not box.is_empty and polygons.count:
+            self._all_samples().add(polygons, box, self._clips.of(gc))
             self._flush_at_end()
 
     def _all_samples(self) -> Samples:

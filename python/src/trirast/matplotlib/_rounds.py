@@ -10,8 +10,9 @@ from typing import Any, Optional
 
 import numpy as np
 
+from .._polygons import Polygons
+from .._records import UNIT
 from ._inside import MITRE_LIMIT
-from ._polygons import UNIT, Polygons
 
 # The side of a cell, in pixels.
 CELL = 4
@@ -25,10 +26,10 @@ def rounds_of(polygons: Polygons, faces: Any, edges: Any, widths: Any, width: in
     drawn into samples, and `edges` those of which Agg draws something."""
     if len(faces) > MAX_ITEMS:
         return None
-    bounds = bounds_of(polygons)
+    bounds, has_corners = polygons.boxes / UNIT, np.diff(polygons.places) > 0
     cells = -(-height // CELL), -(-width // CELL)
-    in_faces = cells_of(bounds, np.ones(len(bounds)), faces, cells)
-    in_edges = cells_of(bounds, reach_of(widths), edges, cells)
+    in_faces = cells_of(bounds, np.ones(len(bounds)), faces & has_corners, cells)
+    in_edges = cells_of(bounds, reach_of(widths), edges & has_corners, cells)
     face_rounds, edge_rounds = np.zeros(cells, np.int32), np.full(cells, -1, np.int32)
     found = np.zeros(len(faces), np.int32)
     for n in range(len(faces)):
@@ -53,24 +54,12 @@ def reach_of(widths: Any) -> Any:
     return np.ceil(MITRE_LIMIT * widths / 2 + 2)
 
 
-def bounds_of(polygons: Polygons) -> Any:
-    """Left, top, right and bottom of each polygon in pixels; nothing of an empty one."""
-    found = np.tile(np.array((1.0, 1.0, -1.0, -1.0)), (len(polygons.polygon_ends), 1))
-    corners = np.concatenate(([0], polygons.ring_ends))[polygons.polygon_ends]
-    starts = np.concatenate(([0], corners[:-1]))
-    some = corners > starts
-    if some.any():
-        found[some, :2] = np.minimum.reduceat(polygons.corners, starts[some]) / UNIT
-        found[some, 2:] = np.maximum.reduceat(polygons.corners, starts[some]) / UNIT
-    return found
-
-
 def cells_of(bounds: Any, reach: Any, which: Any, cells: Any) -> list[Any]:
     """The cells that items touch, with what lies around them, of the items that are set."""
     found = np.empty(bounds.shape)
     found[:, :2] = np.floor((bounds[:, :2] - reach[:, None]) / CELL)
     found[:, 2:] = np.floor((bounds[:, 2:] + reach[:, None]) / CELL) + 1
-    found[~which | (bounds[:, 0] > bounds[:, 2])] = 0
+    found[~which] = 0
     rows, columns = cells
     whole: list[Any] = np.clip(found, 0, (columns, rows, columns, rows)).astype(int).tolist()
     return whole
@@ -80,7 +69,7 @@ def have_common_sides(polygons: Polygons) -> bool:
     """Whether two sides of polygons are the same, in one direction or the other, so that a seam could
     be between them."""
     # Of many polygons the first ones mostly say it.
-    if len(polygons.polygon_ends) > FIRST_ITEMS and have_common_sides(polygons.between(0, FIRST_ITEMS)):
+    if polygons.count > FIRST_ITEMS and have_common_sides(polygons.part(0, FIRST_ITEMS)):
         return True
     corners = polygons.corners.astype(np.int64)
     if not len(corners):

@@ -7,10 +7,12 @@ from typing import Any, Callable, Dict, List, NamedTuple, Optional, Tuple
 
 import numpy as np
 
+from .._box import Box
+from .._polygons import Polygons
+from .._records import UNIT
 from ._colors import OPAQUE, as_agg_blends
 from ._mesh import Gouraud
-from ._polygons import UNIT, Polygons, together
-from ._triangles import Box, bounds_of
+from ._triangles import bounds_of
 from ._window import Clip, Window
 
 # A canvas of this side takes up to 409 MB with 16 samples, as far as it is drawn upon.
@@ -22,10 +24,9 @@ STEP = 7
 
 
 class Waiting(NamedTuple):
-    """Polygons that are still to be drawn."""
+    """Polygons that are still to be drawn, in their colours."""
 
     polygons: Polygons
-    colors: Any
     box: Box
     clip: Optional[Clip]
     has_alpha: bool
@@ -37,7 +38,7 @@ class Waiting(NamedTuple):
         if not len(corners):
             return Box(0, 0, 0, 0)
         (left, right), (top, bottom) = ((int(axis.min()), int(axis.max())) for axis in corners.T)
-        return common(Box(left // UNIT, top // UNIT, -(-right // UNIT), -(-bottom // UNIT)), self.box)
+        return Box(left // UNIT, top // UNIT, -(-right // UNIT), -(-bottom // UNIT)).common(self.box)
 
 
 class Samples:
@@ -88,18 +89,18 @@ class Samples:
         if self._waiting:
             return True
         return any(
-            window.has_samples(common(window.box, box)) for window in self._windows.values() if meet(window.box, box)
+            window.has_samples(window.box.common(box)) for window in self._windows.values() if window.box.meets(box)
         )
 
-    def add(self, polygons: Polygons, colors: Any, box: Box, clip: Optional[Clip] = None) -> None:
-        """Draws polygons in their order inside of a box, each in its colour of four bytes."""
+    def add(self, polygons: Polygons, box: Box, clip: Optional[Clip] = None) -> None:
+        """Draws polygons in their order inside of a box."""
         has_alpha = self._needs_alpha(box)
-        is_first = not has_alpha and box not in self._grounds and is_translucent(colors)
+        is_first = not has_alpha and box not in self._grounds and is_translucent(polygons.colors)
         if is_first or (self._waiting and self._waiting[-1].has_alpha != has_alpha):
             self.flush()
         if is_first:
             self._grounds[box] = color_of_most(self._picture[box.top : box.bottom, box.left : box.right])
-        self._waiting.append(Waiting(polygons, colors, box, clip, has_alpha))
+        self._waiting.append(Waiting(polygons, box, clip, has_alpha))
 
     def _needs_alpha(self, box: Box) -> bool:
         """Whether some pixel of a box is not opaque. It is not looked for again while polygons wait for
@@ -114,25 +115,26 @@ class Samples:
         waiting, self._waiting = [self._as_drawn(each) for each in merged(self._waiting)], []
         bounds = [each.bounds for each in waiting]
         for window in self._met(around([each for each in bounds if not each.is_empty]), waiting[0].has_alpha):
-            box = common(window.box, around([each for each in bounds if meet(each, window.box)]))
+            box = window.box.common(around([each for each in bounds if each.meets(window.box)]))
             window.begin(box)
             for each, its_bounds in zip(waiting, bounds):
-                if meet(its_bounds, box):
-                    window.draw(each.polygons, each.colors, each.box, each.clip)
+                if its_bounds.meets(box):
+                    window.draw(each.polygons, each.box, each.clip)
             window.end(box)
 
     def _as_drawn(self, each: Waiting) -> Waiting:
         """Polygons with colours that make Agg's bytes of the ground that their box had."""
-        if each.has_alpha or each.box not in self._grounds or not is_translucent(each.colors):
+        colors = each.polygons.colors
+        if each.has_alpha or each.box not in self._grounds or not is_translucent(colors):
             return each
-        return each._replace(colors=as_agg_blends(each.colors, self._grounds[each.box]))
+        return each._replace(polygons=each.polygons.colored(as_agg_blends(colors, self._grounds[each.box])))
 
     def draw_triangles(self, triangles: Gouraud, box: Box, clip: Optional[Clip]) -> None:
         """Draws triangles in their order inside of a box of opaque pixels."""
         self.flush()
         drawn = bounds_of(triangles.points, box)
         for window in self._met(drawn, False):
-            part = common(window.box, drawn)
+            part = window.box.common(drawn)
             window.begin(part)
             window.draw_batches(triangles.batches(*window.box[:2]), box, clip)
             window.end(part)
@@ -184,20 +186,9 @@ def merged(waiting: List[Waiting]) -> List[Waiting]:
         else:
             groups.append([each])
     return [
-        group[0] if len(group) == 1
-        else group[0]._replace(
-            polygons=together([each.polygons for each in group]), colors=np.concatenate([each.colors for each in group])
-        )
-        for group in groups
+        first._replace(polygons=first.polygons.followed_by(*(each.polygons for each in others)))
+        for first, *others in groups
     ]
-
-
-def common(a: Box, b: Box) -> Box:
-    return Box(max(a.left, b.left), max(a.top, b.top), min(a.right, b.right), min(a.bottom, b.bottom))
-
-
-def meet(a: Box, b: Box) -> bool:
-    return not common(a, b).is_empty
 
 
 def around(boxes: List[Box]) -> Box:

@@ -9,12 +9,14 @@ from typing import Any, Iterator, NamedTuple, Optional
 import numpy as np
 from numpy.typing import NDArray
 
+from .._box import Box
+from .._polygons import ranges, with_zero
+from .._records import UNIT
+from .._ring_cuts import cut
 from .._vertices import VERTEX
 from ._colors import OPAQUE, bytes_of
+from ._polygons import REACH, is_near
 
-UNIT = 256
-# The farthest position from a window's corner that is drawn without a cut, in pixels. The guard band ends at 32,768.
-REACH = 32767.0
 # The triangles of a batch, and the vertices that are made at once, which stay in a processor's caches.
 # They change no pixel.
 BATCH, CHUNK = 65536, 6144
@@ -24,27 +26,6 @@ WRITTEN = np.dtype({"names": ["place", "color"], "formats": ["i8", "u4"], "offse
 Points = NDArray[np.float64]
 Colors = NDArray[np.float64]
 Vertices = NDArray[Any]
-
-
-class Box(NamedTuple):
-    """Pixels of a figure, right and bottom outside."""
-
-    left: int
-    top: int
-    right: int
-    bottom: int
-
-    @property
-    def width(self) -> int:
-        return self.right - self.left
-
-    @property
-    def height(self) -> int:
-        return self.bottom - self.top
-
-    @property
-    def is_empty(self) -> bool:
-        return self.width <= 0 or self.height <= 0
 
 
 class Batch(NamedTuple):
@@ -92,11 +73,6 @@ def numbered(triangles: Triangles) -> Triangles:
     return triangles.of(np.isfinite(triangles.points).all((1, 2)) & np.isfinite(triangles.colors).all((1, 2)))
 
 
-def is_near(points: Points, x: int, y: int) -> bool:
-    """Whether positions are at most REACH from the figure's corner, and from a corner of it at x and y."""
-    return bool(max(x, y) - REACH <= points.min() and points.max() <= REACH)
-
-
 def bounds_of(points: Points, box: Box) -> Box:
     """The pixels of a box between the least and the greatest of positions, of which some may be no numbers."""
     (left, right), (top, bottom) = ((np.fmin.reduce(each), np.fmax.reduce(each)) for each in points.reshape(-1, 2).T)
@@ -123,40 +99,26 @@ def within_reach(triangles: Triangles) -> Triangles:
         return triangles
     corners = np.concatenate((triangles.points, triangles.colors), 2)
     for axis in (0, 1):
-        for sign in (1, -1):
-            corners = cut(corners, axis, sign)
+        for limit, sign in ((REACH, -1), (-REACH, 1)):
+            is_kept = sign * (corners[:, :, axis] - limit) >= 0
+            rings, ends = alone_first(corners, is_kept).reshape(-1, 6), 3 * np.arange(1, len(corners) + 1)
+            corners = fans(*cut(rings, ends, axis, limit, sign))
     return numbered(Triangles(corners[:, :, :2], corners[:, :, 2:]))
 
 
-def cut(corners: Points, axis: int, sign: int) -> Points:
-    """The parts of triangles in which the coordinate times the sign is at most REACH: of each none, one or two
-    triangles, which stand where the triangle stood. A corner is a row of its position and its colour."""
-    outside = sign * corners[:, :, axis] > REACH
-    count = outside.sum(1)
-    inside, one, two = (np.flatnonzero(count == number) for number in (0, 1, 2))
-    a, b, c = corner_first(corners[one], outside[one].argmax(1))
-    ab, ac = crossing(b, a, axis, sign), crossing(c, a, axis, sign)
-    d, e, f = corner_first(corners[two], (~outside[two]).argmax(1))
-    de, df = crossing(d, e, axis, sign), crossing(d, f, axis, sign)
-    parts = [corners[inside]] + [np.stack(part, 1) for part in ((ab, b, c), (ab, c, ac), (d, de, df))]
-    places = np.concatenate((inside, one, one, two))
-    return np.concatenate(parts)[np.argsort(places, kind="stable")]
+def alone_first(corners: Any, is_kept: Any) -> Any:
+    """Returns triangles, each from the corner on that is kept alone, or is alone not kept, so that its parts do not
+    depend on where it began."""
+    alone = np.where((is_kept.sum(1) == 1)[:, None], is_kept, ~is_kept).argmax(1)
+    return np.take_along_axis(corners, ((alone[:, None] + np.arange(3)) % 3)[:, :, None], 1)
 
 
-def corner_first(corners: Points, first: NDArray[np.intp]) -> tuple[Points, Points, Points]:
-    """The corners of triangles, of each from a corner of its own on, in the order in which they run."""
-    each = np.arange(len(corners))
-    a, b, c = (corners[each, (first + k) % 3] for k in range(3))
-    return a, b, c
-
-
-def crossing(inside: Points, outside: Points, axis: int, sign: int) -> Points:
-    """Where edges cross the border, with the colour there. An edge gives the same numbers to both triangles on its
-    sides, since it is followed from its end inside."""
-    part = (sign * REACH - inside[:, axis]) / (outside[:, axis] - inside[:, axis])
-    found: Points = inside + part[:, None] * (outside - inside)
-    found[:, axis] = sign * REACH
-    return found
+def fans(corners: Any, ends: Any) -> Any:
+    """Returns the triangles of convex rings, ring after ring, each around its first corner."""
+    begins, ends = with_zero(ends)[:-1].astype(np.int64), ends.astype(np.int64)
+    last = np.maximum(ends - 1, begins + 1)
+    second = ranges(begins + 1, last)
+    return corners[np.stack((np.repeat(begins, last - begins - 1), second, second + 1), 1)]
 
 
 # ---- Vertices

@@ -6,13 +6,15 @@ from typing import Any, Iterable, NamedTuple, Optional
 
 import numpy as np
 
+from .._box import Box
 from .._canvas import TILE_SIZE, Canvas
-from .._records import LOW
+from .._polygons import Polygons
+from .._records import LOW, UNIT
 from .._tile_rows import TileRows
 from ._colors import OPAQUE
 from ._corners import triangles_of, vertices_of_corners
-from ._polygons import UNIT, Polygons
-from ._triangles import Batch, Box
+from ._polygons import are_simple, rectangles
+from ._triangles import Batch
 
 # The changed runs of pixels of a tile row that are loaded one by one. More of them are loaded with all of their row.
 MAX_RUNS = 2048
@@ -82,11 +84,10 @@ class Window:
         if self._resolved is not None:
             self._resolve(box, self._resolved)
 
-    def draw(self, polygons: Polygons, colors: Any, scissor: Box, clip: Optional[Clip]) -> None:
-        """Draws polygons over the samples, each in its colour of four bytes."""
-        self._draw(
-            polygons, colors, "none" if (colors[:, 3] == OPAQUE).all() else "over", scissor, **self._inside(clip)
-        )
+    def draw(self, polygons: Polygons, scissor: Box, clip: Optional[Clip]) -> None:
+        """Draws polygons over the samples."""
+        blend = "none" if (polygons.colors[:, 3] == OPAQUE).all() else "over"
+        self._draw(polygons, blend, scissor, **self._inside(clip))
 
     def draw_batches(self, batches: Iterable[Batch], scissor: Box, clip: Optional[Clip]) -> None:
         """Draws triangles over the samples."""
@@ -118,15 +119,16 @@ class Window:
         TileRows(self._canvas, tile_rows.start, tile_rows.stop, self._threads).resolve(out)
 
     def _draw(
-        self, polygons: Polygons, colors: Any, blend: Any, scissor: Optional[Box], depth: int = 0, **more: Any
+        self, polygons: Polygons, blend: Any, scissor: Optional[Box], depth: int = 0, **more: Any
     ) -> None:
         state: dict[str, Any] = {"blend": blend, "scissor": scissor, "threads": self._threads, **more}
         triangles = triangles_of(polygons) if self._reaches(polygons.corners) else None
         if triangles is not None:
-            self._canvas.draw(vertices_of_corners(polygons.corners, colors, depth), triangles.tobytes(), **state)
+            vertices = vertices_of_corners(polygons.corners, polygons.colors, depth)
+            self._canvas.draw(vertices, triangles.tobytes(), **state)
             return
-        rule: Any = "even-odd" if polygons.are_simple else "nonzero"
-        self._canvas.draw_polygons(*polygons, colors, rule=rule, depth=depth, **state)
+        rule: Any = "even-odd" if are_simple(polygons) else "nonzero"
+        self._canvas.draw_polygons(polygons, rule=rule, depth=depth, **state)
 
     def _reaches(self, corners: Any) -> bool:
         """Whether corners lie in the guard band as seen from the window, as those of triangles have to."""
@@ -141,7 +143,7 @@ class Window:
             return {}
         if self._clip != clip.key:
             if self._clips == MAX_DEPTH:
-                self._set_depth(whole_polygon(self.box), 0)
+                self._set_depth(rectangles([self.box]), 0)
                 self._clips = 0
             self._clips += 1
             self._set_depth(clip.polygon, self._clips)
@@ -149,8 +151,8 @@ class Window:
         return {"depth_test": "equal", "depth": self._clips}
 
     def _set_depth(self, polygon: Polygons, depth: int) -> None:
-        colors = np.full((len(polygon.polygon_ends), 4), OPAQUE, np.uint8)
-        self._draw(polygon, colors, "keep", None, depth=depth, depth_write=True)
+        white = np.full((polygon.count, 4), OPAQUE, np.uint8)
+        self._draw(polygon.colored(white), "keep", None, depth=depth, depth_write=True)
 
     # ---- What the picture shows
 
@@ -175,9 +177,8 @@ class Window:
         rows, columns, ends = rows[few], columns[few], ends[few]
         colors = self._stored(now[rows, columns])
         y, x, right = rows + self.box.top + top, columns + self.box.left + left, ends + self.box.left + left
-        corners = np.stack((x, y, right, y, right, y + 1, x, y + 1), 1).astype(np.int32).reshape(-1, 2) * UNIT
-        each = np.arange(1, len(rows) + 1)
-        self._draw(Polygons(corners, 4 * each, each), colors.view(np.uint8).reshape(-1, 4), "none", None)
+        runs = rectangles(np.stack((x, y, right, y + 1), 1))
+        self._draw(runs.colored(colors.view(np.uint8).reshape(-1, 4)), "none", None)
         loaded = changed if few.all() else changed & ~many[(np.arange(len(changed)) + top) // TILE_SIZE, None]
         np.copyto(self._shown[top : top + len(now), left : left + now.shape[1]], now | self._filled, where=loaded)
 
@@ -226,9 +227,3 @@ def runs_of(changed: Any, pixels: Any) -> tuple[Any, Any, Any]:
     ends[:, :-1] &= ~goes_on
     rows, columns = np.nonzero(begins)
     return rows, columns, np.nonzero(ends)[1] + 1
-
-
-def whole_polygon(box: Box) -> Polygons:
-    left, top, right, bottom = (UNIT * side for side in box)
-    corners = np.array(((left, top), (right, top), (right, bottom), (left, bottom)), np.int32)
-    return Polygons(corners, np.array((4,)), np.array((1,)))

@@ -29,13 +29,13 @@ from numpy.lib import format as numpy_format
 from numpy.typing import NDArray
 
 from .._errors import DrawListError, LimitError
+from .._polygons import NONE, Polygons, own_corners
 from ._draw_list import MAX_LIST, check_states, scene_of_list, sheet_of
-from ._errors import ArraysError, MapError
+from ._errors import ArraysError, MapError, of_arrays
 from ._files import naming
 from ._geojson import GEOJSON, JSON, interruptible, scene_of_geojson
 from ._places import Path, check_file
-from ._polygons import NONE, Polygons, own_corners, own_polygons
-from ._scene import CHUNK, NO_TRIANGLES, PosterDraw, Scene, own_triangles, own_vertices, owned
+from ._scene import CHUNK, NO_TRIANGLES, PosterDraw, Scene, own_polygons, own_triangles, own_vertices, owned
 
 # Members begin at multiples of this in files that `save_arrays` writes, so that others can map them as integers.
 ALIGNMENT = 64
@@ -109,7 +109,8 @@ def scene_of_file(path: str) -> Scene:
         found, value = read_file(path, file)
     vertices, triangles = (found.get(name, empty) for name, empty in zip(OF_TRIANGLES, NO_TRIANGLES))
     corners, ring_ends, polygon_ends, colors = (found.get(name, empty) for name, empty in zip(OF_POLYGONS, NONE.arrays))
-    corners = in_parts(corners, own_corners)
+    with of_arrays():
+        corners = in_parts(corners, own_corners)
     polygons = own_polygons(Polygons(corners, ring_ends, polygon_ends, colors), copy=False)
     vertices = in_parts(vertices, lambda part: own_vertices(part, copy=False))
     triangles = in_parts(triangles, lambda part: own_triangles(part, copy=False))

@@ -2,6 +2,9 @@
 
 from __future__ import annotations
 
+from contextlib import contextmanager
+from typing import Iterator
+
 
 class PosterError(Exception):
     """Why a poster was not drawn, or not to its end."""
@@ -9,6 +12,15 @@ class PosterError(Exception):
 
 class ArraysError(PosterError, ValueError):
     """What was given is no scene: a shape, a type, a number, an index or a state is wrong. The text says which."""
+
+
+@contextmanager
+def of_arrays() -> Iterator[None]:
+    """Raises an ArraysError of the same text in place of the package's errors of arrays."""
+    try:
+        yield
+    except (TypeError, ValueError) as error:
+        raise ArraysError(str(error)) from None
 
 
 class MapError(PosterError, ValueError):

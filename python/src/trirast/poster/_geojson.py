@@ -15,11 +15,13 @@ from typing import Any, Iterator, Mapping, NamedTuple, Optional, Sequence
 import numpy as np
 from numpy.typing import NDArray
 
-from .._snap import UNIT, snap
+from .._polygons import Polygons, with_zero
+from .._records import HIGH, LOW, UNIT
+from .._ring_cuts import within
+from .._snap import snap
 from ._errors import ArraysError, MapError
 from ._map_style import FAR, PLANE, STEEPEST, Places, Style, is_of_data, mercator, of_data, shown, style_of
-from ._polygons import Polygons, own_polygons, with_zero
-from ._scene import HIGH, LOW, NO_TRIANGLES, PosterDraw, Scene, Sheet, owned
+from ._scene import NO_TRIANGLES, PosterDraw, Scene, Sheet, own_polygons, owned
 
 # How a name ends that is of GeoJSON, in small or capital letters.
 GEOJSON = ".geojson"
@@ -295,30 +297,6 @@ def within_band(places: Places, ends: NDArray[Any], sheet: Sheet) -> tuple[NDArr
     """Corners in 1/256 pixel and the ends of their rings. If one lies outside of the guard band, all rings are cut
     around the sheet."""
     if len(places) and not (LOW <= UNIT * places.min() and UNIT * places.max() <= HIGH):
-        for axis, side in enumerate((sheet.width, sheet.height)):
-            for limit, sign in ((-MARGIN, 1), (side + MARGIN, -1)):
-                places, ends = cut(places, ends, axis, limit, sign)
+        places, ends = within(places, ends, (-MARGIN, -MARGIN), (sheet.width + MARGIN, sheet.height + MARGIN))
     # The right border of the widest sheet is no position: the last samples lie before it.
     return snap(np.minimum(places, HIGH / UNIT)), ends
-
-
-def cut(places: Places, ends: NDArray[Any], axis: int, limit: float, sign: int) -> tuple[Places, NDArray[Any]]:
-    """Of rings what lies on one side of a line. Where the line cuts an edge, the cut is the same for both polygons
-    that have the edge."""
-    following = np.arange(1, len(places) + 1)
-    begins = with_zero(ends)[:-1]
-    some = begins < ends
-    following[ends[some] - 1] = begins[some]
-    is_kept = sign * (places[:, axis] - limit) >= 0
-    is_cut = is_kept != is_kept[following]
-    a, b = places[is_cut], places[following[is_cut]]
-    is_turned = ((a[:, 0] > b[:, 0]) | ((a[:, 0] == b[:, 0]) & (a[:, 1] > b[:, 1])))[:, None]
-    first, last = np.where(is_turned, b, a), np.where(is_turned, a, b)
-    cuts = first + ((limit - first[:, axis]) / (last[:, axis] - first[:, axis]))[:, None] * (last - first)
-    cuts[:, axis] = limit
-    counts = is_kept.astype(np.int64) + is_cut
-    begin = np.cumsum(counts) - counts
-    found = np.empty((int(counts.sum()), 2))
-    found[begin[is_kept]] = places[is_kept]
-    found[(begin + is_kept)[is_cut]] = cuts
-    return found, with_zero(np.cumsum(counts, dtype=np.uint32))[ends]

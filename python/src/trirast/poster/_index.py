@@ -13,11 +13,13 @@ from typing import Any, Iterable, Iterator, NamedTuple, Sequence
 import numpy as np
 from numpy.typing import NDArray
 
+from .._box import Box
+from .._records import LOW, UNIT
 from ._draw_list import LIST_SIDE
 from ._errors import GuardBandError
 from ._pool import Pool
-from ._scene import AXES, LOW, SAMPLES, UNIT, Boxes, Indices, Run, Scene, Triangles, Vertices
-from ._windows import FARTHEST, SHIFT, TILE, Area, Span, Windows
+from ._scene import AXES, SAMPLES, Boxes, Indices, Run, Scene, Triangles, Vertices
+from ._windows import FARTHEST, SHIFT, TILE, Span, Windows
 
 # Triangles or polygons of a group. Of fewer Python's lock would be handed from thread to thread too often. There are at
 # least as many for each place, since a group has a table of them.
@@ -83,7 +85,7 @@ class Index:
 
     def of_span(self, span: Span) -> tuple[Indices, Indices, Indices]:
         """What is drawn in some windows, tile row after tile row and ascending in each; where that of each tile row
-        ends; and of each tile row the pixels that are within its bounds, as an Area has them."""
+        ends; and of each tile row the pixels that are within its bounds, as a Box has them."""
         first, end = (self._place(span.row, column) for column in (span.first, span.end))
         begin = self._begins[first]
         return (
@@ -95,7 +97,7 @@ class Index:
         before: list[int] = self._begins[self._place(row, 0) : self._place(row + 1, 0) + 1 : self._tile_rows].tolist()
         return before
 
-    def is_near(self, area: Area) -> bool:
+    def is_near(self, area: Box) -> bool:
         """Whether each triangle of the scene can be moved into a picture that begins at any pixel of an area."""
         return min(self.low[0] - UNIT * area.right, self.low[1] - UNIT * area.bottom) >= LOW
 
@@ -145,7 +147,7 @@ def no_boxes(count: int) -> Boxes:
 
 
 def areas_of(boxes: Indices, windows: Windows) -> Indices:
-    """Of each place the pixels of its tile row that are in its box: the numbers of an Area."""
+    """Of each place the pixels of its tile row that are in its box: the numbers of a Box."""
     window, tile_row = np.divmod(np.arange(len(boxes), dtype=np.int32), np.int32(windows.tile_rows))
     row, column = np.divmod(window, np.int32(windows.columns))
     left, top = column * windows.side, row * windows.side + tile_row * TILE

@@ -9,7 +9,7 @@ from typing import Any, Callable, Mapping, NamedTuple
 from .._arguments import shown
 from .._draw import CULLS, DEPTH_TESTS, EVERY_SAMPLE
 from .._patterns import COUNTS
-from .._polygons import RULES
+from .._rings import RULES
 from ._scene import MAX_SIDE, OUTPUTS, SAMPLES
 
 

@@ -8,10 +8,12 @@ from typing import Any, Mapping, NamedTuple, Sequence
 import numpy as np
 from numpy.typing import NDArray
 
+from .._box import Box
+from .._polygons import Polygons
+from .._records import HIGH, LOW, UNIT
 from ._index import Index
-from ._polygons import Polygons
-from ._scene import AXES, HIGH, LOW, UNIT, Indices, Scene, Sheet, Triangles, Vertices, check_range
-from ._windows import FARTHEST, SHIFT, TILE, Area, Span
+from ._scene import AXES, Indices, Scene, Sheet, Triangles, Vertices, check_range
+from ._windows import FARTHEST, SHIFT, TILE, Span
 
 # Vertices are looked up in blocks of 256: neighbours in a list are neighbours on the sheet, so a window names few
 # blocks. If a table of these blocks had more entries for an index than SPREAD, the indices are sorted.
@@ -35,7 +37,7 @@ class Piece(NamedTuple):
     They are those of a tile row, or of several tile rows with the same triangles and polygons.
     """
 
-    area: Area
+    area: Box
     draws: Sequence[PartDraw]
 
 
@@ -48,7 +50,7 @@ class Part(NamedTuple):
     """
 
     sheet: Sheet
-    area: Area
+    area: Box
     is_whole: bool
     low: tuple[int, int]
     shift: tuple[int, int]
@@ -101,7 +103,7 @@ def members_of(scene: Scene, chosen: Indices) -> Members:
     return Members(numbers[~is_polygon], numbers[is_polygon], before)
 
 
-def shift_of(area: Area) -> tuple[int, int]:
+def shift_of(area: Box) -> tuple[int, int]:
     """By how many pixels polygons are moved left and up where an area is drawn."""
     return SHIFT * (area.right > FARTHEST), SHIFT * (area.bottom > FARTHEST)
 
@@ -126,7 +128,7 @@ def pieces_of(
     bottoms = areas[np.append(heads, len(met))[1:] - 1, 3:]
     columns = (np.concatenate((areas[heads, :3], bottoms), 1), begins[heads], ends[heads], first[heads], last[heads])
     rows = zip(*(column.tolist() for column in columns))
-    return [Piece(Area._make(area), draws_of(scene, chosen, polygons_before, *more)) for area, *more in rows]
+    return [Piece(Box._make(area), draws_of(scene, chosen, polygons_before, *more)) for area, *more in rows]
 
 
 def go_on(first: Indices, last: Indices, counts: Indices, areas: Indices) -> NDArray[np.bool_]:

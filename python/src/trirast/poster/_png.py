@@ -13,13 +13,12 @@ from typing import Any
 import numpy as np
 from numpy.typing import NDArray
 
-from .._png import chunk, head_of
+from .._png import LEVEL, chunk, chunks_of, head_of
 from ._scene import Pixels, Sheet
 
 # The zlib header of deflate at the default level (RFC 1950), and the filter type Sub.
 ZLIB_HEADER = b"\x78\x9c"
 SUB = 1
-LEVEL = 6
 # What a flush ends in (RFC 1951, 3.2.4): the length of a stored block of no bytes.
 FLUSHED = b"\0\0\xff\xff"
 # The greatest prime below 65,536, of which Adler-32 takes its sums.
@@ -59,9 +58,8 @@ def pixel_bytes(pixels: Pixels) -> int:
 
 
 def png_of(pixels: Pixels, sheet: Sheet) -> bytes:
-    """A whole file."""
-    data = zlib.compress(filtered(pixels).data, LEVEL)
-    return head_of(pixels.shape[1], pixels.shape[0], sheet.pixel_bytes) + chunk(b"IDAT", data) + chunk(b"IEND", b"")
+    """Returns a whole file."""
+    return b"".join(chunks_of(pixels.shape[1], pixels.shape[0], sheet.pixel_bytes, filtered(pixels).data))
 
 
 def pixels_of(file: bytes, sheet: Sheet, height: int, width: int) -> Pixels:

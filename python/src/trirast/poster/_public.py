@@ -1,5 +1,6 @@
 """The names that the package gives, which import numpy."""
 
+from .._polygons import Polygons
 from ._arrays import save_arrays, save_polygons, scene_of, scene_of_arrays, scene_of_polygons
 from ._draw_list import scene_of_list
 from ._errors import (
@@ -16,7 +17,6 @@ from ._errors import (
     WorkerLostError,
 )
 from ._geojson import scene_of_geojson
-from ._polygons import Polygons
 from ._poster import draw_poster
 from ._scene import PosterDraw, Scene, Sheet
 

@@ -16,19 +16,16 @@ from numpy.typing import NDArray
 from .._arguments import integer as exact
 from .._patterns import COUNTS
 from .._patterns import SAMPLES as SAMPLES
-from .._polygons import RULES
-from .._records import HIGH as HIGH
-from .._records import LOW as LOW
+from .._polygons import NONE, Polygons
+from .._records import HIGH, LOW
+from .._rings import RULES
 from .._vertices import VERTEX, is_own_layout, records_of
-from ._errors import ArraysError
-from ._polygons import NONE, Polygons, own_polygons
+from ._errors import ArraysError, of_arrays
 from ._pool import Pool
 
 if TYPE_CHECKING:
     from typing_extensions import TypeAlias
 
-# Positions are in 1/256 pixel.
-UNIT = 256
 # Sides of a poster, in pixels: what the guard band reaches.
 MAX_SIDE = 32768
 # Indices of triangles, and of polygons, have 32 bits.
@@ -303,10 +300,8 @@ def own_vertices(array: Any, copy: bool) -> Vertices:
     elif array.ndim == 2 and array.shape[1] != len(VERTEX) - 1:
         raise ArraysError(f"vertices: rows of 7 integers, and not {array.dtype} of the shape {array.shape}")
     else:
-        try:
+        with of_arrays():
             found = np.frombuffer(records_of(array), VERTEX)
-        except (TypeError, ValueError) as error:
-            raise ArraysError(str(error)) from None
     found.flags.writeable = False
     return found
 
@@ -327,6 +322,14 @@ def own_triangles(array: Any, copy: bool) -> Triangles:
             found[first : first + CHUNK] = part
     found.flags.writeable = False
     return found
+
+
+def own_polygons(given: Any, copy: bool = True) -> Polygons:
+    """Returns polygons in arrays of their own, as `Polygons.owned` does. Raises ArraysError if they are none."""
+    if not isinstance(given, Polygons):
+        raise ArraysError(f"polygons: of the class Polygons, and not {type(given).__name__}")
+    with of_arrays():
+        return given.owned(copy)
 
 
 def check_arrays(vertices: Vertices, triangles: Triangles, draws: Sequence[PosterDraw]) -> None:

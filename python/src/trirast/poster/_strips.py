@@ -8,7 +8,7 @@ from typing import NamedTuple, Sequence
 import numpy as np
 from numpy.typing import NDArray
 
-from ._polygons import NONE, Polygons, checked
+from .._polygons import NONE, Polygons, checked
 from ._pool import Pool
 from ._scene import PosterDraw, Scene, owned
 from ._windows import Windows

@@ -14,16 +14,15 @@ from functools import lru_cache
 from typing import Any, Dict, Mapping, Tuple
 
 import numpy as np
-from numpy.typing import NDArray
 
+from .._box import Box
 from .._canvas import FORMATS, aligned
 from .._draw import INDEX_BYTES, Draw
-from .._ffi import CBatch, CCanvas, CClear, CDraw, CError, CPolygons, library
-from .._polygons import RULES, scratch_of
-from ._errors import ArraysError
-from ._polygons import NONE, Polygons
+from .._ffi import CBatch, CCanvas, CClear, CDraw, CError, library
+from .._polygons import Polygons, as_read
+from .._rings import RULES, scratch_of
+from ._errors import ArraysError, of_arrays
 from ._scene import NO_TRIANGLES, Pixels, Sheet, Triangles, Vertices, text_of
-from ._windows import Area
 
 OWN = threading.local()
 # Calls of a few microseconds keep Python's lock: to get it back from another thread may take longer. These are those on
@@ -43,27 +42,16 @@ class Arrays:
     """The addresses of arrays, which live as long as this does: contiguous and aligned, as the library reads them."""
 
     def __init__(self, vertices: Vertices, triangles: Triangles) -> None:
-        self._kept = [as_read(array, like) for array, like in zip((vertices, triangles), NO_TRIANGLES)]
+        with of_arrays():
+            self._kept = [as_read(array, like) for array, like in zip((vertices, triangles), NO_TRIANGLES)]
         self.vertices, self.indices = (array.ctypes.data for array in self._kept)
         self.vertex_count, self.triangle_count = map(len, self._kept)
-
-
-def as_read(array: NDArray[Any], like: NDArray[Any]) -> NDArray[Any]:
-    """An array as the library reads it: contiguous, aligned, and a view of its own, whose shape nobody else changes.
-    Raises ArraysError if somebody has given it another type or shape than this one's, in place."""
-    found = np.require(np.ndarray.view(array, np.ndarray), None, ("C", "A"))
-    if found.dtype != like.dtype or found.ndim != like.ndim or found.shape[1:] != like.shape[1:]:
-        raise ArraysError(
-            f"an array of a scene: {like.dtype} in rows of the shape {like.shape[1:]}, and not {found.dtype} "
-            f"of the shape {found.shape}"
-        )
-    return found
 
 
 class Target:
     """The pixels of an area of a sheet, whose rows may lie apart, and their address."""
 
-    def __init__(self, pixels: Pixels, area: Area) -> None:
+    def __init__(self, pixels: Pixels, area: Box) -> None:
         self._pixels, self._left, self._top = pixels, area.left, area.top
         self._address, self.stride = pixels.ctypes.data, pixels.strides[0]
 
@@ -71,7 +59,7 @@ class Target:
         """Where the colour of a pixel of the sheet lies."""
         return self._address + (top - self._top) * self.stride + (left - self._left) * PIXEL_BYTES
 
-    def put(self, area: Area, pixels: Pixels) -> None:
+    def put(self, area: Box, pixels: Pixels) -> None:
         """Copies the last rows and columns of pixels to an area within it."""
         left, top = area.left - self._left, area.top - self._top
         last = pixels[pixels.shape[0] - area.height :, pixels.shape[1] - area.width :]
@@ -96,7 +84,7 @@ class ThreadCanvas:
         self._size, self._begin, self._arrays = (0, 0), begin, arrays
         self._batch.vertices, self._batch.vertex_count = arrays.vertices, arrays.vertex_count
 
-    def place(self, area: Area) -> None:
+    def place(self, area: Box) -> None:
         """Makes it a canvas whose last rows and columns are those of the area. What its samples begin with
         is not specified."""
         left, top, right, bottom = self._area = area
@@ -140,9 +128,10 @@ class ThreadCanvas:
         nothing was drawn."""
         _, draw, _ = self._states.get(id(state)) or self._keep(state)
         rule = RULES.index(state.get("rule", RULES[0]))
-        arrays = [as_read(array, like) for array, like in zip(polygons.arrays, NONE.arrays)]
-        corners, rings, ends, colors = [(array.ctypes.data, len(array)) for array in arrays]
-        in_c, canvas, (x, y) = CPolygons(0, rule, *corners, *rings, *ends, *colors, state=draw), self._canvas, shift
+        canvas, (x, y) = self._canvas, shift
+        with of_arrays():
+            in_c = polygons._in_c()
+        in_c.fill_rule, in_c.state = rule, draw
         in_c.state.scissor_left, in_c.state.scissor_right = draw.scissor_left - x, draw.scissor_right - x
         in_c.state.scissor_top, in_c.state.scissor_bottom = draw.scissor_top - y, draw.scissor_bottom - y
         size = self._quick.trirast_polygons_scratch(canvas, rule)

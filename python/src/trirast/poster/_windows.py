@@ -7,8 +7,10 @@ from typing import Iterator, NamedTuple
 
 import numpy as np
 
+from .._box import Box
+from .._records import UNIT
 from ._draw_list import LIST_SIDE
-from ._scene import UNIT, Indices, Sheet
+from ._scene import Indices, Sheet
 
 # The pixels of a tile's side (docs/canvas.md). A window's tile rows are drawn one after another, since the samples of
 # one fit into a processor's second cache, where they are cleared, drawn and resolved.
@@ -17,37 +19,6 @@ TILE = 64
 # left or up, and the canvas with them, where it begins behind that: what is inside moves with the corners by whole
 # pixels (docs/polygons.md).
 FARTHEST, SHIFT = 28672, 4096
-
-
-class Area(NamedTuple):
-    """A rectangle of a sheet's pixels: from the column `left` to before `right`, and from the row `top`
-    to before `bottom`."""
-
-    left: int
-    top: int
-    right: int
-    bottom: int
-
-    @property
-    def width(self) -> int:
-        """How many columns it has."""
-        return self.right - self.left
-
-    @property
-    def height(self) -> int:
-        """How many rows it has."""
-        return self.bottom - self.top
-
-    @property
-    def pixels(self) -> int:
-        """How many pixels it has."""
-        return self.width * self.height
-
-    def is_within(self, other: Area) -> bool:
-        """Whether it has pixels, all of which another one has."""
-        return (
-            other.left <= self.left < self.right <= other.right and other.top <= self.top < self.bottom <= other.bottom
-        )
 
 
 class Window(NamedTuple):
@@ -61,9 +32,9 @@ class Window(NamedTuple):
     height: int
 
     @property
-    def area(self) -> Area:
+    def area(self) -> Box:
         """Its pixels."""
-        return Area(self.left, self.top, self.left + self.width, self.top + self.height)
+        return Box(self.left, self.top, self.left + self.width, self.top + self.height)
 
     @property
     def span(self) -> Span:
@@ -77,7 +48,7 @@ class Span(NamedTuple):
     row: int
     first: int
     end: int
-    area: Area
+    area: Box
 
 
 class Windows:
@@ -120,7 +91,7 @@ class Windows:
     def span(self, row: int, first: int, end: int) -> Span:
         """Some windows of a row."""
         left, top = first * self.side, row * self.side
-        return Span(row, first, end, Area(left, top, min(end * self.side, self.width), top + self.row_height(row)))
+        return Span(row, first, end, Box(left, top, min(end * self.side, self.width), top + self.row_height(row)))
 
     def from_row(self, first: int) -> Iterator[Window]:
         """All windows from a row on."""
