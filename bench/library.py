@@ -18,7 +18,7 @@ import time
 from typing import Any, Callable
 
 import trirast
-from trirast import _ffi
+from trirast import _declarations, _ffi
 
 from bench import report, run, scenes
 from bench.options import add_runs, add_scenes
@@ -42,7 +42,7 @@ def ways(program: str, threads: int, source: str) -> dict[str, Way]:
     """The ways to draw a list, by name."""
     with open(source, "rb") as file:
         data = file.read()
-    buffer, error = bytearray(trirast.draw_file(data)), _ffi.CError()
+    buffer, error = bytearray(trirast.draw_file(data)), _declarations.CError()
     part = _ffi.memory_of(memoryview(buffer))
 
     def process(workers: int) -> float:

@@ -17,9 +17,9 @@ from ._draw import EVERY_SAMPLE, Draw, state_in_c
 from ._errors import BatchError, CanvasError, PositionError, SampleError, TileError, adding
 from ._ffi import library
 from ._fragments import Fragments, Rate, fragments_of
-from ._numbers import FORMATS as FORMATS
-from ._numbers import HIGHEST_ORIGIN, LOWEST_ORIGIN, MAX_ID, MAX_SIDE, PATTERNS, Cull, DepthTest
-from ._numbers import TILE_SIZE as TILE_SIZE
+from ._numbers import (
+    FORMATS, HIGHEST_ORIGIN, LOWEST_ORIGIN, MAX_ID, MAX_SIDE, PATTERNS, TILE_SIZE, Cull, DepthTest,
+)
 from ._numpy import np
 from ._patterns import COUNTS
 from ._picture import Path, Picture, save_png

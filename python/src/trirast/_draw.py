@@ -7,9 +7,7 @@ from typing import Any, Optional, Sequence, SupportsIndex, Tuple, TypedDict, Uni
 from ._arguments import between, flag, named, of_length, shown, signed
 from ._blend import Blend, Preset, blend_in_c
 from ._declarations import CDraw
-from ._numbers import CULLS as CULLS
-from ._numbers import DEPTH_TESTS as DEPTH_TESTS
-from ._numbers import TOPOLOGIES, Cull, DepthTest
+from ._numbers import CULLS, DEPTH_TESTS, TOPOLOGIES, Cull, DepthTest
 from ._records import UNIT, Copy, index_columns, indices_of
 from ._vertices import count_of, vertices_of
 

@@ -10,13 +10,7 @@ import os
 from functools import lru_cache
 from typing import Any, Tuple
 
-from ._declarations import OTHERS, POINTER, STATUSES, WORD, to
-from ._declarations import CBatch as CBatch
-from ._declarations import CCanvas as CCanvas
-from ._declarations import CClear as CClear
-from ._declarations import CDraw as CDraw
-from ._declarations import CError as CError
-from ._declarations import CPolygons as CPolygons
+from ._declarations import OTHERS, POINTER, STATUSES, WORD, CError, to
 from ._errors import error_of
 from ._numbers import ERROR_MESSAGE_SIZE as MESSAGE_SIZE
 from ._version import INTERFACE

@@ -3,9 +3,10 @@ word for each pixel."""
 
 from typing import Any, Callable, Tuple
 
-from ._canvas import FORMATS, TILE_SIZE, Canvas
+from ._canvas import Canvas
 from ._declarations import CCanvas
 from ._ffi import library
+from ._numbers import FORMATS, TILE_SIZE
 from ._threads import share
 
 RGBA, STRAIGHT = FORMATS["rgba"][0], FORMATS["rgba_straight"][0]

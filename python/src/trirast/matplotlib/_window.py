@@ -7,7 +7,8 @@ from typing import Any, Iterable, NamedTuple, Optional
 import numpy as np
 
 from .._box import Box
-from .._canvas import TILE_SIZE, Canvas
+from .._canvas import Canvas
+from .._numbers import TILE_SIZE
 from .._polygons import Polygons
 from .._records import LOW, UNIT
 from .._tile_rows import TileRows

@@ -7,7 +7,8 @@ from itertools import chain
 from typing import Any, Callable, Mapping, NamedTuple
 
 from .._arguments import shown
-from .._draw import CULLS, DEPTH_TESTS, EVERY_SAMPLE
+from .._draw import EVERY_SAMPLE
+from .._numbers import CULLS, DEPTH_TESTS
 from .._patterns import COUNTS
 from .._rings import RULES
 from ._scene import MAX_SIDE, OUTPUTS, SAMPLES

@@ -16,9 +16,11 @@ from typing import Any, Dict, Mapping, Tuple
 import numpy as np
 
 from .._box import Box
-from .._canvas import FORMATS, aligned
+from .._canvas import aligned
+from .._declarations import CBatch, CCanvas, CClear, CDraw, CError
 from .._draw import INDEX_BYTES, Draw
-from .._ffi import CBatch, CCanvas, CClear, CDraw, CError, library
+from .._ffi import library
+from .._numbers import FORMATS
 from .._polygons import Polygons, as_read
 from .._rings import RULES, scratch_of
 from ._errors import ArraysError, of_arrays
