@@ -7,9 +7,9 @@ vectors have 128 bits.
 
 - groups: two rows of a block at one sample of each pixel, sixteen samples, counted by the model of bench/model, which
   draws the same blocks: those that a triangle meets, and those of which it changes a sample.
-- operations: the least number of operations on vectors of 128 bits for these groups by the arithmetic of crates/gradients
-  and crates/lanes (`operations`, below), and stores, of which a processor makes one a cycle. Setup, coverage, bins and
-  bytes of pixels are not in it.
+- operations: the least number of operations on vectors of 128 bits for these groups by the arithmetic of
+  crates/gradients and crates/lanes (`operations`, below), and stores, of which a processor makes one a cycle. Setup,
+  coverage, bins and bytes of pixels are not in it.
 - memory: the list as it is kept, read once, and the picture's bytes, written once. Samples stay in caches.
 
 bench/machine.c measures operations and cycles in a second, and bytes from and to memory. The limit is the

@@ -39,8 +39,8 @@ def stated() -> list[int]:
 def row_of(sizes: list[int]) -> str:
     shared, static, smaller = (f"{(size + 500) // 1000:,} KB" for size in sizes)
     return (
-        f"| `libtrirast.so.2`, `libtrirast.a` | {shared} and {static} as `make library` leaves them. The Debian package "
-        f"strips the second to {smaller} | `python3 -m tools.packaging.sizes --write` |\n"
+        f"| `libtrirast.so.2`, `libtrirast.a` | {shared} and {static} as `make library` leaves them. The Debian "
+        f"package strips the second to {smaller} | `python3 -m tools.packaging.sizes --write` |\n"
     )
 
 
