@@ -1,0 +1,7 @@
+-- Lemmas of `strokes`.
+mod Roots
+mod Comparing
+mod Reversed
+mod Walks
+mod Wide
+mod Wider
