@@ -16,7 +16,7 @@ from tests.reference import renderer
 from tools.interface import __main__ as command
 from tools.interface import numbers, outputs
 from tools.interface.header import Function, functions_in, header, structs_in
-from tools.interface.numbers import Enumeration, interface
+from tools.interface.numbers import interface
 from tools.places import text_of
 
 # What every call on a canvas checks first, in the words of the header: "the first check that fails".
@@ -26,16 +26,6 @@ NUMBERS = interface().enumerations
 
 def crate(*path: str) -> str:
     return text_of("crates", *path)
-
-
-def numbers_in(text: str, arm: str) -> dict[str, int]:
-    """The numbers of names, of arms or equations of this form."""
-    return {name: int(number) for number, name in re.findall(arm, text, re.MULTILINE)}
-
-
-def own(enumeration: Enumeration) -> dict[str, int]:
-    """The numbers for which the bindings have names."""
-    return {number.name: number.value for number in enumeration.named}
 
 
 class TestWritten:
@@ -146,62 +136,25 @@ class TestCauses:
 
 
 class TestCrates:
-    def test_statuses(self) -> None:
-        text, status = crate("c_abi", "src", "status.rt"), own(NUMBERS["status"])
-        del status["Ok"]
-        specs = crate("c_abi", "specs", "Statuses.antt")
-        for found in (
-            re.findall(r"^    (\w+) = (\d+),$", text, re.MULTILINE),
-            re.findall(r"^status_number (\w+) = (\d+)$", specs, re.MULTILINE),
-        ):
-            assert {name: int(number) for name, number in found} == status
-        assert dict(re.findall(r"^            (\d+) => Status::(\w+),$", text, re.MULTILINE)) == {
-            str(value): name for name, value in status.items()
-        }
-        assert dict(re.findall(r'Status::(\w+) => "(.*)",', text)) == {
-            each.name: each.text for each in NUMBERS["status"].numbers if each.value
-        }
+    """What crates have by hand. Numbers and texts of the crates that C calls are written there too."""
 
     def test_causes_of_lists(self) -> None:
         every = {number.name: number.value for number in NUMBERS["list_cause"].every}
-        found = re.findall(r"^ +(\d+) => Some\(ReadKind::(\w+)\),$", crate("trirast_c", "src", "messages.rt"),
-                           re.MULTILINE)
-        assert {name: int(number) for number, name in found} == every
+        for folder, file, arm in (
+            ("src", "fault.rt", r"^ +ReadKind::(\w+) => (\d+),$"),
+            ("specs", "Fault.antt", r"^kind_number (\w+) = (\d+)$"),
+        ):
+            found = re.findall(arm, crate("draw_list", folder, file), re.MULTILINE)
+            assert {name: int(number) for name, number in found} == every
 
-    def test_causes_of_batches(self) -> None:
-        every = own(NUMBERS["batch_cause"])
-        found = re.findall(r"^    (\w+) = (\d+),$", crate("batch", "src", "fault.rt"), re.MULTILINE)
-        assert found and {name: int(number) for name, number in found}.items() <= every.items()
-        of_specs = re.findall(r"^number_of (\w+) = (\d+)$", crate("batch", "specs", "Causes.antt"), re.MULTILINE)
-        assert of_specs == found
-
-    def test_causes_of_polygons(self) -> None:
-        every = own(NUMBERS["batch_cause"])
-        found = re.findall(r"^array_fault \(?(\w+).* cause = (\d+);", crate("canvas_c", "specs", "PolygonChecks.antt"),
-                           re.MULTILINE)
-        names = {"Ring": "BadRing", "Polygon": "BadPolygon", "OutOfBand": "BadPosition", "CornersLeft": "LeftOver",
-                 "RingsLeft": "LeftOver"}
-        assert len(found) == 7 and all(every[names.get(name, name)] == int(number) for name, number in found)
-
-    def test_words_of_causes(self) -> None:
-        text = " ".join(crate("trirast_c", "src", "messages.rt").split())
-        found = re.findall(r'(\d+) => \( ?"([^"]*)", "([^"]*)",? ?\)', text)
-        assert {int(number): words for number, _element, words in found} == {
-            cause.value: cause.text for cause in NUMBERS["batch_cause"].numbers
+    def test_arrays_of_polygons(self) -> None:
+        text = crate("polygons", "src", "arrays.rt")
+        (body,) = re.findall(r"pub enum ArraysError \{(.*?)^\}", text, re.DOTALL | re.MULTILINE)
+        variants = dict(re.findall(r"^    (\w+)(\(usize\))?,$", body, re.MULTILINE))
+        causes = {name: cause for cause in NUMBERS["batch_cause"].numbers for name in cause.arrays}
+        assert {name: bool(cause.element) for name, cause in causes.items()} == {
+            name: bool(index) for name, index in variants.items()
         }
-        for number, element, _words in found:
-            (cause,) = (each for each in NUMBERS["batch_cause"].numbers if each.value == int(number))
-            assert cause.element.split(" or ")[0] == element
-
-    def test_formats(self) -> None:
-        found = numbers_in(crate("canvas_c", "src", "images.rt"), r"^ +(\d+) => Some\(Format::(\w+)\),$")
-        assert found == own(NUMBERS["format"])
-
-    def test_factors_and_operations(self) -> None:
-        text = crate("batch", "src", "blend.rt").replace("Colour", "Color")
-        assert numbers_in(text, r"^ +(\d+) => BlendFactor::(\w+),$") == own(NUMBERS["factor"])
-        found = numbers_in(text, r"^ +(?:0 \| )?(\d+) => Some\(BlendOperation::(\w+)\),$")
-        assert found == own(NUMBERS["operation"])
 
     @pytest.mark.parametrize("name", ["topology", "cull", "depth_test"])
     def test_states(self, name: str) -> None:
@@ -211,6 +164,13 @@ class TestCrates:
     def test_samples(self) -> None:
         found = re.findall(r"^ +(\d+) => Some\(SampleCount::", crate("grid", "src", "sample_count.rt"), re.MULTILINE)
         assert list(map(int, found)) == [pattern.count for pattern in interface().samples]
+
+    @pytest.mark.parametrize("path", [path for path in outputs.PARTS.values() if path.startswith("crates/")])
+    def test_no_bare_number_is_left_beside_what_is_written(self, path: str) -> None:
+        by_hand = outputs.BETWEEN.sub("", text_of(path))
+        of_code = r"(?:of_all|at_element|Err)\(\d+[,)]|^ +\d+ => (?:\(|Some\(|Status)"
+        of_specs = r"cause = \d+|≤ \d+\) \d+ \("
+        assert re.findall(rf"{of_code}|{of_specs}", by_hand, re.MULTILINE) == []
 
 
 class TestOthers:

@@ -37,6 +37,8 @@ class Number:
     text: str = ""
     # Of polygons how many there have to be, and how many there are: members of the struct.
     counts: tuple[str, ...] = ()
+    # What is wrong with the arrays of polygons, by the names of crates/polygons.
+    arrays: tuple[str, ...] = ()
     # Its name in draw lists and in Python.
     word: str = ""
     # What the header has instead of the meaning.
@@ -121,7 +123,7 @@ class Interface:
 def number_of(name: str, table: dict[str, Any]) -> Number:
     """A number of a table. Raises TypeError at an unknown key, or if one lacks."""
     words: dict[str, Any] = {"word": in_words(name).lower(), **table}
-    words.update({key: tuple(words[key]) for key in ("calls", "counts") if key in words})
+    words.update({key: tuple(words[key]) for key in ("arrays", "calls", "counts") if key in words})
     return Number(name=name, **words)
 
 

@@ -6,7 +6,7 @@ import os
 import re
 from typing import Any
 
-from tools.interface import lines, of_c, of_page, of_python, of_rust
+from tools.interface import lines, of_c, of_crates, of_page, of_python, of_rust
 from tools.interface.header import header
 from tools.interface.numbers import interface
 from tools.places import TOP, text_of
@@ -25,9 +25,25 @@ WHOLE = {
     "errors.md": "docs/errors.md",
 }
 SCHEMA = "docs/conformance.schema.json"
-PARTS = {"trirast.h": "include/trirast.h", "values.hpp": "include/trirast/values.hpp"}
-# What stands between: `/* generated: NAME */`, lines, `/* end of NAME */`, at any column.
-BETWEEN = re.compile(r"(?ms)^( *)(/\* generated: (\w+).*?\*/\n)(.*?)(^ */\* end of (\w+) \*/$)")
+PARTS = {
+    "trirast.h": "include/trirast.h",
+    "values.hpp": "include/trirast/values.hpp",
+    "status.rt": "crates/c_abi/src/status.rt",
+    "Statuses.antt": "crates/c_abi/specs/Statuses.antt",
+    "fault.rt": "crates/batch/src/fault.rt",
+    "Causes.antt": "crates/batch/specs/Causes.antt",
+    "blend.rt": "crates/batch/src/blend.rt",
+    "Equations.antt": "crates/batch/specs/Equations.antt",
+    "images.rt": "crates/canvas_c/src/images.rt",
+    "Pieces.antt": "crates/canvas_c/specs/Pieces.antt",
+    "polygon_arrays.rt": "crates/canvas_c/src/polygon_arrays.rt",
+    "PolygonChecks.antt": "crates/canvas_c/specs/PolygonChecks.antt",
+    "messages.rt": "crates/trirast_c/src/messages.rt",
+}
+# What stands between: a comment `generated: NAME`, lines, and a comment `end of NAME`, at any column.
+BEGIN, END = r"(?:/\*|//|--) generated: (\w+)(?: \*/)?", r"(?:/\*|//|--) end of (\w+)(?: \*/)?"
+# The layout of specs/ may have an empty line before the last comment, which stays.
+BETWEEN = re.compile(rf"(?ms)^( *)({BEGIN}\n)(.*?)((?:^\n)?^ *{END}$)")
 
 
 def environment() -> Any:
@@ -39,7 +55,7 @@ def environment() -> Any:
         loader=jinja2.FileSystemLoader(FOLDER), undefined=jinja2.StrictUndefined, trim_blocks=True, lstrip_blocks=True,
         keep_trailing_newline=True, autoescape=False,
     )
-    for module in (lines, of_c, of_page, of_python, of_rust):
+    for module in (lines, of_c, of_crates, of_page, of_python, of_rust):
         found.filters.update({name: value for name, value in vars(module).items() if callable(value)})
     of_header = text_of("include", "trirast.h")
     found.globals.update(

@@ -1,20 +1,29 @@
 -- Why a batch cannot be drawn.
 use Rattle.std.specs.Prelude.{ℕ, Some, None}
 use Rattle.batch.specs.declared.fault.BatchCause.{BatchCause}
-use Rattle.batch.specs.declared.fault.BatchCause.TheVariants.{TooFewVertices, TooFewIndices, NotWhole, TooManyIds, BadIndex, BadPosition, NotConvex, LeftOver, BadTopology, BadCull, BadDepthTest, BadDepthWrite, BadKeep, BadScissorEnable, BadFactor, BadOperation}
+-- generated: names
+use Rattle.batch.specs.declared.fault.BatchCause.TheVariants.{TooFewVertices, TooFewIndices, BadState, NotWhole, TooManyIds, BadIndex, BadPosition, NotConvex, LeftOver, TooManyCorners, BadRing, BadPolygon, TooFewColors, TooFewDepths, BadTopology, BadCull, BadDepthTest, BadDepthWrite, BadKeep, BadScissorEnable, BadFactor, BadOperation, BadFillRule, TooFewBoxes}
+-- end of names
 use Rattle.batch.specs.declared.fault.BatchFault.{BatchFault}
 use Rattle.batch.specs.declared.fault.DrawFault.{DrawFault}
 
 -- The number of each cause in C. It never changes its meaning.
 abbrev pub number_of : BatchCause → ℕ
+-- generated: numbers
 number_of TooFewVertices = 1
 number_of TooFewIndices = 2
+number_of BadState = 3
 number_of NotWhole = 4
 number_of TooManyIds = 5
 number_of BadIndex = 6
 number_of BadPosition = 7
 number_of NotConvex = 8
 number_of LeftOver = 9
+number_of TooManyCorners = 10
+number_of BadRing = 11
+number_of BadPolygon = 12
+number_of TooFewColors = 13
+number_of TooFewDepths = 14
 number_of BadTopology = 15
 number_of BadCull = 16
 number_of BadDepthTest = 17
@@ -23,6 +32,10 @@ number_of BadKeep = 19
 number_of BadScissorEnable = 20
 number_of BadFactor = 21
 number_of BadOperation = 22
+number_of BadFillRule = 23
+number_of TooFewBoxes = 24
+
+-- end of numbers
 
 -- What is wrong with a draw as a whole.
 abbrev pub of_draw : BatchCause → DrawFault

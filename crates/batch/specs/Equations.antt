@@ -6,11 +6,14 @@ use Rattle.shade.specs.declared.equation.Equation.{Equation}
 use Rattle.shade.specs.declared.equation.BlendOperation.{BlendOperation}
 use Rattle.shade.specs.declared.equation.BlendOperation.TheVariants.{Add, Subtract, ReverseSubtract, Min, Max}
 use Rattle.shade.specs.declared.factor.BlendFactor.{BlendFactor}
+-- generated: names
 use Rattle.shade.specs.declared.factor.BlendFactor.TheVariants.{Zero, One, SourceColour, InverseSourceColour, SourceAlpha, InverseSourceAlpha, StoredAlpha, InverseStoredAlpha, StoredColour, InverseStoredColour, SourceAlphaSaturated, Constant, InverseConstant}
+-- end of names
 use Rattle.batch.specs.declared.blend.BatchBlend.{BatchBlend}
 
 -- The factor with this number of D3D11_BLEND, and the default for 0.
 abbrev pub factor_numbered : ℕ → BlendFactor → Option BlendFactor
+-- generated: factors
 factor_numbered n default =
     if n == 0 then Some default
     else (if n == 1 then Some Zero
@@ -28,8 +31,11 @@ factor_numbered n default =
     else (if n == 15 then Some InverseConstant
     else None)))))))))))))
 
+-- end of factors
+
 -- The operation with this number of D3D11_BLEND_OP, and Add for 0.
 abbrev pub operation_numbered : ℕ → Option BlendOperation
+-- generated: operations
 operation_numbered n =
     if n == 0 then Some Add
     else (if n == 1 then Some Add
@@ -38,6 +44,8 @@ operation_numbered n =
     else (if n == 4 then Some Min
     else (if n == 5 then Some Max
     else None)))))
+
+-- end of operations
 
 -- An equation of these parts, all three of which have to be known.
 abbrev pub equation_with : Option BlendFactor → Option BlendFactor → Option BlendOperation → Option Equation

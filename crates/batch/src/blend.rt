@@ -32,6 +32,7 @@ fn factor_of(number: u8, default: BlendFactor) -> Option<BlendFactor>
 {
     let factor = match number {
         0 => default,
+        // generated: factors
         1 => BlendFactor::Zero,
         2 => BlendFactor::One,
         3 => BlendFactor::SourceColour,
@@ -45,6 +46,7 @@ fn factor_of(number: u8, default: BlendFactor) -> Option<BlendFactor>
         11 => BlendFactor::SourceAlphaSaturated,
         14 => BlendFactor::Constant,
         15 => BlendFactor::InverseConstant,
+        // end of factors
         _ => return None,
     };
     Some(factor)
@@ -62,11 +64,13 @@ fn operation_of(number: u8) -> Option<BlendOperation>
     ensures { result ≡ operation_numbered number }
 {
     match number {
+        // generated: operations
         0 | 1 => Some(BlendOperation::Add),
         2 => Some(BlendOperation::Subtract),
         3 => Some(BlendOperation::ReverseSubtract),
         4 => Some(BlendOperation::Min),
         5 => Some(BlendOperation::Max),
+        // end of operations
         _ => None,
     }
 }

@@ -1,39 +1,57 @@
-/// Why a batch cannot be drawn, by its number in C. 3 was the cause of those from 15 to 22 together. Polygons have
-/// causes of their own between them.
+/// Why a batch or polygons cannot be drawn, by its number in C. 3 was the cause of those from 15 to 22 together.
 #[derive(Clone, Copy, Debug, PartialEq, Eq)]
 pub enum BatchCause {
+    // generated: causes
     /// Fewer vertices are left than the draw has.
     TooFewVertices = 1,
     /// Fewer indices are left than the draw has.
     TooFewIndices = 2,
-    /// The indices of the draw make no whole primitives.
+    /// Not reported: 15 to 23 say which number is outside of its range.
+    BadState = 3,
+    /// The indices of the draw, or without any its vertices, make no whole triangles or quads.
     NotWhole = 4,
-    /// The id of a triangle would have more than 24 bits.
+    /// The id of a triangle or a polygon would be greater than 16,777,215.
     TooManyIds = 5,
-    /// An index names no vertex of the draw.
+    /// An index, which is the error's value, is not less than the draw's `vertex_count`.
     BadIndex = 6,
-    /// A vertex that an index names is outside of the guard band.
+    /// A vertex that an index names, or a corner, is outside of -8388608 to 8388607 in 1/256 pixel, on the screen or as
+    /// seen from the canvas's origin.
     BadPosition = 7,
     /// A quad is not strictly convex.
     NotConvex = 8,
-    /// A vertex or an index is in no draw.
+    /// A vertex or an index is in no draw, or a corner or a ring is in no polygon.
     LeftOver = 9,
-    /// There is no such topology.
+    /// Polygons have 2^32 corners or more.
+    TooManyCorners = 10,
+    /// A ring ends before it begins, or behind the last corner.
+    BadRing = 11,
+    /// A polygon ends before it begins, or behind the last ring.
+    BadPolygon = 12,
+    /// There are fewer colours than polygons.
+    TooFewColors = 13,
+    /// There are depths, but fewer than polygons.
+    TooFewDepths = 14,
+    /// `topology` is not the number of a topology.
     BadTopology = 15,
-    /// There is no such culling.
+    /// `cull` is not the number of a culling.
     BadCull = 16,
-    /// There is no such depth test.
+    /// `depth_test` is not the number of a depth test.
     BadDepthTest = 17,
-    /// Whether depths are written is neither 0 nor 1.
+    /// `depth_write` is neither 0 nor 1.
     BadDepthWrite = 18,
-    /// A bit of the channels that are kept is that of no channel.
+    /// A bit of `keep` is not that of a channel.
     BadKeep = 19,
-    /// Whether the scissor is looked at is neither 0 nor 1.
+    /// `scissor_enable` is neither 0 nor 1.
     BadScissorEnable = 20,
-    /// A factor of the blending is none that there is.
+    /// A factor of `blend` is not the number of a factor.
     BadFactor = 21,
-    /// An operation of the blending is none that there is.
+    /// An operation of `blend` is not the number of an operation.
     BadOperation = 22,
+    /// `fill_rule` is not the number of a fill rule.
+    BadFillRule = 23,
+    /// There are boxes, but fewer than polygons.
+    TooFewBoxes = 24,
+    // end of causes
 }
 
 impl BatchCause {

@@ -2,6 +2,7 @@
 --
 -- Statuses.antt
 --   status_number: The number of each status in C.
+--   status_text: The line of each status, as the header and the bindings have it too.
 --
 -- Errors.antt
 --   list_fault: What is wrong with a list, by its numbers.

@@ -1,47 +1,50 @@
 ghost use Rattle.std.specs.Prelude.{◌≡◌, ◌↔◌, ◌<◌, ◌≤◌, length, IsOk, IfSome, MatchResult};
-ghost use Rattle.c_abi.specs.Statuses.{status_number};
+ghost use Rattle.c_abi.specs.Statuses.{status_number, status_text};
 
 use grid::OutOfMemory;
 
 /// Why a call failed, by its number in C. A number never changes its meaning. A call that succeeds has the status 0.
 #[derive(Clone, Copy, Debug, PartialEq, Eq)]
 pub enum Status {
-    /// The bytes denote no draw list.
+    // generated: statuses
+    /// The text is no draw list: `cause` and `draw` of the error say why and where.
     BadList = 1,
-    /// The list has more than 67,108,864 bytes.
+    /// The draw list has more than 67,108,864 bytes.
     InputTooLong = 2,
-    /// An allocation failed.
+    /// `malloc` or `realloc` returned NULL.
     OutOfMemory = 3,
-    /// The caller's memory is smaller than what would be read or written.
+    /// The buffer has fewer bytes than the call would write, or its rows are too short.
     BufferTooSmall = 4,
-    /// The tile size is none of 8, 16, 32 and 64 pixels.
+    /// The tile size is none of 8, 16, 32 and 64.
     BadTileSize = 5,
-    /// The picture or the canvas has no such tile rows.
+    /// The picture or the canvas has no such tile rows: the call says which it takes.
     BadTileRows = 6,
-    /// A struct has another size for the caller than for this library.
+    /// A size member is neither 0 nor the library's own.
     BadStructSize = 7,
-    /// There is no such canvas.
+    /// No such canvas: the members of `trirast_canvas` say which sides, samples and channels it has.
     BadCanvas = 8,
-    /// The memory of the samples is not as long as the tile rows need.
+    /// The memory of the samples is not of the size that the tile rows need, NULL or misaligned, or the canvas was
+    /// never initialized.
     BadMemory = 9,
-    /// There is no such format.
+    /// The number is not that of a format.
     BadFormat = 10,
-    /// The pixel has no such sample.
+    /// A pixel has no sample of this index: 0 to its samples less 1.
     BadSample = 11,
-    /// A position is outside of the guard band.
+    /// A position is outside of -8388608 to 8388607 in 1/256 pixel, or an origin outside of -32768 to 28672 pixels.
     BadPosition = 12,
     /// The picture has no such pixel.
     BadPixel = 13,
     /// The list has no such draw, or the draw no such triangle.
     BadTriangle = 14,
-    /// The batch cannot be drawn.
+    /// The batch cannot be drawn: `cause`, `draw` and `element` of the error say why and where.
     BadBatch = 15,
-    /// A stride is too short, too long or not aligned.
+    /// A stride is too short, too long or no multiple of 4 bytes or of an entry, as the call says; 0 is always right.
     BadStride = 16,
-    /// The canvas has no such tile.
+    /// The tile rows have no such tile.
     BadTile = 17,
-    /// There are no indices of this size.
+    /// An index has none of these sizes: 2 or 4 bytes.
     BadIndexSize = 18,
+    // end of statuses
 }
 
 impl Status {
@@ -58,6 +61,7 @@ impl Status {
         ensures { IfSome result (λ status. status_number status ≡ number) }
     {
         let status = match number {
+            // generated: numbers
             1 => Status::BadList,
             2 => Status::InputTooLong,
             3 => Status::OutOfMemory,
@@ -76,6 +80,7 @@ impl Status {
             16 => Status::BadStride,
             17 => Status::BadTile,
             18 => Status::BadIndexSize,
+            // end of numbers
             _ => return None,
         };
         Some(status)
@@ -83,9 +88,11 @@ impl Status {
 
     /// What it says, as the header and the bindings have it too.
     pub fn text(self) -> &'static str
-        ensures { length result.now ≤ 32 }
+        ensures value { result.now ≡ status_text self }
+        ensures short { length result.now ≤ 32 }
     {
         match self {
+            // generated: texts
             Status::BadList => "not a draw list",
             Status::InputTooLong => "input too long",
             Status::OutOfMemory => "out of memory",
@@ -104,6 +111,7 @@ impl Status {
             Status::BadStride => "wrong stride",
             Status::BadTile => "no such tile",
             Status::BadIndexSize => "no such index size",
+            // end of texts
         }
     }
 }

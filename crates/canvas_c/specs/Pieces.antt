@@ -4,7 +4,9 @@ use Rattle.checks.specs.Checking.{Checks, done, check, followed_by}
 use Rattle.grid.specs.Samples.{IsPattern, pattern_of}
 use Rattle.canvas.specs.declared.canvas.Canvas.{Canvas}
 use Rattle.readout.specs.declared.format.Format.{Format}
+-- generated: names
 use Rattle.readout.specs.declared.format.Format.TheVariants.{Rgb8, Rgba8, Bgra8, Rgba8Straight, Bgra8Straight}
+-- end of names
 use Rattle.canvas.specs.declared.tile_rows.TileRows.{TileRows}
 use Rattle.canvas.specs.Layout.{IsCanvasSize}
 use Rattle.readout.specs.Pixels.{pixel_bytes}
@@ -92,16 +94,22 @@ piece_checks head planes =
 
 -- There is a format of this number.
 abbrev pub IsFormat : ℕ → Type 0
+-- generated: known
 IsFormat n = n ≤ 4
+
+-- end of known
 
 -- The formats by their numbers.
 abbrev pub format_of : ℕ → Format
+-- generated: formats
 format_of n =
     if n == 0 then Rgb8
     else (if n == 1 then Rgba8
     else (if n == 2 then Bgra8
     else (if n == 3 then Rgba8Straight
     else Bgra8Straight)))
+
+-- end of formats
 
 -- A picture of `size` bytes is read or written, whose rows begin `stride` bytes behind each other.
 abbrev pub image_checks : CanvasHead → ℕ → ℕ → ℕ → ℕ → Checks Status

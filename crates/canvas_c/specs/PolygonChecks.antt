@@ -4,12 +4,15 @@ use Rattle.std.specs.List.{range_with_len}
 use Rattle.grid.specs.Samples.{parts_of, pattern_of}
 use Rattle.batch.specs.Listed.{state_listed}
 use Rattle.batch.specs.Causes.{number_of}
+use Rattle.batch.specs.declared.fault.BatchCause.TheVariants as causes
 use Rattle.batch.specs.States.{state_checks}
 use Rattle.checks.specs.Checking.{Checks, done, check, followed_by, reported_as, Pass, FirstIs}
 use Rattle.polygons.specs.Arrays.{ArePolygons, BoxesFit, IsWrong}
 use Rattle.polygons.specs.Cells.{flags_by}
 use Rattle.polygons.specs.declared.arrays.ArraysError.{ArraysError}
-use Rattle.polygons.specs.declared.arrays.ArraysError.TheVariants.{TooManyCorners, Ring, CornersLeft, Polygon, RingsLeft, OutOfBand, TooFewBoxes}
+-- generated: names
+use Rattle.polygons.specs.declared.arrays.ArraysError.TheVariants.{OutOfBand, CornersLeft, RingsLeft, TooManyCorners, Ring, Polygon, TooFewBoxes}
+-- end of names
 use Rattle.polygons.specs.declared.rule.Rule.{Rule}
 use Rattle.polygons.specs.declared.rule.Rule.TheVariants.{EvenOdd, NonZero}
 use Rattle.canvas.specs.declared.window.Origin.{Origin}
@@ -33,7 +36,7 @@ rule_of n = if n == 0 then EvenOdd else NonZero
 
 -- The checks of the rule and of the state, each with the number of its cause.
 abbrev pub known_checks : PolygonArrays → Checks ℕ
-known_checks a = check (a.fill_rule ≤ 1) 23 (reported_as number_of (state_checks a.state))
+known_checks a = check (a.fill_rule ≤ 1) (number_of causes.BadFillRule) (reported_as number_of (state_checks a.state))
 
 -- The rule and the state are known ones.
 abbrev pub HasKnownRuleAndState : PolygonArrays → Type 0
@@ -88,18 +91,21 @@ polygons_checks head planes ids a flags counters =
 
 -- What is wrong with arrays of polygons, by its number and with the index of the ring, the polygon or the corner.
 abbrev pub array_fault : ArraysError → Fault
-array_fault TooManyCorners = record { cause = 10; draw = None; element = None; value = None }
-array_fault (Ring k) = record { cause = 11; draw = None; element = Some k; value = None }
-array_fault CornersLeft = record { cause = 9; draw = None; element = None; value = None }
-array_fault (Polygon k) = record { cause = 12; draw = None; element = Some k; value = None }
-array_fault RingsLeft = record { cause = 9; draw = None; element = None; value = None }
-array_fault (OutOfBand k) = record { cause = 7; draw = None; element = Some k; value = None }
-array_fault TooFewBoxes = record { cause = 24; draw = None; element = None; value = None }
+-- generated: arrays
+array_fault (OutOfBand k) = record { cause = number_of causes.BadPosition; draw = None; element = Some k; value = None }
+array_fault CornersLeft = record { cause = number_of causes.LeftOver; draw = None; element = None; value = None }
+array_fault RingsLeft = record { cause = number_of causes.LeftOver; draw = None; element = None; value = None }
+array_fault TooManyCorners = record { cause = number_of causes.TooManyCorners; draw = None; element = None; value = None }
+array_fault (Ring k) = record { cause = number_of causes.BadRing; draw = None; element = Some k; value = None }
+array_fault (Polygon k) = record { cause = number_of causes.BadPolygon; draw = None; element = Some k; value = None }
+array_fault TooFewBoxes = record { cause = number_of causes.TooFewBoxes; draw = None; element = None; value = None }
+
+-- end of arrays
 
 -- There are too few colours, or an id would have more than 24 bits.
 abbrev pub colours_cause : Option ℕ → ℕ
-colours_cause None = 13
-colours_cause (Some first) = 5
+colours_cause None = number_of causes.TooFewColors
+colours_cause (Some first) = number_of causes.TooManyIds
 
 -- An error of all polygons together.
 abbrev pub of_all : ℕ → Fault
@@ -111,7 +117,7 @@ IsFirstOfPolygons ids a fault =
     ((cause : ℕ) × FirstIs (known_checks a) cause × (fault ≡ of_all cause))
     ⊎ (HasKnownRuleAndState a × ((e : ArraysError) × IsWrong a.corners.now a.ring_ends.now a.polygon_ends.now a.boxes.now e × (fault ≡ array_fault e)))
     ⊎ (HasKnownRuleAndState a × HasPolygons a × (¬ HasColours ids a.colours.now (length a.polygon_ends.now)) × (fault ≡ of_all (colours_cause ids)))
-    ⊎ (HasKnownRuleAndState a × HasPolygons a × HasColours ids a.colours.now (length a.polygon_ends.now) × (¬ HasDepths a) × (fault ≡ of_all 14))
+    ⊎ (HasKnownRuleAndState a × HasPolygons a × HasColours ids a.colours.now (length a.polygon_ends.now) × (¬ HasDepths a) × (fault ≡ of_all (number_of causes.TooFewDepths)))
 
 -- The checks of a call that finds the boxes of polygons, with room for n of them. What is in `boxes` is not looked at.
 abbrev pub measure_checks : PolygonArrays → ℕ → Checks Status

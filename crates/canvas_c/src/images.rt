@@ -21,11 +21,13 @@ fn format_of(number: u32) -> Option<Format>
     ensures value { IfSome result (λ format. format ≡ format_named number) }
 {
     match number {
+        // generated: formats
         0 => Some(Format::Rgb8),
         1 => Some(Format::Rgba8),
         2 => Some(Format::Bgra8),
         3 => Some(Format::Rgba8Straight),
         4 => Some(Format::Bgra8Straight),
+        // end of formats
         _ => None,
     }
 }

@@ -6,7 +6,7 @@ ghost use Rattle.fills.specs.Painting.{IsOriginInBand};
 ghost use Rattle.c_abi.specs.Sizes.{IsOwnSize};
 ghost use Rattle.canvas_c.specs.PolygonChecks as said;
 
-use batch::BatchDraw;
+use batch::{BatchCause, BatchDraw};
 use c_abi::{Fault, is_own_size};
 use canvas::Origin;
 use polygons::{ArraysError, Corner, Extent, Polygons, Rule};
@@ -81,13 +81,15 @@ pub(crate) fn array_fault(error: ArraysError) -> Fault
     ensures { result ≡ said.array_fault error }
 {
     match error {
-        ArraysError::TooManyCorners => of_all(10),
-        ArraysError::Ring(k) => at_element(11, k),
-        ArraysError::CornersLeft => of_all(9),
-        ArraysError::Polygon(k) => at_element(12, k),
-        ArraysError::RingsLeft => of_all(9),
-        ArraysError::OutOfBand(k) => at_element(7, k),
-        ArraysError::TooFewBoxes => of_all(24),
+        // generated: arrays
+        ArraysError::OutOfBand(k) => at_element(BatchCause::BadPosition as u32, k),
+        ArraysError::CornersLeft => of_all(BatchCause::LeftOver as u32),
+        ArraysError::RingsLeft => of_all(BatchCause::LeftOver as u32),
+        ArraysError::TooManyCorners => of_all(BatchCause::TooManyCorners as u32),
+        ArraysError::Ring(k) => at_element(BatchCause::BadRing as u32, k),
+        ArraysError::Polygon(k) => at_element(BatchCause::BadPolygon as u32, k),
+        ArraysError::TooFewBoxes => of_all(BatchCause::TooFewBoxes as u32),
+        // end of arrays
     }
 }
 
@@ -106,8 +108,8 @@ fn colours_fault(ids: Option<u32>) -> Fault
     ensures { result ≡ said.of_all (said.colours_cause ids) }
 {
     match ids {
-        None => of_all(13),
-        Some(_) => of_all(5),
+        None => of_all(BatchCause::TooFewColors as u32),
+        Some(_) => of_all(BatchCause::TooManyIds as u32),
     }
 }
 
@@ -138,7 +140,7 @@ impl<'a> PolygonArrays<'a> {
         ensures { IsJudged (said.known_checks self.now) (λ done. ⊤) result }
     {
         if self.fill_rule > 1 {
-            return Err(23);
+            return Err(BatchCause::BadFillRule as u32);
         }
         match self.state.check_state() {
             Ok(()) => Ok(()),
@@ -171,7 +173,7 @@ impl<'a> PolygonArrays<'a> {
                     return Err(colours_fault(ids));
                 }
                 if !self.has_depths() {
-                    return Err(of_all(14));
+                    return Err(of_all(BatchCause::TooFewDepths as u32));
                 }
                 Ok(polygons)
             }

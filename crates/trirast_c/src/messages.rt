@@ -15,6 +15,7 @@ fn list_kind(number: u32) -> Option<ReadKind>
     ensures { IfSome result (λ kind. list_number_of kind ≡ number) }
 {
     match number {
+        // generated: kinds
         1 => Some(ReadKind::NotJson),
         2 => Some(ReadKind::UnknownKey),
         3 => Some(ReadKind::MissingKey),
@@ -25,6 +26,7 @@ fn list_kind(number: u32) -> Option<ReadKind>
         8 => Some(ReadKind::OutOfMemory),
         9 => Some(ReadKind::TwoLists),
         10 => Some(ReadKind::NotConvex),
+        // end of kinds
         _ => None,
     }
 }
@@ -46,6 +48,7 @@ fn list_message(error: &Error) -> Message {
 /// What is wrong with a draw's index, vertex or quad, or with the draw, by the number of the cause.
 fn batch_words(cause: u32) -> (&'static str, &'static str) {
     match cause {
+        // generated: words
         1 => ("", "fewer vertices are left than the draw has"),
         2 => ("", "fewer indices are left than the draw has"),
         3 => ("", "a number of its state is out of range"),
@@ -73,6 +76,7 @@ fn batch_words(cause: u32) -> (&'static str, &'static str) {
         22 => ("", "no such blend operation"),
         23 => ("", "no such fill rule"),
         24 => ("", "there are fewer boxes than polygons"),
+        // end of words
         _ => ("", Status::BadBatch.text()),
     }
 }
