@@ -1,5 +1,5 @@
 """Writes the lines at the head of each crate's specs/Lib.antt: each public definition, and the first sentence of its
-comment. Also the table of docs/architecture.md with the files of each crate.
+comment. Also the table of docs/crates.md with the files of each crate.
 
     python3 -m tools.definitions [--check] [CRATE ...]
 
@@ -27,7 +27,7 @@ from tools.sources.statement_text import GROUPS
 LONGEST = 140
 MODULE = re.compile(r"^pub mod (\w+)$", re.MULTILINE)
 # The table of all files stands on this page, under this heading.
-PAGE, HEADING = os.path.join("docs", "architecture.md"), "## Where each rule lives"
+PAGE, HEADING = os.path.join("docs", "crates.md"), "## Where each rule lives"
 OPENING = (
     "-- The definitions of this crate, each file behind those that it uses; `python3 -m "
     "tools.definitions` writes these lines."

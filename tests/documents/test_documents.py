@@ -256,7 +256,7 @@ pub extern "C" fn version() {}
             self.assertEqual(named_calls(cell, public), named, cell)
 
     def test_each_crate_has_its_contract(self) -> None:
-        table = text_of("docs/architecture.md").split("## The contract of each crate")[1].split("\n\n")[2]
+        table = text_of("docs/crates.md").split("## The contract of each crate")[1].split("\n\n")[2]
         self.assertEqual([crate.strip("`") for crate, _contract in list(rows(table))[1:]], layers.product())
 
     def test_what_crates_rely_on(self) -> None:
