@@ -75,10 +75,10 @@ const char *trirast_version_string(void);
 uint32_t trirast_interface(void);
 
 /* generated: stack */
-/* Bytes of stack that are enough for each call: docs/library.md. */
+/* Bytes of stack that are enough for each call: docs/reference/calls.md. */
 #define TRIRAST_STACK 262144
 
-/* Bytes of stack that are enough for a call that reads a draw list: docs/library.md. */
+/* Bytes of stack that are enough for a call that reads a draw list: docs/reference/calls.md. */
 #define TRIRAST_STACK_TEXT 196608
 /* end of stack */
 

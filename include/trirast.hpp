@@ -1,5 +1,5 @@
 /* trirast for C++17 and later: canvases, polygons, edge functions and draw lists over trirast.h, which says what each
- * call does. docs/cpp_and_rust.md has examples.
+ * call does. docs/reference/calls.md has examples.
  *
  * Memory is freed by destructors, arrays are spans, and errors are exceptions. Nothing is added to what the library
  * does: each function here is one call, or one on each part of a canvas, and a call that throws has changed nothing.

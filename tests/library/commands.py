@@ -17,6 +17,8 @@ from tools.places import LIB, PROGRAM, PYTHON_SOURCES, TOP
 
 OUT = os.path.join(places.OUT, "check-library")
 SHARED = ("-L", LIB, "-ltrirast", f"-Wl,-rpath,{LIB}")
+# The pages with whole programs over the library: the first one draws examples/triangle.json.
+LIBRARY_PAGES = ("docs/how-to/install.md", "docs/how-to/explain-a-sample.md")
 WARNINGS = ("-Wall", "-Wextra", "-Wpedantic", "-Werror")
 # The Python whose packages are Debian's.
 DEBIAN_PYTHON = "/usr/bin/python3"
@@ -83,6 +85,7 @@ def must_be_the_programs(list_path: str, picture_path: str) -> None:
     must(difference is None, f"{picture_path}: {difference}")
 
 
-def blocks_of_the_page(language: str) -> list[str]:
-    """The blocks of docs/library.md in a language."""
-    return re.findall(rf"```{language}\n(.*?)```", places.text_of("docs", "library.md"), re.DOTALL)
+def blocks_of_the_pages(language: str) -> list[str]:
+    """The blocks of the pages of the library in a language."""
+    text = "".join(map(places.text_of, LIBRARY_PAGES))
+    return re.findall(rf"```{language}\n(.*?)```", text, re.DOTALL)

@@ -7,10 +7,10 @@ import tempfile
 
 from tools import places
 from tests.cases import must
-from tests.library.commands import OUT, WARNINGS, blocks_of_the_page, drawn_by_program, make, need, run
+from tests.library.commands import LIBRARY_PAGES, OUT, WARNINGS, blocks_of_the_pages, drawn_by_program, make, need, run
 from tools.places import EXAMPLES, LEVEL
 
-# What the program of docs/library.md that asks for a history prints.
+# What the program of docs/how-to/explain-a-sample.md that asks for a history prints.
 HISTORY = b"triangle 0: result 0, reasons 4, edge bc 0\nred 0, depth 65535\n"
 INSTALLED = (
     "bin/trirast", "bin/trirast_why", "include/trirast.h", "include/trirast.hpp",
@@ -46,14 +46,14 @@ def build_outside(text: str, prefix: str, *flags: str) -> bytes:
 
 
 def check_install() -> None:
-    """The programs of docs/library.md draw the program's picture over an installation, and make uninstall
+    """The programs of the pages of the library draw the program's picture over an installation, and make uninstall
     removes all of it."""
     prefix = os.path.join(OUT, "prefix")
     make("install", f"PREFIX={prefix}")
     must(files_below(prefix) == INSTALLED, f"{files_below(prefix)} were installed")
     wanted = drawn_by_program(places.bytes_of(EXAMPLES, "triangle.json")).output
-    programs = [text for text in blocks_of_the_page("c") if "int main" in text]
-    must(len(programs) == 2, f"{len(programs)} programs in docs/library.md")
+    programs = [text for text in blocks_of_the_pages("c") if "int main" in text]
+    must(len(programs) == 2, f"{len(programs)} programs in {LIBRARY_PAGES}")
     for text in programs:
         due = HISTORY if "trirast_list_history(" in text else wanted
         for flags in ((), ("-static",)):

@@ -153,7 +153,7 @@ def check_arm64() -> str:
     must(drawn == picture_of_the_page(), "other bytes")
     loads = build_for_arm64("loads", LOADS)
     run([*qemu, loads, os.path.join(libraries, wheel.LOADED)], env=clean_environment())
-    return "the program of docs/library.md"
+    return "the program of docs/how-to/install.md"
 
 
 def build_for_arm64(name: str, text: str, *libraries: str) -> str:

@@ -12,7 +12,7 @@ from typing import Iterable, Mapping
 
 from tools import places
 from tests.cases import must
-from tests.library.commands import WARNINGS, blocks_of_the_page, drawn_by_program, need, run
+from tests.library.commands import WARNINGS, blocks_of_the_pages, drawn_by_program, need, run
 from tools.packaging import listing
 from tools.places import EXAMPLES, LEVEL
 
@@ -35,8 +35,8 @@ def clean_environment(**more: str) -> dict[str, str]:
 
 
 def program_of_the_page() -> str:
-    """The first whole program in C of docs/library.md: it draws examples/triangle.json."""
-    return next(text for text in blocks_of_the_page("c") if "int main" in text)
+    """The first whole program in C of docs/how-to/install.md: it draws examples/triangle.json."""
+    return next(text for text in blocks_of_the_pages("c") if "int main" in text)
 
 
 def picture_of_the_page() -> bytes:

@@ -37,7 +37,7 @@ TAKEN = {
 DOCUMENTS = {
     "trirast": ("draw-list.md", "rules.md", "proofs.md", "statement.md"),
     "libtrirast2": (),
-    "libtrirast-dev": ("library.md",),
+    "libtrirast-dev": ("how-to/install.md", "reference/calls.md"),
 }
 # The loader's cache has to learn of the library.
 MEMBERS = {
@@ -68,7 +68,8 @@ def put_documents(package: str, folder: str) -> None:
     write(os.path.join(documents, "changelog.Debian.gz"), compressed(changelog().encode()))
     write(os.path.join(documents, "changelog.gz"), compressed(places.bytes_of("CHANGELOG.md")))
     for name in DOCUMENTS[package]:
-        write(os.path.join(documents, f"{name}.gz"), compressed(places.bytes_of("docs", name)))
+        path = os.path.join(documents, f"{os.path.basename(name)}.gz")
+        write(path, compressed(places.bytes_of("docs", name)))
 
 
 def put_file(stage: str, name: str, folder: str) -> None:

@@ -1,8 +1,8 @@
-"""The sizes of the libraries, as docs/library.md states them.
+"""The sizes of the libraries, as docs/how-to/install.md states them.
 
     python3 -m tools.packaging.sizes [--write]
 
-Prints the row of the table, and with --write puts it into the page. It needs `make library` and strip.
+Prints the line of the page, and with --write puts it into the page. It needs `make library` and strip.
 """
 
 from __future__ import annotations
@@ -15,8 +15,8 @@ import tempfile
 
 from tools.places import SHARED_LIBRARY, STATIC_LIBRARY, text_of, write_text
 
-PAGE = os.path.join("docs", "library.md")
-ROW = re.compile(r"^\| `libtrirast\.so\.2`, `libtrirast\.a` \|.*\n", re.MULTILINE)
+PAGE = os.path.join("docs", "how-to", "install.md")
+LINE = re.compile(r"^- Sizes: .*\n", re.MULTILINE)
 
 
 def stripped(path: str) -> int:
@@ -33,25 +33,23 @@ def measured() -> list[int]:
 
 def stated() -> list[int]:
     """The same by the page, in bytes."""
-    return [1000 * int(number.replace(",", "")) for number in re.findall(r"([\d,]+) KB", ROW.findall(text_of(PAGE))[0])]
+    line, = LINE.findall(text_of(PAGE))
+    return [1000 * int(number.replace(",", "")) for number in re.findall(r"([\d,]+) KB", line)]
 
 
-def row_of(sizes: list[int]) -> str:
+def line_of(sizes: list[int]) -> str:
     shared, static, smaller = (f"{(size + 500) // 1000:,} KB" for size in sizes)
-    return (
-        f"| `libtrirast.so.2`, `libtrirast.a` | {shared} and {static} as `make library` leaves them. The Debian "
-        f"package strips the second to {smaller} | `python3 -m tools.packaging.sizes --write` |\n"
-    )
+    return f"- Sizes: {shared} shared, {static} static, and {smaller} static in the Debian package.\n"
 
 
 def main() -> None:
-    parser = argparse.ArgumentParser(description="The sizes of the libraries, as docs/library.md states them.")
+    parser = argparse.ArgumentParser(description="The sizes of the libraries, as docs/how-to/install.md states them.")
     parser.add_argument("--write", action="store_true", help=f"put them into {PAGE}")
     options = parser.parse_args()
-    row = row_of(measured())
-    print(row, end="")
+    line = line_of(measured())
+    print(line, end="")
     if options.write:
-        write_text(PAGE, ROW.sub(row, text_of(PAGE), count=1))
+        write_text(PAGE, LINE.sub(line, text_of(PAGE), count=1))
 
 
 if __name__ == "__main__":

@@ -19,7 +19,7 @@
     seen = trirast.clip(positions, triangles, (0, 0, 1024, 768))      # in clip space
     canvas.draw(seen.vertices, seen.triangles)
 
-docs/canvas.md says what a canvas is, docs/draw-list.md what a draw list is, and docs/library.md where the library is
+docs/canvas.md says what a canvas is, docs/draw-list.md what a draw list is, and docs/python.md where the library is
 looked for. It is loaded at the first call. Python 3.9 or later, standard library alone; numpy's arrays are taken and
 given if numpy is there.
 """

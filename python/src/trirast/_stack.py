@@ -1,7 +1,7 @@
 """How much stack threads have: that of the calling thread, and that of the threads that are started here.
 
-A call of the library takes up to TRIRAST_STACK of the header (docs/library.md). A program may give its threads less, by
-threading.stack_size or by `ulimit -s`, and to run out of stack ends the process.
+A call of the library takes up to TRIRAST_STACK of the header (docs/reference/calls.md). A program may give its threads
+less, by threading.stack_size or by `ulimit -s`, and to run out of stack ends the process.
 """
 
 import ctypes

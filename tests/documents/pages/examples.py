@@ -17,9 +17,9 @@ from tests.documents.pages.page import blocks_of
 from tools.places import INCLUDE, STATIC_LIBRARY
 
 OUT = os.path.join(places.OUT, "pages", "programs")
-CANVAS, CPP_AND_RUST, POSTERS, README = "docs/canvas.md", "docs/cpp_and_rust.md", "docs/posters.md", "README.md"
-# A triangle on the canvas of 640 by 480 pixels of docs/canvas.md and docs/cpp_and_rust.md, and the same without a depth
-# for its four samples.
+CANVAS, CALLS, POSTERS, README = "docs/canvas.md", "docs/reference/calls.md", "docs/posters.md", "README.md"
+# A triangle on the canvas of 640 by 480 pixels of docs/canvas.md and docs/reference/calls.md, and the same without a
+# depth for its four samples.
 VERTICES = [
     [81920, 2560, 100, 255, 0, 0, 255], [158720, 115200, 200, 0, 255, 0, 255], [5120, 97280, 300, 0, 0, 255, 255]
 ]
@@ -93,8 +93,8 @@ class Around(NamedTuple):
 
 AROUND = {
     (CANVAS, "c"): Around(SCENE, "#include <stdio.h>\n#include <stdlib.h>\n#include <trirast.h>\n", PIECES),
-    (CPP_AND_RUST, "cpp"): Around(SCENE, CPP_HEAD.format(array(VERTICES)), CPP_END),
-    (CPP_AND_RUST, "rust"): Around(
+    (CALLS, "cpp"): Around(SCENE, CPP_HEAD.format(array(VERTICES)), CPP_END),
+    (CALLS, "rust"): Around(
         SCENE,
         "use std::io::Write;\nuse trirast::Vertex;\nfn main() -> Result<(), Box<dyn std::error::Error>> {\n"
         f"let vertices = [{', '.join(map(vertex_in_rust, VERTICES))}];\n",

@@ -21,14 +21,15 @@ from tests import cases
 from tests.documents.pages import examples, running
 from tests.documents.pages.not_run import NOT_RUN
 from tests.documents.pages.page import PAGES, Block, answer_of, blocks_of, commands_of, printed_by
-from tests.library.commands import need, run
+from tests.library.commands import LIBRARY_PAGES, need, run
 from tools.places import PROGRAM, SHARED_LIBRARY, STATIC_LIBRARY, WHY_PROGRAM, is_built, text_of
 
 # Examples that other checks build: of a page and a language.
 ELSEWHERE = {
-    ("docs/library.md", "c"): "tests/library/install.py, whose programs are these; here each is compiled",
-    ("docs/library.md", "rust"): "bindings/rust/trirast, whose documentation has them",
-    ("docs/library.md", "cmake"): "tools/packaging",
+    ("docs/how-to/explain-a-sample.md", "c"): "tests/library/install.py, whose programs are these; compiled here",
+    ("docs/how-to/install.md", "c"): "tests/library/install.py, whose programs are these; compiled here",
+    ("docs/how-to/install.md", "rust"): "bindings/rust/trirast, whose documentation has them",
+    ("docs/how-to/install.md", "cmake"): "tools/packaging",
     ("docs/matplotlib.md", "ipython"): "python/tests/test_matplotlib_notebooks.py, where there is IPython",
     ("docs/shading.md", "cpp"): "tests/shade, which compares its picture",
     ("docs/shading.md", "c"): "a part of examples/c/cube.c, as tests/shade sees",
@@ -92,7 +93,8 @@ def all_cases() -> Iterator[Case]:
             yield case(f"{page}: commands", running.check, page)
     for page in ("README.md", "docs/draw-list.md"):
         yield case(f"{page}: lists", running.check_lists, page)
-    yield case("docs/library.md: the examples in C compile", examples.check_compiles, "docs/library.md")
+    for page in LIBRARY_PAGES:
+        yield case(f"{page}: the examples in C compile", examples.check_compiles, page)
     for page, language in examples.AROUND:
         yield case(f"{page}: the example in {language}", examples.check, page, language)
 

@@ -14,9 +14,9 @@ pub const TRIRAST_VERSION_PATCH: u32 = 0;
 pub const TRIRAST_INTERFACE: u32 = 2;
 /// No index: what an error names is in no draw, or is no element.
 pub const TRIRAST_NONE: usize = usize::MAX;
-/// Bytes of stack that are enough for each call: docs/library.md.
+/// Bytes of stack that are enough for each call: docs/reference/calls.md.
 pub const TRIRAST_STACK: usize = 262_144;
-/// Bytes of stack that are enough for a call that reads a draw list: docs/library.md.
+/// Bytes of stack that are enough for a call that reads a draw list: docs/reference/calls.md.
 pub const TRIRAST_STACK_TEXT: usize = 196_608;
 /// Bytes that are enough for each message of trirast_error_message with its zero byte.
 pub const TRIRAST_ERROR_MESSAGE_SIZE: usize = 128;
