@@ -5,7 +5,7 @@ where they differ.
         [--json results.json] [--expected FILE]
 
 The report goes to standard output, and the first list of each subject that differs to conformance/out.
-docs/conformance.md says what is asked and what equal means. EGL and OpenGL are called by ctypes.
+docs/reference/conformance.md says what is compared. EGL and OpenGL are called by ctypes.
 
 Exit status 0: coverage agreed. 1: a sample differed; with --expected, one of a list that the file does not name. 2: no
 sample was compared, for example because there is no such driver or no program.

@@ -6,8 +6,8 @@
 
 By itself it runs rasterize.exe, on Windows directly and elsewhere under Wine. With --write the requests go to a file,
 which rasterize.exe draws on any machine, and --read compares its answers, with the same --suite and --bits. With
---against they are compared with other answers to the same requests, and not with the program. docs/conformance.md says
-what is asked and what equal means.
+--against they are compared with other answers to the same requests, and not with the program.
+docs/reference/conformance.md says what is compared.
 
 Exit status 0: coverage agreed, and values did within what Direct3D allows. 1: a sample differed. 2: no sample was
 compared; a line on standard error has the cause, for streams with the name of the error: `NotAStream`, `OtherVersion`,

@@ -24,7 +24,7 @@ def test_readme_is_short() -> None:
 
 def test_each_figure_of_readme_stands_on_a_page() -> None:
     readme = writing.prose_of(text_of("README.md"))
-    pages = "".join(text_of(page) for page in set(re.findall(r"\]\((docs/[\w.-]+\.md)", readme)))
+    pages = "".join(text_of(page) for page in set(re.findall(r"\]\((docs/[\w./-]+\.md)", readme)))
     figures = re.findall(r"(?<![\w.])\d+(?:[.,]\d+)+(?![\w.]*\d)", readme)
     assert len(figures) > 8
     assert [figure for figure in figures if not re.search(rf"(?<![\d.,]){figure}(?!\d)", pages)] == []
@@ -36,7 +36,7 @@ def test_contributing_is_short() -> None:
 
 def test_list_of_pages_to_rewrite_only_shrinks() -> None:
     # Lower this with each page that leaves the list.
-    assert len(writing.listed()) <= 16
+    assert len(writing.listed()) <= 15
 
 
 @pytest.mark.parametrize("page", REWRITTEN)

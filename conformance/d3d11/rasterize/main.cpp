@@ -3,8 +3,8 @@
 //     rasterize.exe [--device hardware|warp|N] < requests > answers
 //
 // The requests are read and checked whole, then drawn one after another. Exit status 0 if every request has its answer;
-// 2 if not, with one line on standard error that begins with the error's name. docs/conformance.md says how the streams
-// are made and compared.
+// 2 if not, with one line on standard error that begins with the error's name. docs/reference/conformance.md says
+// how the streams are made and compared.
 #include "about.hpp"
 #include "binary.hpp"
 #include "sheet.hpp"

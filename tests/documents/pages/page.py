@@ -9,9 +9,9 @@ from tools import places
 
 PAGES = ("README.md", *(
     f"docs/{name}.md" for name in (
-        "canvas", "canvas_proved", "conformance", "draw-list", "gallery", "how-to/explain-a-sample",
-        "how-to/install", "maps", "matplotlib", "performance", "polygons", "posters", "proofs", "python",
-        "reference/calls", "rules", "shaded_frames", "shading", "tested", "web",
+        "canvas", "canvas_proved", "draw-list", "explain/drivers", "gallery", "how-to/explain-a-sample",
+        "how-to/install", "how-to/test-a-driver", "maps", "matplotlib", "performance", "polygons", "posters", "proofs",
+        "python", "reference/calls", "reference/conformance", "rules", "shaded_frames", "shading", "tested", "web",
     )
 ))
 FENCE = re.compile(r"^```(\w*)\n(.*?)^```$", re.MULTILINE | re.DOTALL)
