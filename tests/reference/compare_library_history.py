@@ -90,11 +90,12 @@ class Library:
 
     def ask(self, text: bytes, sample: tuple[int, int, int], is_all: bool, capacity: int) -> tuple[Any, Any]:
         """The array of events, and what the library says of the sample."""
-        ffi = self.ffi
-        events, info = self.marked(ffi.CEvent * (capacity + 1)), self.marked(ffi.CSampleInfo)
+        declared = self.declared
+        events, info = self.marked(declared.CEvent * (capacity + 1)), self.marked(declared.CSampleInfo)
         try:
-            request = ffi.CHistoryRequest(0, 0, 0, *sample, is_all)
-            ffi.library().trirast_list_history(text, len(text), request, events, capacity, info, ffi.CError())
+            request = declared.CHistoryRequest(0, 0, 0, *sample, is_all)
+            error = declared.CError()
+            self.ffi.library().trirast_list_history(text, len(text), request, events, capacity, info, error)
         except self.error:
             must_equal("memory after an error", set(bytes(events) + bytes(info)), set(MARK))
             raise
@@ -170,7 +171,7 @@ class Comparison:
         x, y, s = sample
         wanted = printed(text, f"{x},{y}", "--sample", str(s), *(["--all"] if is_all else []))["samples"][0]
         count = len(wanted["events"])
-        size = ctypes.sizeof(self.library.ffi.CEvent)
+        size = ctypes.sizeof(self.library.declared.CEvent)
         whole, info = self.library.ask(text, sample, is_all, count)
         for capacity in {0, pick.randint(0, count), count, count + 2}:
             events, again = self.library.ask(text, sample, is_all, capacity)

@@ -112,7 +112,7 @@ CHECKS = (
         name="acceptance",
         about="the program's images, lines and statuses, for lists, arguments and devices that fail",
         command="pytest tests/program", seconds=8,
-        runs=("program", "why"),
+        runs=("program", "why", "readers"),
     ),
     Check(
         name="check-compare",
