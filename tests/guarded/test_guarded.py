@@ -29,8 +29,8 @@ PARTS = ("numbers", "pages", "plain", "refusals", "scene", "drawing", "reading")
 SECONDS, LONG_SECONDS, MARGIN = 30, 600, 60
 # Seeds of the longer form are others than those of CI.
 LONG_SEED = 1_000_000_000
-# Of clipping and shading in CI, so that each machine tries the same scenes. Scene 27311 is known to fail: a fragment has
-# weights that are no numbers.
+# Of clipping and shading in CI, so that each machine tries the same scenes. Scene 27311 is known to fail: a fragment
+# has weights that are no numbers.
 MOST_SCENES = 20_000
 
 
