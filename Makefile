@@ -39,8 +39,9 @@
 #
 # To package it:
 #   make deb       the Debian packages of program, library and header, in dist/
-#   make wheel     the Python packages with the library inside, for x86-64 and, where its compiler is there, ARM64, in dist/
-#   make release   all packages and the sources, with SHA-256 checksums, in dist/
+#   make wheel     the Python packages with the library inside, one for each platform that could be built, in dist/
+#   make npm       the package for JavaScript with the canvas for WebAssembly, in dist/
+#   make release   all packages, an archive for each platform and the sources, with a table and SHA-256 checksums, in dist/
 
 RT ?= rt
 # The tests need pytest, which the python3 that comes first may lack.
@@ -96,6 +97,7 @@ PROGRAM_x86_64 := $(PROGRAM)
 PROGRAM_aarch64 := bin/aarch64/trirast
 CMAKE_FILES := trirast-config.cmake trirast-config-version.cmake
 HEADERS := trirast.h trirast.hpp trirast_clip.h trirast_clip.hpp trirast_lanes.hpp trirast_shade.h trirast_shade.hpp \
+    trirast_frame.hpp trirast_layer.hpp trirast_texture.hpp \
     $(addprefix trirast/,canvas.hpp edges.hpp error.hpp list.hpp polygons.hpp span.hpp state.hpp tile_rows.hpp values.hpp)
 # What is installed: the mode of each file, where it lies here, and below PREFIX. And the files that are made there.
 INSTALLED := 755:$(STUB):bin/trirast 755:$(WHY):bin/trirast_why \

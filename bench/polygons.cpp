@@ -1,5 +1,6 @@
-// Times frames of polygons on a canvas, by cairo and by AGG, and counts pixels that are wrong along shared edges.
-// bench/polygons.py writes the scenes and runs it.
+// Times frames of polygons on a canvas, by cairo, AGG and FreeType, and counts pixels that are wrong
+// along shared edges. bench/polygons.py writes the scenes and runs it. FreeType has no line for a scene
+// that it cannot draw.
 //
 //     polygons time SCENE THREADS TURNS      a line for each renderer: seconds of the wall and of the processor, the
 //                                            least of its turns
@@ -12,9 +13,13 @@
 #include <agg_renderer_scanline.h>
 #include <agg_scanline_u.h>
 #include <cairo.h>
+#include <ft2build.h>
+#include FT_FREETYPE_H
+#include FT_OUTLINE_H
 
 #include <algorithm>
 #include <array>
+#include <atomic>
 #include <cstdio>
 #include <cstdlib>
 #include <functional>
@@ -236,6 +241,149 @@ private:
     Pixels pixels_;
 };
 
+// FreeType's smooth rasterizer. It rounds corners to 1/64 pixel, and calls back for spans of pixels with
+// the same coverage.
+class FreeType {
+public:
+    // Whether no polygon has more corners or rings than FreeType counts, in 16 bits.
+    static bool can_draw(const Scene &scene) {
+        std::uint32_t ring = 0, corner = 0;
+        for (std::uint32_t end : scene.polygon_ends) {
+            const std::uint32_t last = end ? scene.ring_ends[end - 1] : 0;
+            if (end - ring > MOST || last - corner > MOST) return false;
+            ring = end, corner = last;
+        }
+        return true;
+    }
+
+    explicit FreeType(const Scene &scene)
+        : scene_(scene), pixels_(4ull * scene.width * scene.height) {}
+
+    ~FreeType() {
+        for (FT_Library library : libraries_) FT_Done_FreeType(library);
+    }
+
+    FreeType(const FreeType &) = delete;
+
+    const Pixels &frame(int threads) {
+        while (libraries_.size() < std::size_t(threads)) libraries_.push_back(new_library());
+        const Scene::Boxes boxes = scene_.boxes(threads);
+        std::atomic<std::size_t> next{0};
+        share(scene_.height, threads, [&](int first, int end) {
+            rows(libraries_[next++], boxes, first, end);
+        });
+        return pixels_;
+    }
+
+private:
+    static constexpr std::uint32_t MOST = 32767;
+
+    // The rows of one thread, and the polygon that is drawn there.
+    struct Part {
+        std::uint32_t *pixels;
+        std::size_t width;
+        std::uint32_t color, alpha;
+    };
+
+    // An outline's arrays, kept from polygon to polygon.
+    struct Corners {
+        std::vector<FT_Vector> points;
+        std::vector<short> ends;
+        std::vector<char> tags;
+    };
+
+    static FT_Library new_library() {
+        FT_Library found;
+        if (FT_Init_FreeType(&found)) std::fputs("FreeType does not start\n", stderr), std::exit(2);
+        return found;
+    }
+
+    // Takes a polygon's corners, as seen from the first pixel of some rows.
+    FT_Outline outline(Corners &corners, std::size_t polygon, int first) const {
+        const int x = 256 * scene_.left, y = 256 * (scene_.top + first);
+        corners.points.clear(), corners.ends.clear();
+        const auto take_ring = [&](std::size_t, const trirast_corner *corner, std::size_t count) {
+            for (std::size_t k = 0; k < count; k++)
+                corners.points.push_back({(corner[k].x - x + 2) >> 2, (corner[k].y - y + 2) >> 2});
+            corners.ends.push_back(short(corners.points.size() - 1));
+        };
+        scene_.each(polygon, polygon + 1, take_ring);
+        corners.tags.resize(std::max(corners.tags.size(), corners.points.size()), FT_CURVE_TAG_ON);
+        FT_Outline found{};
+        found.n_contours = short(corners.ends.size()), found.contours = corners.ends.data();
+        found.n_points = short(corners.points.size()), found.points = corners.points.data();
+        found.tags = corners.tags.data();
+        found.flags = scene_.rule ? 0 : FT_OUTLINE_EVEN_ODD_FILL;
+        return found;
+    }
+
+    // The outline's box, cut to some rows of the picture. FreeType goes through all pixels of its clip box.
+    FT_BBox clip_box(const FT_Outline &outline, int height) const {
+        FT_BBox box;
+        FT_Outline_Get_CBox(&outline, &box);
+        box.xMin = std::max<FT_Pos>(box.xMin >> 6, 0);
+        box.yMin = std::max<FT_Pos>(box.yMin >> 6, 0);
+        box.xMax = std::min<FT_Pos>((box.xMax + 63) >> 6, scene_.width);
+        box.yMax = std::min<FT_Pos>((box.yMax + 63) >> 6, height);
+        return box;
+    }
+
+    void rows(FT_Library library, const Scene::Boxes &boxes, int first, int end) {
+        const std::size_t width = std::size_t(scene_.width);
+        Part part{reinterpret_cast<std::uint32_t *>(pixels_.data()) + first * width, width, 0, 0};
+        std::fill(part.pixels, part.pixels + (end - first) * width, packed(GROUND));
+        Corners corners;
+        for (std::size_t polygon = 0; polygon < scene_.colors.size(); polygon++) {
+            if (!boxes.empty() && scene_.is_outside(boxes[polygon], first, end)) continue;
+            part.color = packed(scene_.colors[polygon]), part.alpha = scene_.colors[polygon][3];
+            FT_Outline drawn = outline(corners, polygon, first);
+            FT_Raster_Params params{};
+            params.flags = FT_RASTER_FLAG_AA | FT_RASTER_FLAG_DIRECT | FT_RASTER_FLAG_CLIP;
+            params.gray_spans = blend_spans, params.user = &part;
+            const FT_BBox box = params.clip_box = clip_box(drawn, end - first);
+            if (box.xMin >= box.xMax || box.yMin >= box.yMax) continue;
+            if (const int error = FT_Outline_Render(library, &drawn, &params)) {
+                std::fprintf(stderr, "FreeType: error %d at polygon %zu\n", error, polygon);
+                std::exit(2);
+            }
+        }
+    }
+
+    template <class Color>
+    static std::uint32_t packed(const Color &color) {
+        return color[0] | color[1] << 8 | color[2] << 16 | 0xff000000u;
+    }
+
+    // Blends spans of a row of pixels by how much of each the polygon covers.
+    static void blend_spans(int y, int count, const FT_Span *span, void *user) {
+        const Part &part = *static_cast<Part *>(user);
+        std::uint32_t *row = part.pixels + std::size_t(y) * part.width;
+        for (const FT_Span *end = span + count; span < end; span++)
+            blend(row + span->x, span->len, part.color, span->coverage * part.alpha);
+    }
+
+    // Blends a color over some pixels. Its share of them is of 255 * 255.
+    static void blend(std::uint32_t *pixels, int count, std::uint32_t color, std::uint32_t share) {
+        std::uint32_t part = (share + (share >> 8) + 1) >> 8;
+        if (part == 255) {
+            std::fill(pixels, pixels + count, color);
+            return;
+        }
+        part += part >> 7;
+        const std::uint32_t odd = (color >> 8 & 0xff00ff) * part, even = (color & 0xff00ff) * part;
+        const std::uint32_t rest = 256 - part;
+        for (int k = 0; k < count; k++) {
+            const std::uint32_t under = pixels[k];
+            pixels[k] = (((under & 0xff00ff) * rest + even + 0x800080) >> 8 & 0xff00ff) |
+                        (((under >> 8 & 0xff00ff) * rest + odd + 0x800080) & 0xff00ff00);
+        }
+    }
+
+    const Scene &scene_;
+    Pixels pixels_;
+    std::vector<FT_Library> libraries_;
+};
+
 double now(clockid_t clock) {
     timespec time;
     clock_gettime(clock, &time);
@@ -279,6 +427,7 @@ int main(int count, char **words) {
     scene.find_window();
     Cairo cairo(scene);
     Agg agg(scene);
+    FreeType freetype(scene);
     Ours few(scene, 4), many(scene, 16);
     std::vector<Renderer> renderers = {
         {"cairo", [&](int threads) -> const Pixels & { return cairo.frame(threads); }},
@@ -286,6 +435,10 @@ int main(int count, char **words) {
         {"4", [&](int threads) -> const Pixels & { return few.frame(threads); }},
         {"16", [&](int threads) -> const Pixels & { return many.frame(threads); }},
     };
+    if (FreeType::can_draw(scene)) {
+        const auto frame = [&](int threads) -> const Pixels & { return freetype.frame(threads); };
+        renderers.push_back({"freetype", frame});
+    }
     if (is_timed) time_frames(renderers, std::atoi(words[3]), std::atoi(words[4]));
     else count_seams(renderers);
 }

@@ -1,15 +1,16 @@
-"""Times polygons on a canvas, by cairo and by AGG, and counts pixels that are wrong along shared edges, in one run.
+"""Times polygons on a canvas beside cairo, AGG and FreeType, and counts wrong pixels along shared edges.
 
     python3 -m bench.polygons [--scenes partition buildings ..] [--threads 1 4] [--turns 4]
 
 A frame is clearing, all polygons and pixels in memory, and the boxes of polygons where some are left out by threads or
 beside a window. The frames of all renderers take turns in one process; the least of each counts.
-cairo and AGG blend by the covered area of a pixel, which has 256 levels at an edge; 4 and 16 samples have 5 and 17.
+The others blend by the covered area of a pixel, with 256 levels at an edge. 4 and 16 samples have 5 and 17.
+FreeType has no figure for a scene with a polygon of more than 32,767 corners, which it cannot draw.
 Seams are pixels that are not white after all polygons of a partition were drawn in white over a dark ground.
 
-It needs `make library`, numpy, g++, and of Debian libcairo2-dev and libagg-dev; the worlds also
-gmt-gshhg-high (or -full) and python3-netcdf4, and are left out without them. Exit status 2 if the program
-cannot be built or ends with an error.
+It needs `make library`, numpy, g++, and of Debian libcairo2-dev, libagg-dev and libfreetype-dev. The worlds
+also need gmt-gshhg-high (or -full) and python3-netcdf4, and are left out without them. Exit status 2 if the
+program cannot be built or ends with an error.
 """
 
 from __future__ import annotations
@@ -30,7 +31,7 @@ from tools.places import BENCH_OUT, EXAMPLES, INCLUDE, LEVEL, SHARED_LIBRARY, TO
 SIDE = 2048
 UNIT = 256
 EVEN_ODD, NONZERO = 0, 1
-RENDERERS = ("cairo", "agg", "4", "16")
+RENDERERS = ("cairo", "agg", "freetype", "4", "16")
 TURN = 2 * np.pi
 # Of land and water, by level.
 LEVEL_COLORS = np.array(
@@ -198,9 +199,8 @@ def built() -> str:
     """Compiles the program over the shared library. Returns its path."""
     os.makedirs(BENCH_OUT, exist_ok=True)
     path = os.path.join(BENCH_OUT, "polygons")
-    found = subprocess.run(
-        ["pkg-config", "--cflags", "--libs", "cairo", "libagg"], stdout=subprocess.PIPE, check=True, text=True
-    ).stdout.split()
+    wanted = ("pkg-config", "--cflags", "--libs", "cairo", "libagg", "freetype2")
+    found = subprocess.run(wanted, stdout=subprocess.PIPE, check=True, text=True).stdout.split()
     flags = [
         "-std=c++17", "-O3", f"-march={LEVEL}", "-Wall", "-Wextra", "-I", INCLUDE,
         os.path.join(TOP, "bench", "polygons.cpp"), "-o", path,
@@ -220,7 +220,10 @@ def print_times(program: str, path: str, name: str, threads: int, turns: int) ->
     """Prints a row: cairo's milliseconds, and the others' times by cairo's, of the wall and of the processor."""
     found = lines_of(program, "time", path, str(threads), str(turns))
     wall, processor = found["cairo"]
-    ratios = [f"{found[each][0] / wall:.2f}, {found[each][1] / processor:.2f}" for each in RENDERERS[1:]]
+    ratios = [
+        f"{found[each][0] / wall:.2f}, {found[each][1] / processor:.2f}" if each in found else "-"
+        for each in RENDERERS[1:]
+    ]
     print(
         "| " + " | ".join([name, str(threads), f"{1e3 * wall:.0f}, {1e3 * processor:.0f}", *ratios]) + " |", flush=True
     )
@@ -231,8 +234,8 @@ def print_tables(options: argparse.Namespace, folder: str) -> None:
     print(f"{report.machine()}\n")
     report.print_head(
         (
-            "Scene", "Threads", "cairo: ms of the wall, of the processor", "AGG by cairo", "4 samples by cairo",
-            "16 samples by cairo",
+            "Scene", "Threads", "cairo: ms of the wall, of the processor", "AGG by cairo",
+            "FreeType by cairo", "4 samples by cairo", "16 samples by cairo",
         )
     )
     paths = {}
@@ -247,19 +250,19 @@ def print_tables(options: argparse.Namespace, folder: str) -> None:
         for threads in options.threads:
             print_times(program, paths[name], name, threads, options.turns)
     print()
-    report.print_head(("Partition", "Pixels", "Wrong by cairo", "by AGG", "by 4 samples", "by 16 samples"))
+    report.print_head(
+        ("Partition", "Pixels", "Wrong by cairo", "by AGG", "by FreeType", "by 4 samples", "by 16 samples")
+    )
     for name in [name for name in PARTITIONS if name in paths]:
         width, height = np.fromfile(paths[name], np.int32, 2)
         counts = lines_of(program, "seams", paths[name])
-        print(
-            "| " + " | ".join([name, f"{width * height:,}", *(f"{counts[each][0]:,.0f}" for each in RENDERERS)]) + " |",
-            flush=True,
-        )
+        wrong = [f"{counts[each][0]:,.0f}" if each in counts else "-" for each in RENDERERS]
+        print(report.row([name, f"{width * height:,}", *wrong]), flush=True)
     report.print_end()
 
 
 def main() -> int:
-    parser = argparse.ArgumentParser(description="Times polygons on a canvas, by cairo and by AGG.")
+    parser = argparse.ArgumentParser(description="Times polygons beside cairo, AGG and FreeType.")
     add_scenes(parser, tuple(SCENES))
     parser.add_argument("--threads", type=int, nargs="+", default=(1, 4), help="default 1 4")
     parser.add_argument("--turns", type=int, default=4, help="frames of which the least counts (default 4)")

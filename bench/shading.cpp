@@ -21,8 +21,8 @@
 #include <time.h>
 
 #include "frame.hpp"
-#include "pool.hpp"
 #include "shading_gl.hpp"
+#include "trirast_frame.hpp"
 
 namespace {
 
@@ -70,10 +70,9 @@ public:
             part = processor() - last;
             last += part;
         };
-        const ByPool by_pool{pool_};
         set_up();
         next(found.setup);
-        rows_.draw_ids(seen_, by_pool);
+        rows_.draw_ids(seen_, pool_);
         next(found.ids);
         if (is_plain)
             shade(rate,
@@ -81,9 +80,9 @@ public:
         else
             shade(rate, seen_.shader(model_));
         next(found.shading);
-        rows_.each_part(by_pool, [&](trirast::TileRows &rows) { scene::draw_glass(rows, seen_); });
+        rows_.each_part(pool_, [&](trirast::TileRows &rows) { scene::draw_glass(rows, seen_); });
         next(found.glass);
-        rows_.each_part(by_pool, [&](const trirast::TileRows &rows) { resolve(rows); });
+        rows_.each_part(pool_, [&](const trirast::TileRows &rows) { resolve(rows); });
         next(found.resolve);
         return found;
     }
@@ -99,7 +98,7 @@ public:
             shade_tile(rows, column, row, own, rate, shader);
             if (is_twice) read_and_store(rows, column, row);
         };
-        rows_.draw(seen_, ByPool{pool_}, shade, [this](trirast::TileRows &rows) {
+        rows_.draw(seen_, pool_, shade, [this](trirast::TileRows &rows) {
             scene::draw_glass(rows, seen_);
             resolve(rows);
         });
@@ -113,7 +112,7 @@ private:
     template <class Job>
     void each_tile(const Job &job) {
         const std::uint32_t columns = trirast::tile_columns(canvas_);
-        pool_.each(std::size_t{columns} * canvas_.end(), [&](std::size_t k) {
+        pool_(std::size_t{columns} * canvas_.end(), [&](std::size_t k) {
             const std::uint32_t tile = static_cast<std::uint32_t>(k);
             job(tile % columns, tile / columns);
         });
@@ -122,8 +121,8 @@ private:
     void set_up() {
         const trirast::Clip clip =
             scene::clip_of(static_cast<std::int32_t>(canvas_.width()), static_cast<std::int32_t>(canvas_.height()));
-        seen_.project(model_, model_.scene.matrix, clip, pool_.threads(), ByPool{pool_});
-        seen_.prepare(model_, pool_.threads(), ByPool{pool_});
+        seen_.project(model_, model_.scene.matrix, clip, pool_.threads(), pool_);
+        seen_.prepare(model_, pool_.threads(), pool_);
     }
 
     // The two calls of a tile, without shading between them: what is read is stored again.
@@ -160,7 +159,7 @@ private:
     trirast::Canvas canvas_;
     scene::SharedRows rows_;
     scene::Seen seen_;
-    Pool pool_;
+    trirast::Pool pool_;
     std::vector<std::uint8_t> pixels_;
 };
 

@@ -981,7 +981,7 @@ trirast_status trirast_canvas_tile_ids(const trirast_canvas *canvas, uint32_t co
  * @canvas, @column, @row: as for trirast_canvas_tile_ids.
  * @colors: as trirast_canvas_tile_ids writes ids.
  * @count: TRIRAST_TILE_ENTRIES(samples); or 1, and then all samples of the tile get the one colour. A tile of which
- *     trirast_canvas_tile_ids writes one id then stays such a tile (docs/proofs.md: readout::tile_store, uniform).
+ *     trirast_canvas_tile_ids writes one id then stays such a tile (docs/generated/promises.md: tile_store, uniform).
  *
  * Returns TRIRAST_STATUS_OK; or the first check that fails, then TRIRAST_STATUS_BAD_TILE, then
  * TRIRAST_STATUS_BUFFER_TOO_SMALL if count is neither of the two. If the status is not TRIRAST_STATUS_OK, no sample is

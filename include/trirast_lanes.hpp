@@ -12,8 +12,8 @@
  * with a sum: GCC does by itself for processors that can (-ffp-contract=off). Do not use -ffast-math.
  *
  * A comparison gives Integers: -1 in the lanes where it holds, else 0. Such masks are taken by choose, any and bits,
- * and joined by &, | and ~. Lanes are not set by themselves: store, change the array, and load. docs/shading.md has a
- * table of all operators and functions. */
+ * and joined by &, | and ~. Lanes are not set by themselves: store, change the array, and load.
+ * docs/how-to/textures.md has a table of all operators and functions. */
 #ifndef TRIRAST_LANES_HPP
 #define TRIRAST_LANES_HPP
 

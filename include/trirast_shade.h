@@ -31,6 +31,9 @@
  * - Differences to a neighbouring pixel are off by less than 2^-19 r (1 + r), where r is the sum of the sizes of the
  *   steps of n[k] to that pixel, by s there. This was found by tests, and is not derived.
  * - w and the corners are taken as they are given: rounded to 1/256 pixel, which is not counted here.
+ * - A w of more than 2^72 times the least of its triangle is taken as 2^72 times that, so that no product overflows.
+ *   The doubled area of a triangle is at most 2^48, so this changes a weight by less than 2^-24. Only on the edge
+ *   across from the corner with the least w, weights are those of the w that are taken.
  *
  * Use the default rounding to nearest, and not -ffast-math. Pictures are the same bytes for any number of threads. By
  * -ffp-contract=off they are the same for each compiler and processor, in C and C++; fused products change them within
@@ -117,9 +120,14 @@ typedef struct trirast_shade_place {
 
 /* ---- What is known of triangles ---- */
 
+/* By how much w may differ in a triangle: 2^72. What is above is cut off. */
+#define TRIRAST_SHADING_W_RANGE 4722366482869645213696.0f
+
+static inline float trirast_shading_lesser(float one, float other) { return one < other ? one : other; }
+
 /* Sets what is looked up of the triangles from `first` to before `end`: several threads may each set some.
  *
- * @vertices, @w: corners on the screen, and w of clip space, which is positive: those of trirast_clipped.
+ * @vertices, @w: corners on the screen, and w of clip space, positive and finite: those of trirast_clipped.
  * @indices: three for each triangle.
  * @triangles: entry k is that of triangle k. */
 static inline void trirast_shade_set_triangles(const trirast_vertex *vertices, const float *w, const uint32_t *indices,
@@ -128,10 +136,13 @@ static inline void trirast_shade_set_triangles(const trirast_vertex *vertices, c
     for (k = first; k < end; k++) {
         const uint32_t *corner = &indices[3 * k];
         const trirast_vertex *a = &vertices[corner[0]], *b = &vertices[corner[1]], *c = &vertices[corner[2]];
+        const float wa = w[corner[0]], wb = w[corner[1]], wc = w[corner[2]];
+        const float most = TRIRAST_SHADING_W_RANGE * trirast_shading_lesser(wa, trirast_shading_lesser(wb, wc));
+        const float by = trirast_shading_lesser(wa, most);
         trirast_shade_triangle *found = &triangles[k];
         found->ax = a->x, found->ay = a->y;
         found->bx = b->x - a->x, found->by = b->y - a->y, found->cx = c->x - a->x, found->cy = c->y - a->y;
-        found->wb = w[corner[0]] / w[corner[1]], found->wc = w[corner[0]] / w[corner[2]];
+        found->wb = by / trirast_shading_lesser(wb, most), found->wc = by / trirast_shading_lesser(wc, most);
     }
 }
 

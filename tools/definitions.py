@@ -1,5 +1,5 @@
 """Writes the lines at the head of each crate's specs/Lib.antt: each public definition, and the first sentence of its
-comment. Also the table of docs/crates.md with the files of each crate.
+comment.
 
     python3 -m tools.definitions [--check] [CRATE ...]
 
@@ -18,7 +18,6 @@ from typing import Iterator
 
 from tools import places
 from tools.counts import Counts
-from tools.markdown import with_table
 from tools.places import text_of, write_text
 from tools.sources.layers import product
 from tools.sources.rattle import Defined, definitions_in
@@ -26,8 +25,6 @@ from tools.sources.statement_text import GROUPS
 
 LONGEST = 140
 MODULE = re.compile(r"^pub mod (\w+)$", re.MULTILINE)
-# The table of all files stands on this page, under this heading.
-PAGE, HEADING = os.path.join("docs", "crates.md"), "## Where each rule lives"
 OPENING = (
     "-- The definitions of this crate, each file behind those that it uses; `python3 -m "
     "tools.definitions` writes these lines."
@@ -137,7 +134,6 @@ def main() -> int:
     if not arguments.check:
         for crate in named:
             write(crate)
-        write_text(PAGE, with_table(text_of(PAGE), HEADING, table()))
         return 0
     wrong = {crate: list(faults(crate)) for crate in named}
     for fault in sum(wrong.values(), []):

@@ -16,11 +16,3 @@ def rows(text: str) -> Iterator[list[str]]:
     for line in text.split("\n"):
         if line.startswith("| "):
             yield [cell.strip() for cell in line.strip("|").split(" | ")]
-
-
-def with_table(page: str, heading: str, table: str) -> str:
-    """The page with this table in place of the first one under a heading."""
-    head, rest = page.split(f"\n{heading}\n", 1)
-    return f"{head}\n{heading}\n" + re.sub(
-        r"(?:^\|.*\n)+", lambda _found: f"{table}\n", rest, count=1, flags=re.MULTILINE
-    )

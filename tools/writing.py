@@ -1,27 +1,22 @@
 """Counts what is hard to read in the hand-written pages: wide lines, long cells of tables, long sentences.
 
-    python3 -m tools.writing [--write] [PAGE ..]
+    python3 -m tools.writing [PAGE ..]
 
-STYLE.md has the limits. A page that keeps them all is not listed. The others are listed with their counts in
-tests/pages_to_rewrite.json, and no count there may rise: --write puts lower counts into the list and takes rewritten
-pages off it, and never raises a count or adds a page. A page that moves before it is rewritten takes its line along.
-With pages named, prints each line, cell and sentence that is too long.
+STYLE.md has the limits. Prints each line, cell and sentence that is too long: of the named pages, or of all.
 """
 
 from __future__ import annotations
 
 import argparse
-import json
 import os
 import re
 import sys
-from dataclasses import asdict, dataclass, field
+from dataclasses import dataclass, field
 from typing import Iterator
 
 from tools.markdown import rows
-from tools.places import TOP, text_of, write_text
+from tools.places import TOP, text_of
 
-LIST = os.path.join("tests", "pages_to_rewrite.json")
 MOST_COLUMNS, MOST_CELL_WORDS, MOST_SENTENCE_WORDS = 110, 25, 40
 # Pages that a tool writes, as a whole.
 GENERATED = ("crates/README.md", "docs/statement.md", "docs/generated/", "packaging/FILES.md")
@@ -56,14 +51,6 @@ class Counts:
     lines: int = 0
     cells: int = 0
     sentences: int = 0
-
-    def least(self, other: Counts) -> Counts:
-        return Counts(
-            min(self.lines, other.lines), min(self.cells, other.cells), min(self.sentences, other.sentences)
-        )
-
-    def exceeds(self, other: Counts) -> bool:
-        return self.least(other) != self
 
 
 def words(text: str) -> int:
@@ -126,32 +113,6 @@ def counted() -> dict[str, Counts]:
     return {page: counts for page, counts in every.items() if counts != Counts()}
 
 
-def listed() -> dict[str, Counts]:
-    """The pages that are to be rewritten, with their counts."""
-    return {page: Counts(**counts) for page, counts in json.loads(text_of(LIST)).items()}
-
-
-def renewed(before: dict[str, Counts], now: dict[str, Counts]) -> dict[str, Counts]:
-    """The list after pages have become better: no count is higher than before."""
-    return {page: counts.least(now[page]) for page, counts in before.items() if page in now}
-
-
-def text_of_list(counts: dict[str, Counts]) -> str:
-    """The list as JSON, a line for each page."""
-    lines = [f"  {json.dumps(page)}: {json.dumps(asdict(each))}" for page, each in sorted(counts.items())]
-    return "{\n" + ",\n".join(lines) + "\n}\n"
-
-
-def faults(allowed: dict[str, Counts], now: dict[str, Counts]) -> Iterator[str]:
-    """A line for each page that is harder to read than its limits allow, and for each that has to leave the list."""
-    for page, counts in now.items():
-        if counts.exceeds(allowed.get(page, Counts())):
-            limit = f"at most {allowed[page]}" if page in allowed else "none, since it is no page to be rewritten"
-            yield f"{page}: expected {limit}, got {counts}; python3 -m tools.writing {page} prints them"
-    for page in allowed.keys() - now.keys():
-        yield f"{page}: nothing in it is too long, or it moved: python3 -m tools.writing --write takes it off {LIST}"
-
-
 def show(page: str) -> None:
     found = found_in(text_of(page))
     for kind, texts in vars(found).items():
@@ -160,16 +121,10 @@ def show(page: str) -> None:
 
 
 def main() -> int:
-    parser = argparse.ArgumentParser(description="Counts what is hard to read in the pages.")
-    parser.add_argument("pages", nargs="*", metavar="PAGE", help="print what is too long in these")
-    parser.add_argument("--write", action="store_true", help=f"put lower counts into {LIST}")
-    options = parser.parse_args()
-    for page in options.pages:
+    parser = argparse.ArgumentParser(description="Prints what is hard to read in the pages.")
+    parser.add_argument("pages", nargs="*", metavar="PAGE", help="these pages alone")
+    for page in parser.parse_args().pages or pages():
         show(page)
-    if options.write:
-        write_text(LIST, text_of_list(renewed(listed(), counted())))
-    elif not options.pages:
-        print(text_of_list(counted()), end="")
     return 0
 
 

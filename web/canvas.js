@@ -19,7 +19,7 @@ const CORNER = { x: INT32, y: INT32, depth: UINT16, red: UINT8, green: UINT8, bl
  * for the core to say. */
 function checkState(name, state) {
   if (typeof state !== 'object' || state === null) {
-    throw new TypeError(`${name}: an object, and not ${state === null ? 'null' : typeof state}`);
+    throw new TypeError(`${name}: expected an object, got ${state === null ? 'null' : typeof state}`);
   }
   for (const [key, value] of Object.entries(state)) {
     if (Object.hasOwn(STATE, key)) integer(`${name}.${key}`, value, STATE[key]);
@@ -34,7 +34,7 @@ function checkDraw(draw, k) {
   const { state, vertices, indices } = Object(draw);
   checkState(`draws[${k}].state`, state);
   if (!Array.isArray(vertices)) {
-    throw new TypeError(`draws[${k}].vertices: an array of rows, and not ${typeof vertices}`);
+    throw new TypeError(`draws[${k}].vertices: expected an array of rows, got ${typeof vertices}`);
   }
   const ranges = Object.values(CORNER);
   for (const [n, row] of vertices.entries()) {
@@ -59,7 +59,7 @@ export class Batch {
   /** Each draw has an object `state`, rows `vertices` and an array `indices`. Throws a TypeError or a
    * RangeError if one has not. */
   constructor(core, draws) {
-    if (!Array.isArray(draws)) throw new TypeError(`draws: an array, and not ${typeof draws}`);
+    if (!Array.isArray(draws)) throw new TypeError(`draws: expected an array, got ${typeof draws}`);
     // Not by forEach, which leaves out what an array lacks.
     for (const [k, draw] of draws.entries()) checkDraw(draw, k);
     this.core = core;

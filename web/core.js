@@ -13,17 +13,27 @@ const MEMORY64 = new Uint8Array([0, 97, 115, 109, 1, 0, 0, 0, 5, 3, 1, 4, 1]);
 /** Why the page cannot start. */
 export class LackingError extends Error {}
 
+function checkMemory() {
+  if (!globalThis.WebAssembly?.validate(MEMORY64)) {
+    throw new LackingError('This browser has no 64-bit memory for WebAssembly');
+  }
+}
+
 /** The module and its memory. */
 export class Core {
   /** Loads the module, gzipped or as it is. Throws a LackingError if the browser has no 64-bit memory, or
    * there is no such file. */
   static async load(url) {
-    if (!globalThis.WebAssembly?.validate(MEMORY64)) {
-      throw new LackingError('This browser has no 64-bit memory for WebAssembly');
-    }
+    checkMemory();
     const file = await fetch(url).catch(() => null);
     if (!file?.ok) throw new LackingError(`The file ${url} cannot be read`);
-    const { instance } = await WebAssembly.instantiate(await (await unpacked(file)).arrayBuffer(), {});
+    return Core.of(await (await unpacked(file)).arrayBuffer());
+  }
+
+  /** The module of these bytes. Throws a LackingError if there is no 64-bit memory. */
+  static async of(bytes) {
+    checkMemory();
+    const { instance } = await WebAssembly.instantiate(bytes, {});
     return new Core(instance.exports);
   }
 

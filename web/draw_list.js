@@ -1,7 +1,7 @@
 // Draw lists (docs/draw-list.md) as the arrays of a batch, and their pictures.
 
 import { Batch, Canvas } from './canvas.js';
-import { BLEND_OVER, CULLS, ERRORS, PRIMITIVES, TESTS } from './interface.js';
+import { BLEND_OVER, CULLS, ERRORS, MAX_SIDE, PRIMITIVES, TESTS } from './interface.js';
 
 const ALL_SAMPLES = 65535;
 
@@ -17,7 +17,7 @@ function stateOf(draw, primitives) {
     topology: PRIMITIVES.indexOf(primitives), cull: CULLS.indexOf(draw.cull ?? 'none'),
     depth_test: TESTS.indexOf(draw.depth_test ?? 'always'), depth_write: Number(draw.depth_write ?? false),
     keep: write.reduce((sum, isWritten, channel) => sum + (isWritten ? 0 : 1 << channel), 0),
-    skip_samples: ALL_SAMPLES & ~(draw.sample_mask ?? ALL_SAMPLES), scissor: draw.scissor ?? [0, 0, 4096, 4096],
+    skip_samples: ALL_SAMPLES & ~(draw.sample_mask ?? ALL_SAMPLES), scissor: draw.scissor ?? [0, 0, MAX_SIDE, MAX_SIDE],
     ...(draw.blend === 'over' ? { blend: BLEND_OVER } : {}),
   };
 }

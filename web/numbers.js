@@ -9,9 +9,9 @@ export const UINT32 = [0, 2 ** 32 - 1];
 /** The value, if it is an integer from the least to the most. Throws a TypeError if it is no number, and
  * else a RangeError. */
 export function integer(name, value, [least, most]) {
-  if (typeof value !== 'number') throw new TypeError(`${name}: an integer, and not ${typeof value}`);
+  if (typeof value !== 'number') throw new TypeError(`${name}: expected an integer, got ${typeof value}`);
   if (!Number.isInteger(value) || value < least || value > most) {
-    throw new RangeError(`${name}: an integer from ${least} to ${most}, and not ${value}`);
+    throw new RangeError(`${name}: expected an integer from ${least} to ${most}, got ${value}`);
   }
   return value;
 }
@@ -20,9 +20,9 @@ export function integer(name, value, [least, most]) {
  * are not so many. */
 export function integers(name, values, range, count = values?.length) {
   if (!Array.isArray(values) && !(ArrayBuffer.isView(values) && 'length' in values)) {
-    throw new TypeError(`${name}: an array of integers, and not ${values === null ? 'null' : typeof values}`);
+    throw new TypeError(`${name}: expected an array of integers, got ${values === null ? 'null' : typeof values}`);
   }
-  if (values.length !== count) throw new RangeError(`${name}: ${count} integers, and not ${values.length}`);
+  if (values.length !== count) throw new RangeError(`${name}: expected ${count} integers, got ${values.length}`);
   // Not by forEach, which leaves out what an array lacks.
   for (let k = 0; k < values.length; k++) integer(`${name}[${k}]`, values[k], range);
   return values;

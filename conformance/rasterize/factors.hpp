@@ -5,6 +5,7 @@
 
 // A row has Direct3D 11's number of a factor; its number for alpha, since factors of colours are none for alpha there;
 // its name in Vulkan without VK_BLEND_FACTOR_; and OpenGL's number.
+// generated: factors
 #define FACTORS(ROW)                        \
     ROW(1, 1, ZERO, 0x0000)                 \
     ROW(2, 2, ONE, 0x0001)                  \
@@ -19,6 +20,7 @@
     ROW(11, 11, SRC_ALPHA_SATURATE, 0x0308) \
     ROW(14, 14, CONSTANT_COLOR, 0x8001)     \
     ROW(15, 15, ONE_MINUS_CONSTANT_COLOR, 0x8002)
+// end of factors
 
 // Direct3D 11's number of a factor for alpha, or 0 if there is no factor of this number.
 inline uint32_t alpha_factor(uint32_t factor) {

@@ -18,8 +18,8 @@
 #include <vector>
 
 #include "obj.hpp"
-#include "pool.hpp"
 #include "texture.hpp"
+#include "trirast_frame.hpp"
 #include "window.hpp"
 
 namespace {
@@ -99,7 +99,7 @@ public:
     void draw(const Eye &eye) {
         look(eye);
         std::vector<trirast::TileRows> parts = canvas_.split(pool_.threads());
-        pool_.each(parts.size(), [&](std::size_t k) { draw_ids(parts[k]); });
+        pool_(parts.size(), [&](std::size_t k) { draw_ids(parts[k]); });
         shade(eye);
     }
 
@@ -187,7 +187,7 @@ private:
             out.red *= bright, out.green *= bright, out.blue *= bright;
         };
         const std::uint32_t columns = trirast::tile_columns(canvas_);
-        pool_.each(std::size_t{columns} * canvas_.end(), [&](std::size_t k) {
+        pool_(std::size_t{columns} * canvas_.end(), [&](std::size_t k) {
             thread_local trirast::TileEntries entries;
             const std::uint32_t tile = static_cast<std::uint32_t>(k);
             trirast::shade_tile(canvas_, tile % columns, tile / columns, triangles_, trirast::Rate::pixel,
@@ -205,7 +205,7 @@ private:
     scene::Values parts_;
     std::vector<std::uint32_t> material_of_;
     trirast::Canvas canvas_;
-    Pool pool_;
+    trirast::Pool pool_;
 };
 
 void walk(Eye &eye, const Input &input, double speed) {

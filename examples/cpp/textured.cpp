@@ -19,7 +19,7 @@
 #include <vector>
 
 #include "frame.hpp"
-#include "pool.hpp"
+#include "trirast_frame.hpp"
 #include "window.hpp"
 
 namespace {
@@ -52,8 +52,8 @@ public:
     void look(double turn) {
         const trirast::Clip clip =
             scene::clip_of(static_cast<std::int32_t>(canvas_.width()), static_cast<std::int32_t>(canvas_.height()));
-        seen_.project(model_, scene::turned(model_.scene, turn), clip, pool_.threads(), ByPool{pool_});
-        seen_.prepare(model_, pool_.threads(), ByPool{pool_});
+        seen_.project(model_, scene::turned(model_.scene, turn), clip, pool_.threads(), pool_);
+        seen_.prepare(model_, pool_.threads(), pool_);
     }
 
     // Ids, colours and glass.
@@ -100,7 +100,7 @@ private:
             thread_local trirast::TileEntries entries;
             trirast::shade_tile(rows, column, row, seen_.triangles, rate_, background, shader, entries, own);
         };
-        rows_.draw(seen_, ByPool{pool_}, shade, [&](trirast::TileRows &rows) {
+        rows_.draw(seen_, pool_, shade, [&](trirast::TileRows &rows) {
             if (show_ == "shaded") scene::draw_glass(rows, seen_);
         });
     }
@@ -111,7 +111,7 @@ private:
     trirast::Canvas canvas_;
     scene::SharedRows rows_;
     scene::Seen seen_;
-    Pool pool_;
+    trirast::Pool pool_;
 };
 
 std::string said(const std::optional<std::uint32_t> &triangle) {

@@ -21,10 +21,11 @@ inline std::vector<trirast_edges> edges_at(const trirast_corners &corners, Span<
         const char names[] = "abc";
         for (int k = 0; k < 3; k++)
             if (detail::is_far(own[k]))
-                return std::string{"corner "} + names[k] + ": " + detail::position_values(own[k]);
+                return std::string{": expected "} + names[k] + detail::in_band() + detail::position_values(own[k]);
         for (std::size_t k = 0; k < points.size(); k++)
             if (detail::is_far({points[k].x, points[k].y}))
-                return "point " + std::to_string(k) + ": " + detail::position_values({points[k].x, points[k].y});
+                return ": expected points[" + std::to_string(k) + "]" + detail::in_band() +
+                       detail::position_values({points[k].x, points[k].y});
         return std::string{};
     };
     detail::check(trirast_edges_at(&corners, points.data(), 0, points.size(), found.data()), values);

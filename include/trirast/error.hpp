@@ -23,12 +23,12 @@
 
 namespace trirast {
 
-/* A call that failed. Its text is the message of trirast.h, as "draw 3: the indices make no whole triangles or quads",
- * and behind a colon the values that were passed and what they may be, as "no such sample: 0 to 3, and not 4". */
+/* A call that failed. Its text is the message of trirast.h and behind it the values that were passed and what they may
+ * be, as "no such sample: expected 0 to 3, got 4". */
 class Error : public std::runtime_error {
 public:
     explicit Error(const trirast_error &error, const std::string &values = {})
-        : std::runtime_error(message_of(error) + (values.empty() ? "" : ": " + values)), error_(error) {}
+        : std::runtime_error(message_of(error) + values), error_(error) {}
     explicit Error(trirast_status status, const std::string &values = {}) : Error(of_status(status), values) {}
 
     trirast_status status() const noexcept { return static_cast<trirast_status>(error_.status); }
@@ -66,7 +66,7 @@ private:
     }
 
     static std::string message_of(const trirast_error &error) {
-        char message[TRIRAST_ERROR_MESSAGE_SIZE];
+        char message[TRIRAST_ERROR_MESSAGE_SIZE] = "";
         return std::string(message, trirast_error_message(&error, message, sizeof message));
     }
 

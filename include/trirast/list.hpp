@@ -27,8 +27,9 @@ struct ListValues {
         switch (error.status) {
         case TRIRAST_STATUS_INPUT_TOO_LONG: return refused("at most 67108864 bytes", list.size());
         case TRIRAST_STATUS_BAD_TILE_SIZE: return refused("8, 16, 32 or 64 pixels", tile_size);
-        case TRIRAST_STATUS_BUFFER_TOO_SMALL: return std::to_string(size) + " bytes";
-        case TRIRAST_STATUS_BAD_PIXEL: return std::to_string(x) + " and " + std::to_string(y);
+        case TRIRAST_STATUS_BUFFER_TOO_SMALL: return refused("the file_bytes of list_info", size);
+        case TRIRAST_STATUS_BAD_PIXEL:
+            return refused("one of the picture", std::to_string(x) + " and " + std::to_string(y));
         default: return {};
         }
     }

@@ -117,6 +117,17 @@ public:
             if (error) std::rethrow_exception(error);
     }
 
+    /* Splits these tile rows, and calls work(part) once for each part by a pool, such as Pool of trirast_frame.hpp:
+     * jobs(count, job) calls job(k) once for each k below count, on any threads, and waits for these calls. */
+    template <class Work, class Jobs>
+    void share(std::uint32_t threads, const Work &work, const Jobs &jobs) {
+        std::vector<TileRows> parts = split(threads);
+        std::vector<std::exception_ptr> failed(parts.size());
+        jobs(parts.size(), [&](std::size_t k) { failed[k] = detail::thrown_by([&] { work(parts[k]); }); });
+        for (const std::exception_ptr &error : failed)
+            if (error) std::rethrow_exception(error);
+    }
+
     /* Without a colour each sample is black with alpha 0, and as deep as can be. */
     void clear() { detail::check(trirast_canvas_clear(&rows_, nullptr)); }
 

@@ -15,9 +15,9 @@ namespace trirast {
 
 namespace detail {
 
-/* As "0 to 3, and not 4". */
+/* As ": expected 0 to 3, got 4". */
 inline std::string refused(const std::string &wanted, const std::string &given) {
-    return wanted + ", and not " + given;
+    return ": expected " + wanted + ", got " + given;
 }
 inline std::string refused(const std::string &wanted, std::size_t given) {
     return refused(wanted, std::to_string(given));
@@ -39,7 +39,14 @@ inline std::string sample_values(const trirast_canvas &rows, std::uint32_t sampl
 }
 
 /* The bytes of a pixel. */
-inline std::size_t pixel_bytes(trirast_format format) noexcept { return format == TRIRAST_FORMAT_RGB8 ? 3 : 4; }
+inline std::size_t pixel_bytes(trirast_format format) noexcept {
+    /* generated: bytes */
+    switch (format) {
+    case TRIRAST_FORMAT_RGB8: return 3;
+    default: return 4;
+    }
+    /* end of bytes */
+}
 
 /* Those of a buffer in which rows lie, in bytes. */
 inline std::string buffer_values(std::size_t row, std::size_t rows, std::size_t size, std::size_t stride) {
@@ -109,6 +116,7 @@ inline std::string in_pixels(std::int64_t units) {
 
 /* generated: limits */
 constexpr std::int64_t lowest_position = -8388608, highest_position = 8388607;
+constexpr std::int64_t lowest_origin = -32768, highest_origin = 28672;
 /* end of limits */
 
 /* The range of a coordinate if it is outside of it: on the screen, and as seen from an origin. */
@@ -122,14 +130,18 @@ inline std::string range_values(const char *name, std::int64_t value, std::int64
     return found + " (" + in_pixels(least) + " to " + in_pixels(greatest) + " pixels)";
 }
 
+inline std::string in_band() {
+    return " of " + std::to_string(lowest_position) + " to " + std::to_string(highest_position);
+}
+
 /* Whether a coordinate is out of range. */
 inline bool is_far(const trirast_corner &at) {
     return !(range_values("x", at.x, 0) + range_values("y", at.y, 0)).empty();
 }
 
 inline std::string position_values(const trirast_corner &at, std::int64_t origin_x = 0, std::int64_t origin_y = 0) {
-    return "x " + std::to_string(at.x) + " and y " + std::to_string(at.y) + " in 1/256 pixel (" + in_pixels(at.x) +
-           " and " + in_pixels(at.y) + " pixels)" + range_values("x", at.x, origin_x) +
+    return ", got x " + std::to_string(at.x) + " and y " + std::to_string(at.y) + " in 1/256 pixel (" +
+           in_pixels(at.x) + " and " + in_pixels(at.y) + " pixels)" + range_values("x", at.x, origin_x) +
            range_values("y", at.y, origin_y);
 }
 
@@ -145,7 +157,7 @@ struct BatchValues {
         if (error.status == TRIRAST_STATUS_BAD_INDEX_SIZE) return refused("2 or 4 bytes, or 0", batch.index_size);
         if (error.status != TRIRAST_STATUS_BAD_BATCH) return {};
         if (error.cause == TRIRAST_BATCH_BAD_INDEX)
-            return std::to_string(batch.draw_count ? batch.draws[error.draw].vertex_count : batch.vertex_count);
+            return ": " + std::to_string(batch.draw_count ? batch.draws[error.draw].vertex_count : batch.vertex_count);
         if (error.cause != TRIRAST_BATCH_BAD_POSITION) return {};
         return position_values(vertex(error.draw, error.element), canvas.origin_x, canvas.origin_y);
     }
@@ -163,8 +175,14 @@ private:
 
 /* Where a ring or a polygon begins and ends. */
 inline std::string end_values(const std::uint32_t *ends, std::size_t element, std::size_t count, const char *of_what) {
-    return "it begins at " + std::to_string(element ? ends[element - 1] : 0) + " and ends at " +
-           std::to_string(ends[element]) + ", and there are " + std::to_string(count) + " " + of_what;
+    const std::uint32_t begin = element ? ends[element - 1] : 0;
+    return ", got " + std::to_string(ends[element]) + " after " + std::to_string(begin) + ", of " +
+           std::to_string(count) + " " + of_what;
+}
+
+/* How many there are of what each polygon has one of. */
+inline std::string counts_values(std::size_t given, std::size_t polygons) {
+    return ", got " + std::to_string(given) + " for " + std::to_string(polygons) + " polygons";
 }
 
 /* Those of polygons that were to be drawn on a canvas. */
@@ -174,7 +192,8 @@ struct PolygonValues {
 
     std::string operator()(const trirast_error &error) const {
         if (error.status == TRIRAST_STATUS_BAD_POSITION)
-            return refused("an origin of -32768 to 28672 pixels",
+            return refused("an origin of " + std::to_string(lowest_origin) + " to " + std::to_string(highest_origin) +
+                               " pixels",
                            std::to_string(canvas.origin_x) + " and " + std::to_string(canvas.origin_y));
         if (error.status != TRIRAST_STATUS_BAD_BATCH) return {};
         switch (error.cause) {
@@ -185,11 +204,11 @@ struct PolygonValues {
             return end_values(polygons.polygon_ends, error.element, polygons.ring_count, "rings");
         /* generated: counts */
         case TRIRAST_BATCH_TOO_FEW_COLORS:
-            return refused(std::to_string(polygons.polygon_count), polygons.color_count);
+            return counts_values(polygons.color_count, polygons.polygon_count);
         case TRIRAST_BATCH_TOO_FEW_DEPTHS:
-            return refused(std::to_string(polygons.polygon_count), polygons.depth_count);
+            return counts_values(polygons.depth_count, polygons.polygon_count);
         case TRIRAST_BATCH_TOO_FEW_BOXES:
-            return refused(std::to_string(polygons.polygon_count), polygons.box_count);
+            return counts_values(polygons.box_count, polygons.polygon_count);
         /* end of counts */
         default: return {};
         }

@@ -203,7 +203,9 @@ class Pictures(unittest.TestCase):
             canvas.save(path)
             with open(path, "rb") as file:
                 data = file.read()
-            with self.assertRaisesRegex(ValueError, "^path: an end of .png, for a picture with alpha"):
+            with self.assertRaisesRegex(
+                ValueError, "^path: expected a name that ends in .png, for a picture with alpha, got "
+            ):
                 canvas.save(os.path.join(folder, "x.ppm"))
         self.assertEqual(data, canvas._repr_png_())
         # Eight bits of red, green, blue and alpha.

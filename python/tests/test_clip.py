@@ -44,7 +44,9 @@ class Worked(unittest.TestCase):
         seen = trirast.clip([[0, 0, 3, 4], [8, 0, -1, 0], [0, 8, -1, 0]], [[0, 1, 2]], (0, 0, 256, 256))
         self.assertEqual(seen.attributes([0, 4, 8]).tolist(), [0, 4, 8, 3, 6])
         self.assertEqual(seen.attributes([[1, 0], [0, 4], [8, 8]])[3:].tolist(), [[0.25, 3], [6.25, 6]])
-        with self.assertRaisesRegex(ValueError, r"^values: 3 rows, one for each position, and not the shape \(2,\)$"):
+        with self.assertRaisesRegex(
+            ValueError, r"^values: expected 3 rows, one for each position, got the shape \(2,\)$"
+        ):
             seen.attributes([1, 2])
 
     def test_nothing_of_nothing(self) -> None:
@@ -84,20 +86,20 @@ class Refusals(unittest.TestCase):
 
     def test_of_arrays(self) -> None:
         clip: Any = trirast.clip
-        four = "positions: rows of x, y, z and w"
+        four = "positions: expected rows of x, y, z and w"
         three = np.ones((3, 4))
         self.must_say(
-            (lambda: clip(np.ones((3, 3)), [], VIEWPORT), ValueError, f"{four}, and not the shape (3, 3)"),
+            (lambda: clip(np.ones((3, 3)), [], VIEWPORT), ValueError, f"{four}, got the shape (3, 3)"),
             (
                 lambda: clip([[1, 2, 3, 4], [1, 2]], [], VIEWPORT), ValueError,
-                f"{four}, and not rows of several lengths",
+                f"{four}, got rows of several lengths",
             ),
-            (lambda: clip(np.ones((3, 4), bool), [], VIEWPORT), TypeError, f"{four}, floats or integers, and not bool"),
-            (lambda: clip(None, [], VIEWPORT), TypeError, f"{four}, floats or integers, and not None"),
-            (lambda: clip(three, [[0, 1]], VIEWPORT), ValueError, "triangles: row 0: 3 values, and not 2"),
+            (lambda: clip(np.ones((3, 4), bool), [], VIEWPORT), TypeError, f"{four}, floats or integers, got bool"),
+            (lambda: clip(None, [], VIEWPORT), TypeError, f"{four}, floats or integers, got None"),
+            (lambda: clip(three, [[0, 1]], VIEWPORT), ValueError, "triangles[0]: expected 3 values, got 2"),
             (
                 lambda: clip(three, [[0, 1, 3]], VIEWPORT), ValueError,
-                "triangles: row 0, index 2: an index of 3 positions, and not 3",
+                "triangles[0][2]: expected an index of 3 positions, got 3",
             ),
         )
 
@@ -105,16 +107,19 @@ class Refusals(unittest.TestCase):
         clip: Any = trirast.clip
         three, none = np.ones((3, 4)), np.zeros((0, 3), int)
         self.must_say(
-            (lambda: clip(three, none, (0, 0, 5)), ValueError, "viewport: 4 values, and not 3"),
-            (lambda: clip(three, none, (0, 0, 0, 5)), ValueError, "viewport: 1 to 16384, and not 0"),
-            (lambda: clip(three, none, (0, 16385, 5, 5)), ValueError, "viewport: -16384 to 16384, and not 16385"),
-            (lambda: clip(three, none, (0, 0, 5.5, 5)), TypeError, "viewport: an integer, and not 5.5"),
+            (lambda: clip(three, none, (0, 0, 5)), ValueError, "viewport: expected 4 values, got 3"),
+            (lambda: clip(three, none, (0, 0, 0, 5)), ValueError, "viewport[2]: expected 1 to 16384, got 0"),
+            (lambda: clip(three, none, (0, 16385, 5, 5)), ValueError,
+             "viewport[1]: expected -16384 to 16384, got 16385"),
+            (lambda: clip(three, none, (0, 0, 5.5, 5)), TypeError, "viewport[2]: expected an integer, got 5.5"),
             (
                 lambda: clip(three, none, VIEWPORT, near_plane="one"), ValueError,
-                "near_plane: one of zero, minus_one, and not 'one'",
+                "near_plane: expected one of zero, minus_one, got 'one'",
             ),
-            (lambda: clip(three, none, VIEWPORT, sides=1), ValueError, "sides: one of guard_band, viewport, and not 1"),
-            (lambda: clip(three, none, VIEWPORT, depths=(0, 65536)), ValueError, "depths: 0 to 65535, and not 65536"),
+            (lambda: clip(three, none, VIEWPORT, sides=1), ValueError,
+             "sides: expected one of guard_band, viewport, got 1"),
+            (lambda: clip(three, none, VIEWPORT, depths=(0, 65536)), ValueError,
+             "depths[1]: expected 0 to 65535, got 65536"),
         )
 
 

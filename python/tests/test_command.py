@@ -103,9 +103,9 @@ class Errors(unittest.TestCase):
         self.assertRegex(done.stderr, f"^trirast: {message}")
 
     def test_are_one_line(self) -> None:
-        self.must_end("the library of trirast cannot be loaded: .*no-such.so", TRIRAST_LIBRARY="/no-such.so")
-        self.must_end("path: an end of .png or .ppm, .* and not 'first.tif'$", "--draw", "first.tif")
-        self.must_end("path: an end of .png or .ppm, .* and not ''$", "--draw", "")
+        self.must_end("library: expected one that can be loaded, got .*no-such.so", TRIRAST_LIBRARY="/no-such.so")
+        self.must_end("path: expected a name that ends in .png or .ppm, .*, got 'first.tif'$", "--draw", "first.tif")
+        self.must_end("path: expected a name that ends in .png or .ppm, .*, got ''$", "--draw", "")
         self.must_end("\\[Errno 2\\] No such file or directory: '/no-such/first.png'$", "--draw", "/no-such/first.png")
 
     def test_wrong_arguments_have_status_2(self) -> None:

@@ -57,7 +57,7 @@ class Canvases(unittest.TestCase):
         canvas = drawn()
         interface, *others = canvas.__getstate__()["_canvas"]
         for state in ((interface + 1, *others), (interface, *others[:-1], b"")):
-            with self.assertRaisesRegex(ValueError, "a canvas of interface"):
+            with self.assertRaisesRegex(ValueError, "canvas: expected one of interface"):
                 trirast.Canvas.__new__(trirast.Canvas).__setstate__({"_canvas": state})
 
     def test_fields_are_read_only(self) -> None:
@@ -133,7 +133,7 @@ class Pictures(unittest.TestCase):
         self.assertEqual((done.returncode, done.stdout), (0, b"(2, 3, 3) 0\n"))
 
     def test_of_too_few_bytes_are_refused(self) -> None:
-        with self.assertRaisesRegex(ValueError, "memory: 18 bytes, and not 17"):
+        with self.assertRaisesRegex(ValueError, "memory: expected 18 bytes, got 17"):
             trirast.Picture(3, 2, False, memoryview(bytearray(17)))
 
 

@@ -91,7 +91,7 @@ while canvas._lock.acquire(blocking=False):
     canvas._lock.release()
     time.sleep(0.001)
 """,
-            b"another thread was drawing on this canvas when\n",
+            b"canvas: expected no call when the process was \n",
         )
 
 

@@ -31,7 +31,8 @@ class Errors(unittest.TestCase):
         with self.assertRaises(trirast.LimitError) as raised:
             trirast.image_info(b" " * 67108865)
         self.assertEqual(
-            (str(raised.exception), raised.exception.status), ("draw_list: at most 67108864 bytes, and not 67108865", 2)
+            (str(raised.exception), raised.exception.status),
+            ("draw_list: expected at most 67108864 bytes, got 67108865", 2),
         )
 
     def test_a_bad_tile_size_is_a_tile_size_error(self) -> None:
@@ -67,30 +68,33 @@ class Errors(unittest.TestCase):
         list_of_four: Any = {**DRAW_LIST, "samples": 4}
         edges = trirast.edges_at
         cases: Tuple[Tuple[Callable[[], Any], Type[trirast.Error], str], ...] = (
-            (lambda: canvas.ids(4), trirast.SampleError, "sample: 0 to 3, and not 4"),
-            (lambda: canvas.depth(-1), trirast.SampleError, "sample: 0 to 3, and not -1"),
+            (lambda: canvas.ids(4), trirast.SampleError, "sample: expected 0 to 3, got 4"),
+            (lambda: canvas.depth(-1), trirast.SampleError, "sample: expected 0 to 3, got -1"),
             (
                 lambda: canvas.store(bytes(3 * 70 * 130), 1 << 32), trirast.SampleError,
-                "sample: 0 to 3, and not 4294967296",
+                "sample: expected 0 to 3, got 4294967296",
             ),
-            (lambda: canvas.colors(9), trirast.SampleError, "sample: 0 to 3, and not 9"),
-            (lambda: trirast.draw(DRAW_LIST, 9), trirast.TileSizeError, "tile_size: 8, 16, 32 or 64 pixels, and not 9"),
+            (lambda: canvas.colors(9), trirast.SampleError, "sample: expected 0 to 3, got 9"),
+            (lambda: trirast.draw(DRAW_LIST, 9), trirast.TileSizeError,
+             "tile_size: expected 8, 16, 32 or 64 pixels, got 9"),
             (
                 lambda: trirast.why(DRAW_LIST, 3, 0), trirast.PixelError,
-                "no such pixel: x 0 to 2 and y 0 to 2, and not 3 and 0",
+                "no such pixel: expected x 0 to 2 and y 0 to 2, got 3 and 0",
             ),
-            (lambda: trirast.why(list_of_four, 0, 0, 4), trirast.SampleError, "no such sample: 0 to 3, and not 4"),
+            (lambda: trirast.why(list_of_four, 0, 0, 4), trirast.SampleError,
+             "no such sample: expected 0 to 3, got 4"),
             (
                 lambda: trirast.triangle_samples(DRAW_LIST, 0, 7), trirast.TriangleError,
-                "no such triangle: triangle 7 of draw 0",
+                "no such triangle: expected one of the list, got triangle 7 of draw 0",
             ),
             (
                 lambda: edges((0, 0), (1, 0), (0, 1 << 23), []), trirast.PositionError,
-                "c: -8388608 to 8388607 in 1/256 pixel, and not 8388608",
+                "c[1]: expected -8388608 to 8388607 in 1/256 pixel, got 8388608",
             ),
             (lambda: edges((0, 0), (1, 0), (0, 1), [(1, 2), (256, -(1 << 24))]), trirast.PositionError,
-             "position out of range: points: row 1: x 256 and y -16777216 in 1/256 pixel (1 and -65536 pixels); "
-             "y: -8388608 to 8388607 (-32768 to 32767.99609375 pixels)"),
+             "position out of range: expected points[1] of -8388608 to 8388607, got x 256 and y -16777216 in 1/256 "
+             "pixel "
+             "(1 and -65536 pixels); y: -8388608 to 8388607 (-32768 to 32767.99609375 pixels)"),
         )
         for call, kind, line in cases:
             with self.assertRaises(kind) as raised:

@@ -40,7 +40,7 @@ class Forks(unittest.TestCase):
 
     def test_a_canvas_that_another_thread_had_raises_an_error(self) -> None:
         lost = (
-            "another thread was drawing on this canvas when the process was forked, or when it began to end; "
+            "canvas: expected no call when the process was forked or began to end, got one of another thread; "
             "make another canvas\n"
         )
         self.must_print(

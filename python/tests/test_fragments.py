@@ -11,7 +11,7 @@ if importlib.util.find_spec("numpy") is None:
 import numpy
 
 import trirast
-from trirast._fragments import RATES, places_of
+from trirast._fragments import RATES, near_one, places_of, weigh
 
 # Not all of its functions have types.
 np: Any = numpy
@@ -73,6 +73,18 @@ class Weights(unittest.TestCase):
             for row in range(0, len(at.id), len(at.id) // 400):
                 self.check(at, vertices, w, row)
 
+    def test_w_may_be_any_positive_numbers(self) -> None:
+        corners = np.array([[[0, 0], [256, 0], [0, 256]]])
+        for w in ([5e-324, 1e300, 1], [1.7e308] * 3, [1, 5e-324, 5e-324], [1e-300, 1e-150, 1e150]):
+            for point in ([0, 0], [0, 100], [100, 100], [256, 0], [156, 100]):
+                weights, right, down = weigh(corners, near_one(np.array([w], float)), np.array([point]))
+                wanted, _whole = exact(corners[0].tolist(), w, *point)
+                # On the edge across from the corner with the least w, weights are those of w up to 2^900 times that.
+                is_exact = wanted[int(np.argmin(w))] > 0 or max(w) < 2.0**900 * min(w)
+                for found, weight in zip(weights[0].tolist(), wanted):
+                    self.assertLess(abs(Fraction(found) - weight), 1e-15 if is_exact else 1)
+                self.assertTrue(np.isfinite(right).all() and np.isfinite(down).all())
+
     def test_values_are_weighted(self) -> None:
         canvas, vertices, triangles, w = drawn(6, 4)
         at = canvas.fragments(vertices, triangles, w)
@@ -129,26 +141,30 @@ class Refused(unittest.TestCase):
         self.at.value(np.ones(last + 1))
         for given in (np.ones(last), np.ones((last, 2)), 1.0):
             for look_up in (self.at.value, self.at.to_right, self.at.to_below):
-                with self.assertRaisesRegex(ValueError, f"^values: {last + 1} rows at least, .*Clipped.attributes"):
+                with self.assertRaisesRegex(
+                    ValueError, f"^values: expected {last + 1} rows at least, .*Clipped.attributes"
+                ):
                     look_up(given)
 
     def test_fragments_of_other_arrays(self) -> None:
-        with self.assertRaisesRegex(TypeError, "^vertices: an array with the fields x and y"):
+        with self.assertRaisesRegex(TypeError, "^vertices: expected an array with the fields x and y"):
             self.canvas.fragments([(0, 0), (1, 0), (0, 1)], [(0, 1, 2)], [1, 1, 1])
-        with self.assertRaisesRegex(ValueError, r"^w: 180 numbers, one for each vertex, and not the shape \(5,\)"):
+        with self.assertRaisesRegex(ValueError, r"^w: expected 180 numbers, one for each vertex, got the shape \(5,\)"):
             self.canvas.fragments(self.vertices, self.triangles, self.w[:5])
-        with self.assertRaisesRegex(ValueError, "^triangles: row 0, index 2: an index of 180 vertices, and not 180"):
+        with self.assertRaisesRegex(ValueError, r"^triangles\[0\]\[2\]: expected an index of 180 vertices, got 180"):
             self.canvas.fragments(self.vertices, [(0, 1, 180)], self.w)
 
     def test_colours_and_canvases_that_do_not_fit(self) -> None:
         before, count = self.canvas.colors().copy(), len(self.at.id)
         for shape in ((count,), (count, 4), (count - 1, 3), (3,)):
-            with self.assertRaisesRegex(ValueError, f"^colors: {count} rows of red, green and blue, "):
+            with self.assertRaisesRegex(ValueError, f"^colors: expected {count} rows of red, green and blue, "):
                 self.canvas.shade(self.at, np.zeros(shape))
         self.assertTrue(np.array_equal(self.canvas.colors(), before))
         for width, samples in ((WIDTH - 1, 2), (WIDTH, 1), (WIDTH, 4)):
             other = trirast.Canvas(width, HEIGHT, samples=samples)
-            with self.assertRaisesRegex(ValueError, rf"^fragments: .*\({samples}, {HEIGHT}, {width}\), and not \(2, "):
+            with self.assertRaisesRegex(
+                ValueError, rf"^fragments: expected .*\({samples}, {HEIGHT}, {width}\), got \(2, "
+            ):
                 other.shade(self.at, np.zeros((count, 3)))
 
 
@@ -244,10 +260,10 @@ class Shaded(unittest.TestCase):
     def test_tiles_that_are_not_there(self) -> None:
         canvas, vertices, triangles, w = drawn(16, 2)
         for tile, line in (
-            ((2, 0), "column: 0 to 1, and not 2"), ((0, 2), "row: 0 to 1, and not 2"),
-            ((1 << 31, 0), "column: 0 to 1, and not 2147483648"), ((-1, 0), "column: 0 to 1, and not -1"),
+            ((2, 0), "column: expected 0 to 1, got 2"), ((0, 2), "row: expected 0 to 1, got 2"),
+            ((1 << 31, 0), "column: expected 0 to 1, got 2147483648"), ((-1, 0), "column: expected 0 to 1, got -1"),
         ):
-            with self.assertRaisesRegex(trirast.TileError, f"^tile: {line}$"):
+            with self.assertRaisesRegex(trirast.TileError, f"^tile.{line}$"):
                 canvas.fragments(vertices, triangles, w, tile=tile)
         wrong: Any
         for wrong in ((0,), (0, 0, 0), 5, (0, "0")):

@@ -27,7 +27,7 @@ class Library(unittest.TestCase):
         text = "import trirast\nprint('imported', flush=True)\ntrirast.image_info('{}')"
         done = run(text, TRIRAST_LIBRARY=os.path.join(PYTHON, "no-such-library.so"))
         self.assertEqual(done.stdout, b"imported\n")
-        self.assertIn(b"OSError: the library of trirast cannot be loaded: ", done.stderr)
+        self.assertIn(b"OSError: library: expected one that can be loaded, got ", done.stderr)
         self.assertIn(b"no-such-library.so", done.stderr)
         self.assertIn(
             b"; run make library in the repository of trirast, then set TRIRAST_LIBRARY to its lib/libtrirast.so",
@@ -40,7 +40,7 @@ class Library(unittest.TestCase):
             self.skipTest("there is no library of C to take for it")
         done = run("import trirast\ntrirast.image_info('{}')", TRIRAST_LIBRARY=other)
         self.assertRegex(
-            done.stderr.decode(), f"ImportError: {other} is another library, or an older one: .*; run make library"
+            done.stderr.decode(), f"ImportError: {other}: expected calls of interface .*; run make library"
         )
 
     def test_no_other_package_is_imported(self) -> None:

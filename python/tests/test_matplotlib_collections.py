@@ -2,6 +2,7 @@
 a path of its own."""
 
 import unittest
+import warnings
 from typing import Any, Callable, Dict, Tuple
 from unittest import mock
 
@@ -108,15 +109,16 @@ class Order(unittest.TestCase):
         )
 
     def test_too_many_rounds(self) -> None:
-        """Translucent ones are Agg's. Opaque faces are drawn below Agg's, where they close its seams."""
-        shapes = tiles(20, 15)
+        """Translucent ones that overlap are Agg's. Opaque faces are drawn below Agg's, where they close its seams."""
+        shapes = np.concatenate((tiles(20, 15), tiles(20, 15)[:1] + 0.01))
 
         def draw(alpha: float) -> Draws:
             return lambda axes: axes.add_collection(
                 PolyCollection(shapes, facecolors=(0, 0, 1, alpha), edgecolors=(0, 0, 1), linewidths=twice((0.1,)))
             )
 
-        with mock.patch.object(_rounds, "MAX_ROUNDS", 3):
+        with mock.patch.object(_rounds, "MAX_ROUNDS", 3), warnings.catch_warnings():
+            warnings.simplefilter("ignore")
             self.assertEqual(unlike(*(drawn(draw(0.5), canvas) for canvas in BOTH)), 0)
             agg, ours = (drawn(draw(1), canvas)[100:140, 140:180].reshape(-1, 4) for canvas in BOTH)
         self.assertGreater(int((agg != (0, 0, 255, 255)).any(1).sum()), 100)
@@ -260,7 +262,7 @@ class Items(unittest.TestCase):
         for shape in (stars(1)[0], np.array(((0.2, 0.2), (0.7, 0.2), (0.7, 0.61), (0.2, 0.61)))):
             for width in (0, 1, 2.5):
                 draw: Draws = lambda axes: axes.add_collection(
-                    PolyCollection([shape], color=(0, 0, 1, 0.5), linewidth=width)
+                    PolyCollection([shape], facecolor=(0, 0, 1, 0.5), edgecolor=(0, 0, 0.9, 0.5), linewidth=width)
                 )
                 self.assertLess(int((differences(draw) > 24).sum()), 60)
         x, tops = np.linspace(0, 1, 60), neighbours.heights().cumsum(0)

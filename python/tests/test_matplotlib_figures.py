@@ -241,12 +241,12 @@ class Settings(unittest.TestCase):
         """They are named when a face is drawn, also in a figure that was drawn before, and no default
         takes their place."""
         wrong: Any = (
-            ("samples", 5, ValueError, "RendererTrirast.samples: 1, 2, 4, 8 or 16, and not 5"),
-            ("samples", "16", TypeError, "RendererTrirast.samples: an integer, and not '16'"),
-            ("samples", 16.0, TypeError, "RendererTrirast.samples: an integer, and not 16.0"),
-            ("smooth", "no", TypeError, "RendererTrirast.smooth: True or False, and not 'no'"),
-            ("threads", 0, ValueError, "RendererTrirast.threads: at least 1, and not 0"),
-            ("threads", 1.0, TypeError, "RendererTrirast.threads: an integer, and not 1.0"),
+            ("samples", 5, ValueError, "RendererTrirast.samples: expected 1, 2, 4, 8 or 16, got 5"),
+            ("samples", "16", TypeError, "RendererTrirast.samples: expected an integer, got '16'"),
+            ("samples", 16.0, TypeError, "RendererTrirast.samples: expected an integer, got 16.0"),
+            ("smooth", "no", TypeError, "RendererTrirast.smooth: expected True or False, got 'no'"),
+            ("threads", 0, ValueError, "RendererTrirast.threads: expected at least 1, got 0"),
+            ("threads", 1.0, TypeError, "RendererTrirast.threads: expected an integer, got 1.0"),
         )
         for name, value, kind, message in wrong:
             figure, canvas, axes = figure_of()
@@ -298,7 +298,7 @@ class Settings(unittest.TestCase):
         with mock.patch.dict(os.environ, {"TRIRAST_LIBRARY": "/no/libtrirast.so"}):
             ended = run("import trirast.matplotlib")
         self.assertEqual(ended.returncode, 1)
-        self.assertIn(b"OSError: the library of trirast cannot be loaded", ended.stderr)
+        self.assertIn(b"OSError: library: expected one that can be loaded", ended.stderr)
 
 
 WINDOW = """

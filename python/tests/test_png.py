@@ -85,12 +85,12 @@ class Saved(Files):
     def test_other_dots_are_refused(self) -> None:
         picture = trirast.draw(DRAW_LIST)
         for dpi, kind, message in (
-            (0, ValueError, "dpi: 0.0254 to 54546084, and not 0"),
-            (-1, ValueError, "dpi: 0.0254 to 54546084, and not -1"),
-            (54546085, ValueError, "dpi: 0.0254 to 54546084, and not 54546085"),
-            (math.nan, ValueError, "dpi: a finite float, and not nan"),
-            ("300", TypeError, "dpi: a real number, and not '300'"),
-            ((300, 300), TypeError, "dpi: a real number, and not (300, 300)"),
+            (0, ValueError, "dpi: expected 0.0254 to 54546084, got 0"),
+            (-1, ValueError, "dpi: expected 0.0254 to 54546084, got -1"),
+            (54546085, ValueError, "dpi: expected 0.0254 to 54546084, got 54546085"),
+            (math.nan, ValueError, "dpi: expected a finite float, got nan"),
+            ("300", TypeError, "dpi: expected a real number, got '300'"),
+            ((300, 300), TypeError, "dpi: expected a real number, got (300, 300)"),
         ):
             calls: Any = (picture.save, drawn().save)
             for save in calls:
@@ -98,7 +98,9 @@ class Saved(Files):
                     save(self.path("a.png"), dpi=dpi)
                 self.assertEqual(str(caught.exception), message)
         for save, name in ((picture.save, "a.ppm"), (drawn().save, "A.PPM"), (trirast.draw(DEPTHS).save, "a.pgm")):
-            with self.assertRaisesRegex(ValueError, f"^dpi: only for a name that ends in .png, and not for .*{name}'$"):
+            with self.assertRaisesRegex(
+                ValueError, f"^dpi: expected a file whose name ends in .png, got .*{name}'; leave dpi out$"
+            ):
                 save(self.path(name), dpi=300)
         self.assertEqual(os.listdir(self.folder), [])
 
@@ -133,11 +135,11 @@ class Posters(Files):
         scene = random_scene(7)
         for name in ("a.ppm", "a"):
             with self.assertRaisesRegex(
-                ValueError, f"^dpi: only for a name that ends in .png, .tif, .tiff, and not for '.*{name}'$"
+                ValueError, f"^dpi: expected a file whose name ends in .png or .tif or .tiff, got '.*{name}'; leave"
             ):
                 poster.draw_poster(scene, self.path(name), dpi=300)
         with self.assertRaisesRegex(
-            ValueError, "^dpi: only for a name that ends in .png, .tif, .tiff, and not for tiles$"
+            ValueError, "^dpi: expected a file whose name ends in .png or .tif or .tiff, got tiles; leave dpi out$"
         ):
             poster.draw_poster(scene, tiles=self.path("tiles"), dpi=300)
         self.assertEqual(os.listdir(self.folder), [])
@@ -150,7 +152,8 @@ class Posters(Files):
         errors = io.StringIO()
         with redirect_stderr(errors):
             self.assertEqual(_command.main([self.path("a.npz"), "-o", self.path("a.ppm"), "--dpi", "300"]), 1)
-        message = f"dpi: only for a name that ends in .png, .tif, .tiff, and not for {self.path('a.ppm')!r}"
+        ends = ".png or .tif or .tiff"
+        message = f"dpi: expected a file whose name ends in {ends}, got {self.path('a.ppm')!r}; leave dpi out"
         self.assertEqual(errors.getvalue(), f"poster: ValueError: {message}\n")
 
 

@@ -86,18 +86,20 @@ class Owned(unittest.TestCase):
         """Of an array that somebody made one of other numbers no more is read than it has."""
         polygons = Polygons(np.array(TRIANGLE * 9, np.int32), [27], [1]).owned()
         polygons.corners.dtype = np.uint8
-        with self.assertRaisesRegex(ValueError, "an array: expected int32 in rows .*, got uint8 of the shape"):
+        with self.assertRaisesRegex(
+            ValueError, "polygons: expected an array of int32 in rows .*, got uint8 of the shape"
+        ):
             Canvas(4, 4).draw_polygons(polygons)
 
     def test_what_is_refused(self) -> None:
         corners = np.array(SQUARE)
         wrong: List[Tuple[Any, Any, str]] = [
-            ((corners / 2, [4], [1]), TypeError, r"corners: .* and not ndarray float64; use trirast.snap\(xy\)$"),
-            ((corners + (1 << 23), [4], [1]), ValueError, "corners: -8388608 to 8388607, and not "),
-            ((corners, [3], [1]), ValueError, "ring_ends: the last one is the number of corners, 4, and not 3$"),
-            ((corners, [4], [2]), ValueError, "polygon_ends: .* 1, and not 2$"),
-            ((corners, [4], [1], [(1, 2, 3)] * 2), ValueError, "colors: 1 rows, one for each polygon, and not 2$"),
-            ((corners, [4], [1], (1, 2, 256)), ValueError, "colors: 0 to 255, and not 1 to 256$"),
+            ((corners / 2, [4], [1]), TypeError, r"corners: expected .*, got ndarray float64; use trirast.snap\(xy\)$"),
+            ((corners + (1 << 23), [4], [1]), ValueError, "corners: expected -8388608 to 8388607, got "),
+            ((corners, [3], [1]), ValueError, r"ring_ends\[-1\]: expected 4, the number of corners, got 3$"),
+            ((corners, [4], [2]), ValueError, "polygon_ends.*: expected 1, .*, got 2$"),
+            ((corners, [4], [1], [(1, 2, 3)] * 2), ValueError, "colors: expected 1 rows, one for each polygon, got 2$"),
+            ((corners, [4], [1], (1, 2, 256)), ValueError, "colors: expected 0 to 255, got 1 to 256$"),
         ]
         for arrays, error, text in wrong:
             with self.assertRaisesRegex(error, text):
@@ -105,9 +107,11 @@ class Owned(unittest.TestCase):
             with self.assertRaisesRegex(error, text):
                 Canvas(4, 4).draw_polygons(Polygons(*arrays))
         for ends in (([4], None), (None, [1])):
-            with self.assertRaisesRegex(TypeError, "corners: a trirast.Polygons has its own ends; leave .* out"):
+            with self.assertRaisesRegex(
+                TypeError, "ring_ends, polygon_ends: expected None, got ends beside those of the trirast.Polygons"
+            ):
                 Canvas(4, 4).draw_polygons(Polygons(corners, [4], [1]), *ends)
-        with self.assertRaisesRegex(TypeError, "ring_ends: integers, and not None"):
+        with self.assertRaisesRegex(TypeError, "ring_ends: expected integers, got None"):
             Canvas(4, 4).draw_polygons(corners)
         with self.assertRaises(AttributeError):
             trirast.Polygon  # type: ignore[attr-defined]

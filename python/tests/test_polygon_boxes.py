@@ -115,9 +115,9 @@ class Boxes(unittest.TestCase):
                     call(*arrays)
                 errors.append((str(caught.exception), caught.exception.name, caught.exception.element))
             self.assertEqual((errors[0], errors[0][1]), (errors[1], name))
-        with self.assertRaisesRegex(TypeError, "^corners: row 1, y: an integer in 1/256 pixel, and not 0.5"):
+        with self.assertRaisesRegex(TypeError, r"^corners\[1\].y: expected an integer in 1/256 pixel, got 0.5"):
             calls[0]([(0, 0), (1, 0.5)], [2], [1])
-        with self.assertRaisesRegex(ValueError, "^ring_ends: row 0, index 0: 0 to 4294967295, and not -1$"):
+        with self.assertRaisesRegex(ValueError, r"^ring_ends\[0\]: expected 0 to 4294967295, got -1$"):
             calls[0]([], [-1], [])
 
 
@@ -186,7 +186,7 @@ class Drawing(unittest.TestCase):
                 with self.assertRaises(BatchError) as caught:
                     canvas.draw_polygons(*arrays, boxes=boxes, first_id=first_id, threads=threads)
                 error = caught.exception
-                self.assertEqual(str(error), "there are fewer boxes than polygons: 2, and not 1")
+                self.assertEqual(str(error), "there are fewer boxes than polygons, got 1 for 2 polygons")
                 self.assertEqual((error.name, error.number, error.element), ("TooFewBoxes", 24, None))
         self.assertEqual(set(bytes_of(canvas.rgb())), {9})
         # More of them are none too few.
@@ -250,21 +250,21 @@ class Drawing(unittest.TestCase):
         canvas: Any = Canvas(4, 4)
         arrays = flat([[SQUARE]])
         cases: List[Tuple[Any, Type[Exception], str]] = [
-            (5, TypeError, "boxes: rows of 4 integers, and not 5"),
-            ([(0, 0, 512)], ValueError, "boxes: row 0: 4 values, and not 3"),
-            ([(0, 0, 512.5, 512)], TypeError, "boxes: row 0, right: an integer in 1/256 pixel, and not 512.5"),
+            (5, TypeError, "boxes: expected rows of 4 integers, got 5"),
+            ([(0, 0, 512)], ValueError, "boxes[0]: expected 4 values, got 3"),
+            ([(0, 0, 512.5, 512)], TypeError, "boxes[0].right: expected an integer in 1/256 pixel, got 512.5"),
             (
                 [(0, 0, 512, 1 << 31)], ValueError,
-                "boxes: row 0, bottom: -2147483648 to 2147483647, and not 2147483648",
+                "boxes[0].bottom: expected -2147483648 to 2147483647, got 2147483648",
             ),
         ]
         if NUMPY is not None:
             cases += [
-                (NUMPY.zeros((1, 4)), TypeError, "boxes: integers in 1/256 pixel, and not float64"),
-                (NUMPY.zeros((1, 3), int), ValueError, "boxes: rows of 4 integers, and not the shape (1, 3)"),
+                (NUMPY.zeros((1, 4)), TypeError, "boxes: expected integers in 1/256 pixel, got float64"),
+                (NUMPY.zeros((1, 3), int), ValueError, "boxes: expected rows of 4 integers, got the shape (1, 3)"),
                 (
                     NUMPY.ma.zeros((1, 4), int), TypeError,
-                    "boxes: an array without a mask, and not a masked one; use filled",
+                    "boxes: expected an array without a mask, got a masked one; use filled",
                 ),
             ]
         for given, kind, message in cases:

@@ -100,10 +100,10 @@ class Polygons(unittest.TestCase):
             ((rings, [0, *polygons]), "polygon_ends begins"),
         ):
             with self.assertRaisesRegex(
-                ValueError, f"^colors: 3 rows, and not 2; {names} with 0: leave the leading 0 of offsets out$"
+                ValueError, f"^colors: expected 3 rows, got 2; {names} with 0: leave the leading 0 of offsets out$"
             ):
                 canvas.draw_polygons(corners, *offsets, [(1, 2, 3), (4, 5, 6)])
-        with self.assertRaisesRegex(ValueError, "^colors: 2 rows, and not 3$"):
+        with self.assertRaisesRegex(ValueError, "^colors: expected 2 rows, got 3$"):
             canvas.draw_polygons(corners, rings, polygons, [(1, 2, 3)] * 3)
 
     def test_what_is_refused(self) -> None:
@@ -111,34 +111,34 @@ class Polygons(unittest.TestCase):
         canvas.clear()
         corners, rings, polygons = flat([[SQUARE], [SQUARE]])
         for ends, of_polygons, name, element, values in (
-            ([5, 4], polygons, "BadRing", 1, "it begins at 5 and ends at 4, and there are 8 corners"),
-            ([4, 9], polygons, "BadRing", 1, "it begins at 4 and ends at 9, and there are 8 corners"),
-            ([9, 9], polygons, "BadRing", 0, "it begins at 0 and ends at 9, and there are 8 corners"),
-            ([4, 7], polygons, "LeftOver", None, "the last ring ends at 7, and there are 8 corners"),
-            ([], [], "LeftOver", None, "the last ring ends at 0, and there are 8 corners"),
-            (rings, [2, 1], "BadPolygon", 1, "it begins at 2 and ends at 1, and there are 2 rings"),
-            (rings, [1, 1], "LeftOver", None, "the last polygon ends at 1, and there are 2 rings"),
+            ([5, 4], polygons, "BadRing", 1, "got 4 after 5, of 8 corners"),
+            ([4, 9], polygons, "BadRing", 1, "got 9 after 4, of 8 corners"),
+            ([9, 9], polygons, "BadRing", 0, "got 9 after 0, of 8 corners"),
+            ([4, 7], polygons, "LeftOver", None, "got 8 corners, and the last ring ends at 7"),
+            ([], [], "LeftOver", None, "got 8 corners, and the last ring ends at 0"),
+            (rings, [2, 1], "BadPolygon", 1, "got 1 after 2, of 2 rings"),
+            (rings, [1, 1], "LeftOver", None, "got 2 rings, and the last polygon ends at 1"),
         ):
-            with self.assertRaisesRegex(BatchError, f": {values}$") as caught:
+            with self.assertRaisesRegex(BatchError, f", {values}$") as caught:
                 canvas.draw_polygons(corners, ends, of_polygons)
             self.assertEqual((caught.exception.name, caught.exception.element), (name, element), (ends, of_polygons))
             self.assertNotIn("vertex", str(caught.exception))
         with self.assertRaises(BatchError) as caught:
             canvas.draw_polygons([(0, 0), (256, 0), (0, 1 << 23)], [3], [1])
         place, wanted = (
-            "x 0 and y 8388608 in 1/256 pixel (0 and 32768 pixels)",
+            "got x 0 and y 8388608 in 1/256 pixel (0 and 32768 pixels)",
             "y: -8388608 to 8388607 (-32768 to 32767.99609375 pixels)",
         )
-        self.assertEqual(str(caught.exception), f"vertex 2 is out of range: {place}; {wanted}")
+        self.assertEqual(str(caught.exception), f"vertex 2 is out of range, {place}; {wanted}")
         with self.assertRaises(ValueError):
             canvas.draw_polygons(corners, rings, polygons, [(1, 2, 3)])
         with self.assertRaises(ValueError):
             canvas.draw_polygons(corners, rings, polygons, rule="winding")  # type: ignore[arg-type]
         with self.assertRaisesRegex(
-            BatchError, "^an id is greater than 16777215: the first is 16777216, and there are 2$"
+            BatchError, "^an id is greater than 16777215, got 16777216 as the first of 2$"
         ):
             canvas.draw_polygons(corners, rings, polygons, first_id=1 << 24)
-        with self.assertRaisesRegex(PositionError, "^origin: -32768 to 28672 pixels, and not 40000$"):
+        with self.assertRaisesRegex(PositionError, "^origin: expected -32768 to 28672 pixels, got 40000$"):
             Canvas(4, 4, origin=(40000, 0)).draw_polygons(corners, rings, polygons)
         self.assertEqual(set(canvas.rgb().tobytes()), {0})
 

@@ -8,6 +8,7 @@ import random
 import signal
 import subprocess
 import sys
+import tempfile
 import unittest
 from typing import Any, Dict, List
 from unittest import mock
@@ -19,12 +20,12 @@ import numpy as np
 
 import trirast
 from trirast import poster
-from trirast._version import VERSION
+from trirast._ffi import library
 from trirast.poster import _dask, _local_workers
 from trirast.poster._index import Index
 from trirast.poster._local_workers import LocalWorkers
 from trirast.poster._part import part_of
-from trirast.poster._window_pixels import sent_pixels, window_pixels
+from trirast.poster._window_pixels import releases, sent_pixels, window_pixels
 from trirast.poster._windows import Windows
 
 from .common import PYTHON, SECONDS
@@ -114,9 +115,57 @@ class Workers(Files):
 
     def test_a_worker_has_the_same_release(self) -> None:
         part = self.part()
-        self.assertTrue(np.array_equal(sent_pixels(part, VERSION), window_pixels(part)))
-        with self.assertRaises(poster.EngineMissingError):
-            sent_pixels(part, "0.0.0")
+        self.assertTrue(np.array_equal(sent_pixels(part, releases()), window_pixels(part)))
+        library_version = library().trirast_version_string().decode()
+        for other in ("0.0.0", releases().replace(f"library {library_version}", "library 0.0.0")):
+            with self.assertRaisesRegex(poster.EngineMissingError, f"expected {other}, got {releases()}"):
+                sent_pixels(part, other)
+
+    def test_what_a_worker_lacks_is_named(self) -> None:
+        """An error of the worker's own is not taken for one of this process or of the scheduler."""
+        distributed, future = mock.MagicMock(), mock.Mock(status="error")
+        distributed.scheduler.KilledWorker = distributed.TimeoutError = ZeroDivisionError
+        sheet = poster.Sheet(300, 200)
+        window, blank = next(Windows(sheet, 128).in_row(0)), sheet.blank(0, 0)
+        for error, wanted in (
+            (OSError("libtrirast.so.1"), "worker: .*, got OSError: libtrirast.so.1; install it"),
+            (ModuleNotFoundError("trirast"), "worker: .*, got ModuleNotFoundError: trirast; install it"),
+            (poster.EngineMissingError("a worker: other"), "^a worker: other$"),
+        ):
+            sending = _dask.Sending(distributed, mock.Mock(), mock.Mock(), None)
+            sending._under_way.append(_dask.Sent(window, future, 1, blank))
+            with mock.patch.object(sending, "_wait", side_effect=error):
+                with self.assertRaisesRegex(poster.EngineMissingError, wanted):
+                    sending._first()
+
+    def test_errors_without_a_text_have_their_class(self) -> None:
+        self.assertEqual(_dask.reason(TimeoutError()), "TimeoutError")
+        self.assertEqual(str(_dask.lost(OSError("no route"))), "scheduler: expected an answer, got OSError: no route")
+
+    def test_a_silent_worker_loses_its_windows_before_the_run_gives_up(self) -> None:
+        """After as long as a scheduler of another machine waits, there is time to draw them elsewhere."""
+        self.assertEqual(_dask.settings("local")["distributed.scheduler.worker-ttl"], "60s")
+        self.assertNotIn("distributed.scheduler.worker-ttl", _dask.settings("tcp://host:8786"))
+        self.assertGreaterEqual(_dask.WITHOUT_WINDOW, 3 * 300)
+
+    def test_folders_of_killed_runs_are_removed(self) -> None:
+        """Those of runs that live stay, and so does what bears such a name and is no folder."""
+        named = self.path(_local_workers.NAMED)
+        os.makedirs(self.path("elsewhere/content"))
+        os.makedirs(f"{named}left/dask-worker-space")
+        os.symlink(self.path("elsewhere"), f"{named}link")
+        with open(f"{named}file", "w", encoding="ascii"):
+            pass
+        with mock.patch.object(tempfile, "tempdir", self.path("")), _local_workers.own_folder() as other:
+            os.mkdir(os.path.join(other, "content"))
+            with _local_workers.local_workers(1):
+                self.assertFalse(os.path.exists(f"{named}left"))
+                kept = sorted(name for name in os.listdir(self.path("")) if name.startswith(_local_workers.NAMED))
+                self.assertEqual(len(kept), 4, kept)
+            self.assertEqual(os.listdir(other), ["content"])
+        left = {name.replace(_local_workers.NAMED, "") for name in os.listdir(self.path(""))}
+        self.assertEqual(left, {"elsewhere", "file", "link"})
+        self.assertTrue(os.path.exists(self.path("elsewhere/content")))
 
     def test_a_part_that_does_not_fit_is_not_drawn(self) -> None:
         part = self.part()
@@ -148,7 +197,7 @@ class Values(Files):
 
     def test_numbers_of_samples_are_integers(self) -> None:
         for samples in ([4], {}, "4", 4.0):
-            with self.assertRaisesRegex(TypeError, "samples: an integer, and not "):
+            with self.assertRaisesRegex(TypeError, "samples: expected an integer, got "):
                 poster.draw_poster(random_scene(1), self.path("a.ppm"), samples=samples)  # type: ignore[arg-type]
 
     def test_memory_of_three_dimensions(self) -> None:

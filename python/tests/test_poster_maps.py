@@ -37,20 +37,21 @@ def scene(folder: Any, value: Any, style: Any) -> poster.Scene:
     "value, style, text",
     [
         # Nothing would be seen.
-        (collection(), {}, "no feature has a polygon"),
-        (collection(feature(None), feature(polygon())), {}, "no feature has a polygon"),
+        (collection(), {}, "expected a feature with a polygon, got none"),
+        (collection(feature(None), feature(polygon())), {}, "expected a feature with a polygon, got none"),
         (
             feature(polygon(SQUARE)), {"window": [3, 0, 9, 3]},
-            r"no feature meets .* longitudes are 0 to 3, .* are these degrees",
+            r"expected a feature in the style.* longitudes are 0 to 3, .* are these degrees",
         ),
-        (feature(polygon(box(0, 86, 3, 88))), {"projection": "web mercator"}, "no feature meets .* latitudes 86 to 88"),
+        (feature(polygon(box(0, 86, 3, 88))), {"projection": "web mercator"},
+         "expected a feature in the style.* latitudes 86 to 88"),
         (
             feature(polygon(box(334000, 4865942, 668000, 5621521))), {},
             "feature 0 .* 334000 to 668000, .* 4865942 to 5621521: are these degrees.* \"plane\"$",
         ),
         (
             feature(polygon(box(49, 5, 52, 11))), {"window": [5, 48, 11, 53]},
-            "no feature meets .* 5 to 11: GeoJSON has the longitude first",
+            "expected a feature in the style.* 5 to 11: GeoJSON has the longitude first",
         ),
         (
             feature(polygon(SQUARE)), {"projection": "plane", "window": [3, 0, 9, 3]},
@@ -58,46 +59,47 @@ def scene(folder: Any, value: Any, style: Any) -> poster.Scene:
         ),
         (
             feature(polygon([*SQUARE, [2e15, 0]])), {"projection": "plane"},
-            r"x and y of -1e\+15 to 1e\+15, and not \[2000000000000000.0, 0.0\]",
+            r"x and y of -1e\+15 to 1e\+15, got \[2000000000000000.0, 0.0\]",
         ),
         (
             feature(polygon(SQUARE)), {"projection": "EPSG:3035"},
-            "plate carree, web mercator, plane, and not 'EPSG:3035'; .* is a plane",
+            "plate carree, web mercator, plane, got 'EPSG:3035'; .* is a plane",
         ),
-        (feature(polygon(SQUARE)), {"window": "all"}, "in degrees, or 'data', and not 'all'"),
+        (feature(polygon(SQUARE)), {"window": "all"}, "in degrees, or 'data', got 'all'"),
         # No value has a colour.
         (
             feature(polygon(SQUARE), a=7), {"property": "a", "steps": STEPS},
-            r"a number from the first step, 10, on as 'a', but 7 \(number\)$",
+            r"steps: expected 'a' of at least 10 in .*, got 7 \(number\)$",
         ),
-        (feature(polygon(SQUARE), a=7), {"property": "a", "steps": []}, r"steps: one step or more"),
+        (feature(polygon(SQUARE), a=7), {"property": "a", "steps": []}, r"steps: expected one step or more"),
         (
             feature(polygon(SQUARE), a="12.5"), {"property": "a", "steps": STEPS},
-            r"steps: no feature .* a number as 'a', but '12.5' \(string\)$",
+            r"steps: expected a number as 'a' of .*, got '12.5' \(string\)$",
         ),
-        (feature(polygon(SQUARE), a=None), {"property": "a", "steps": STEPS}, r"but None \(null\)$"),
+        (feature(polygon(SQUARE), a=None), {"property": "a", "steps": STEPS}, r"got None \(null\)$"),
         (
             feature(polygon(SQUARE), a="Wood"), {"property": "a", "colors": {"wood": "#000000"}},
-            r"one of \['wood'\] as 'a', but 'Wood' \(string\)$",
+            r"one of \['wood'\] as 'a' of .*, got 'Wood' \(string\)$",
         ),
-        (feature(polygon(SQUARE), a=7), {"property": "a", "colors": {}}, r"one of \[\] as 'a', but 7 \(number\)$"),
+        (feature(polygon(SQUARE), a=7), {"property": "a", "colors": {}},
+         r"one of \[\] as 'a' of .*, got 7 \(number\)$"),
         (
             collection(*(feature(polygon(SQUARE), a=value) for value in (True, [1], {}, True, 2, 3))),
             {"property": "a", "colors": {"b": "#000000"}},
-            r"but True \(boolean\), \[1\] \(array\), \{\} \(object\), 2 \(number\), \.\.$",
+            r"got True \(boolean\), \[1\] \(array\), \{\} \(object\), 2 \(number\), \.\.$",
         ),
         # Rings.
         (
             collection(feature(None), feature(polygon(SQUARE, [[1, 1], [2, 2]]))), {},
-            r"feature 1 \(counted from 0\), polygon 0, ring 1: 3 different positions",
+            r"feature 1 \(counted from 0\), polygon 0, ring 1: expected 3 different positions",
         ),
         (
             feature(polygon([[1, 1], [2, 2], [1, 1], [2, 2], [1, 1]])), {},
-            r"feature 0 \(counted from 0\), polygon 0, ring 0: 3 different",
+            r"feature 0 \(counted from 0\), polygon 0, ring 0: expected 3 different",
         ),
         (
             feature({"type": "MultiPolygon", "coordinates": [[SQUARE], [[]]]}), {},
-            r"feature 0 \(counted from 0\), polygon 1, ring 0: 3 different",
+            r"feature 0 \(counted from 0\), polygon 1, ring 0: expected 3 different",
         ),
         (
             {"type": "GeometryCollection", "geometries": [polygon(SQUARE), polygon([[1, 1]])]}, {},
@@ -105,63 +107,65 @@ def scene(folder: Any, value: Any, style: Any) -> poster.Scene:
         ),
         (
             {"type": "MultiPolygon", "coordinates": [SQUARE]}, {},
-            r"not \[0, 0\]; a MultiPolygon has .*: one level of brackets is missing$",
+            r"got \[0, 0\]; a MultiPolygon has .*: one level of brackets is missing$",
         ),
         (
             {"type": "Polygon", "coordinates": SQUARE}, {},
-            r"not \[0, 0\]; a Polygon has rings of positions: one level of brackets is missing$",
+            r"got \[0, 0\]; a Polygon has rings of positions: one level of brackets is missing$",
         ),
         (
             {"type": "Polygon", "coordinates": [[SQUARE]]}, {},
             r"a Polygon has rings of positions: there is one level of brackets too many$",
         ),
-        ({"type": "Polygon", "coordinates": [7]}, {}, "a longitude and a latitude, and not 7; .* is missing$"),
-        ({"type": "Polygon", "coordinates": [[[]]]}, {}, r"a longitude and a latitude, and not \[\]$"),
-        (polygon([*SQUARE, [13.7], [1]]), {}, r"polygon 0, ring 0: positions of .*, and not \[13.7\]$"),
-        (polygon([*SQUARE, ["x", 5]]), {}, r"polygon 0, ring 0: positions of .*, and not \['x', 5\]$"),
-        ({**feature(polygon([*SQUARE, [1, 91]])), "id": 7}, {}, r"feature 0 \(counted from 0, id 7\): a longitude"),
+        ({"type": "Polygon", "coordinates": [7]}, {}, "a longitude and a latitude, got 7; .* is missing$"),
+        ({"type": "Polygon", "coordinates": [[[]]]}, {}, r"a longitude and a latitude, got \[\]$"),
+        (polygon([*SQUARE, [13.7], [1]]), {}, r"polygon 0, ring 0: expected positions of .*, got \[13.7\]$"),
+        (polygon([*SQUARE, ["x", 5]]), {}, r"polygon 0, ring 0: expected positions of .*, got \['x', 5\]$"),
+        ({**feature(polygon([*SQUARE, [1, 92]])), "id": 7}, {},
+         r"feature 0 \(counted from 0, id 7\): expected a longitude"),
         ({**feature(polygon([[1, 1]])), "id": "DE"}, {}, r"feature 0 \(counted from 0, id 'DE'\), polygon 0"),
-        (polygon([*SQUARE, [True, 2]]), {}, r"polygon 0, ring 0: positions of .*, and not \[True, 2\]$"),
-        (polygon([[False, False], [True, False], [True, True]]), {}, r"positions of .*, and not \[False, False\]$"),
-        (polygon([*SQUARE, {"x": 1}]), {}, r"positions of .*, and not \{'x': 1\}$"),
-        (polygon([*SQUARE, [HUGE, 2]]), {}, r"positions of .*, and not \[10{70,}\.\.\.$"),
+        (polygon([*SQUARE, [True, 2]]), {}, r"polygon 0, ring 0: expected positions of .*, got \[True, 2\]$"),
+        (polygon([[False, False], [True, False], [True, True]]), {}, r"positions of .*, got \[False, False\]$"),
+        (polygon([*SQUARE, {"x": 1}]), {}, r"positions of .*, got \{'x': 1\}$"),
+        (polygon([*SQUARE, [HUGE, 2]]), {}, r"positions of .*, got \[10{70,}\.\.\.$"),
         # Places.
         (
             collection(feature(polygon(SQUARE)), feature(None), feature(polygon([*SQUARE, [5, 95]]))), {},
-            r"feature 2 .* not \[5.0, 95.0\]; .*: GeoJSON has the longitude first",
+            r"feature 2 .* got \[5.0, 95.0\]; .*: GeoJSON has the longitude first",
         ),
-        (collection(feature(None), feature(polygon([*SQUARE, [361, 5]]))), {}, r"feature 1 .* not \[361.0, 5.0\]"),
+        (collection(feature(None), feature(polygon([*SQUARE, [361, 5]]))), {}, r"feature 1 .* got \[361.0, 5.0\]"),
         (
             feature(polygon([*SQUARE, [float("nan"), 5]])), {},
-            r"feature 0 .*: positions of finite numbers, and not \[nan, 5.0\]$",
+            r"feature 0 .*: expected positions of finite numbers, got \[nan, 5.0\]$",
         ),
         (
             feature(polygon([*SQUARE, [5, float("inf")]])), {},
-            r"feature 0 .*: positions of finite numbers, and not \[5.0, inf\]$",
+            r"feature 0 .*: expected positions of finite numbers, got \[5.0, inf\]$",
         ),
         # What is no GeoJSON, and styles.
-        ([1, 2, 3], {}, r"a FeatureCollection, a Feature or a geometry, .* not \[1, 2, 3\]"),
-        ({"type": "Topology", "arcs": [], "objects": {}}, {}, "TopoJSON: convert it"),
+        ([1, 2, 3], {}, r"a FeatureCollection, a Feature or a geometry, .* got \[1, 2, 3\]"),
+        ({"type": "Topology", "arcs": [], "objects": {}}, {}, "expected GeoJSON, got TopoJSON; convert it"),
         (
             feature(polygon(SQUARE), a=7), {"property": "a", "colors": {"7": "#000000"}, "steps": STEPS},
-            "colors or steps, and not both",
+            "expected colors or steps, got both",
         ),
         (
             feature(polygon(SQUARE), a=7), {"property": "a", "steps": [[5, "#000000"], [3, "#000000"]]},
-            r"numbers that rise, and not \[5, 3\]",
+            r"numbers that rise, got \[5, 3\]",
         ),
-        (feature(polygon(SQUARE)), {"projection": []}, r"projection: plate carree, .*, and not \[\]"),
-        (feature(polygon(SQUARE)), {"projection": {}}, r"projection: plate carree, .*, and not \{\}"),
-        (feature(polygon(SQUARE)), {"color": "#11 22 33"}, "color: a colour as #rrggbb, .*, and not '#11 22 33'$"),
-        (feature(polygon(SQUARE)), {"background": "# 1 2 3 4"}, "background: a colour as #rrggbb, .*, and not "),
-        (feature(polygon(SQUARE)), {"color": "#1122330\n"}, "color: a colour as #rrggbb, .*, and not "),
-        (feature(polygon(SQUARE)), {"opacity": HUGE}, "opacity: 0 to 1, and not 10{70,}"),
-        (feature(polygon(SQUARE)), {"window": [0, 0, HUGE, 3]}, "window: west, south, east and north"),
+        (feature(polygon(SQUARE)), {"projection": []}, r"projection: expected plate carree, .*, got \[\]"),
+        (feature(polygon(SQUARE)), {"projection": {}}, r"projection: expected plate carree, .*, got \{\}"),
+        (feature(polygon(SQUARE)), {"color": "#11 22 33"}, "color: expected a colour as #rrggbb, .*, got '#11 22 33'$"),
+        (feature(polygon(SQUARE)), {"background": "# 1 2 3 4"}, "background: expected a colour as #rrggbb, .*, got "),
+        (feature(polygon(SQUARE)), {"color": "#1122330\n"}, "color: expected a colour as #rrggbb, .*, got "),
+        (feature(polygon(SQUARE)), {"opacity": HUGE}, "opacity: expected 0 to 1, got 10{70,}"),
+        (feature(polygon(SQUARE)), {"window": [0, 0, HUGE, 3]}, "window: expected west, south, east and north"),
         (
             feature(polygon(SQUARE), a=7), {"property": "a", "steps": [[HUGE, "#000000"]]},
-            r"steps: pairs of a number and a colour, and not \[10{70,}",
+            r"steps: expected pairs of a number and a colour, got \[10{70,}",
         ),
-        (feature(polygon(SQUARE), a=HUGE), {"property": "a", "steps": STEPS}, "no feature of .* has a number as 'a'"),
+        (feature(polygon(SQUARE), a=HUGE), {"property": "a", "steps": STEPS},
+         "steps: expected a number as 'a' of .*, got 10"),
     ],
 )
 def test_a_slip_is_an_error(tmp_path: Any, value: Any, style: Any, text: str) -> None:
@@ -176,7 +180,7 @@ def test_a_position_that_cannot_be_cut_is_an_error() -> None:
         def __getitem__(self, key: Any) -> Any:
             raise KeyError(key)
 
-    with pytest.raises(poster.MapError, match="positions of a longitude and a latitude, and not {'x': 1}"):
+    with pytest.raises(poster.MapError, match="positions of a longitude and a latitude, got {'x': 1}"):
         _geojson.ring_of([*SQUARE, Object(x=1)], "here", "")
 
 
@@ -185,9 +189,9 @@ def test_a_map_whose_name_ends_in_json_needs_a_style(tmp_path: Any) -> None:
     for name, value in files.items():
         (tmp_path / name).write_text(json.dumps(value))
     assert poster.scene_of(tmp_path / "map.json", tmp_path / "style.json").polygons.count == 1
-    with pytest.raises(poster.MapError, match="map.json: it looks like GeoJSON, and is no draw list"):
+    with pytest.raises(poster.MapError, match="map.json: expected a draw list, got what looks like GeoJSON"):
         poster.scene_of(tmp_path / "map.json")
-    with pytest.raises(poster.MapError, match="a style is for GeoJSON.*, and not for .*map.npz"):
+    with pytest.raises(poster.MapError, match="style: expected a map whose name ends in .*, got .*map.npz"):
         poster.scene_of(tmp_path / "map.npz", tmp_path / "style.json")
 
 
@@ -276,19 +280,10 @@ def test_a_plane_has_any_units(tmp_path: Any) -> None:
     assert (found.polygons.corners[5:].min(), found.polygons.corners[5:].max()) == (-256 * 64, 256 * 164)
 
 
-def test_a_feature_a_line(tmp_path: Any) -> None:
-    path = tmp_path / "lines.geojson"
-    path.write_text(2 * (json.dumps(feature(polygon(SQUARE))) + "\n"), "ascii")
-    with pytest.raises(
-        poster.MapError, match="Extra data: line 2 .*, as one feature a line, make one FeatureCollection"
-    ):
-        poster.scene_of(path)
-
-
 def test_a_window_of_a_map_is_no_side(capsys: Any) -> None:
     with pytest.raises(SystemExit):
         _command.main(["a.geojson", "-o", "a.png", "--window", "4,40,24,55"])
     assert (
-        "pixels of a window's side, as 512, and not '4,40,24,55'; a map's window is a key of its style"
+        "expected the pixels of a side, as 512, got '4,40,24,55'; a map's window is a key of its style"
         in capsys.readouterr().err
     )

@@ -188,7 +188,7 @@ class Scenes(Files):
         mine = scene_of(vertices, triangles, copy=False)
         for wrong in (3, -1, 0x7fffffff):
             triangles[0, 1] = wrong
-            with self.assertRaisesRegex(poster.ArraysError, "an index"):
+            with self.assertRaisesRegex(poster.ArraysError, "triangles: expected 0 to "):
                 _part.part_of(mine, index, windows.span(0, 0, 1))
 
     def test_other_samples_of_the_same_arrays(self) -> None:

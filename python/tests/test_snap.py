@@ -102,45 +102,45 @@ class Refused(unittest.TestCase):
     def test_positions_outside_of_the_guard_band(self) -> None:
         pairs = [[0.0, 0.0], [0.0, 32768.0]]
         for xy in (pairs, np.array(pairs), np.array(pairs, np.float32), np.array(pairs, int), np.array(pairs, object)):
-            self.must_say(ValueError, f"xy: row 1, y: {BAND}, and not 32768.0", xy)
-        self.must_say(ValueError, f"xy: row 0, x: {BAND}, and not -32768.01", [[-32768.01, 0.0]])
+            self.must_say(ValueError, f"xy[1].y: expected {BAND}, got 32768.0", xy)
+        self.must_say(ValueError, f"xy[0].x: expected {BAND}, got -32768.01", [[-32768.01, 0.0]])
         self.must_say(
-            ValueError, f"xy: row 1, x: {BAND}, and not 20000.0 by the scale 2.0", [[0.0, 1.0], [20000.0, 1.0]], 2
+            ValueError, f"xy[1].x: expected {BAND}, got 20000.0 by the scale 2.0", [[0.0, 1.0], [20000.0, 1.0]], 2
         )
         self.assertEqual(trirast.snap([[-32768.001, 32767.998]]).tolist(), [[LOW, HIGH]])
         for xy in ([[1e308, 0.0]], np.array([[1e308, 0.0]])):
-            self.must_say(ValueError, f"xy: row 0, x: {BAND}, and not 1e+308 by the scale 1e+30", xy, 1e30)
+            self.must_say(ValueError, f"xy[0].x: expected {BAND}, got 1e+308 by the scale 1e+30", xy, 1e30)
 
     def test_what_is_not_finite(self) -> None:
         for value, name in ((math.nan, "nan"), (math.inf, "inf"), (-math.inf, "-inf")):
             for xy in ([[0.0, value]], np.array([[0.0, value]]), np.array([[0.0, value]], np.float32)):
-                self.must_say(ValueError, f"xy: row 0, y: a finite float, and not {name}", xy)
-            self.must_say(ValueError, f"scale: a finite float, and not {name}", [], value)
-        with self.assertRaisesRegex(ValueError, "^xy: row 0, x: a finite float, and not 1000"):
+                self.must_say(ValueError, f"xy[0].y: expected a finite float, got {name}", xy)
+            self.must_say(ValueError, f"scale: expected a finite float, got {name}", [], value)
+        with self.assertRaisesRegex(ValueError, r"^xy\[0\].x: expected a finite float, got 1000"):
             trirast.snap([[10 ** 400, 0]])
 
     def test_what_is_no_number(self) -> None:
-        self.must_say(TypeError, "xy: row 0, x: a real number, and not '1'", [["1", 2]])
-        self.must_say(TypeError, "xy: row 0, x: a real number, and not '1'", np.array([["1", "2"]]).tolist())
-        self.must_say(TypeError, "xy: row 0, y: a real number, and not None", [[1, None]])
+        self.must_say(TypeError, "xy[0].x: expected a real number, got '1'", [["1", 2]])
+        self.must_say(TypeError, "xy[0].x: expected a real number, got '1'", np.array([["1", "2"]]).tolist())
+        self.must_say(TypeError, "xy[0].y: expected a real number, got None", [[1, None]])
         for of_complex in ([[1j, 2]], np.array([[1j, 2]]), np.array([[1j, 2]]).tolist()):
-            self.must_say(TypeError, "xy: row 0, x: a real number, and not 1j", of_complex)
-        self.must_say(TypeError, "scale: a real number, and not '2'", [], "2")
+            self.must_say(TypeError, "xy[0].x: expected a real number, got 1j", of_complex)
+        self.must_say(TypeError, "scale: expected a real number, got '2'", [], "2")
         masked: Any = np.ma
-        message = "xy: an array without a mask, and not a masked one; use filled"
+        message = "xy: expected an array without a mask, got a masked one; use filled"
         self.must_say(TypeError, message, masked.array([[1.0, 2.0]]))
 
     def test_other_shapes(self) -> None:
-        self.must_say(TypeError, "xy: rows of x and y, and not 5", 5)
-        self.must_say(ValueError, "xy: row 1: 2 values, and not 3", [(1, 2), (1, 2, 3)])
+        self.must_say(TypeError, "xy: expected rows of x and y, got 5", 5)
+        self.must_say(ValueError, "xy[1]: expected 2 values, got 3", [(1, 2), (1, 2, 3)])
         for shape in ((2,), (2, 3), (1, 2, 2), ()):
-            self.must_say(ValueError, f"xy: rows of x and y, and not the shape {shape}", np.zeros(shape))
+            self.must_say(ValueError, f"xy: expected rows of x and y, got the shape {shape}", np.zeros(shape))
 
     def test_without_numpy_buffers_too(self) -> None:
         pairs = memoryview(bytearray(np.array([[1.5, 2], [3, 4]]).tobytes())).cast("d", shape=[2, 2])
         with without("numpy"):
             self.assertEqual(trirast.snap(pairs), [(384, 512), (768, 1024)])
-            self.must_say(TypeError, "xy: rows of x and y, and not None", None)
+            self.must_say(TypeError, "xy: expected rows of x and y, got None", None)
 
 
 if __name__ == "__main__":

@@ -318,7 +318,7 @@ class Errors(unittest.TestCase):
             except trirast.TileSizeError as error:
                 kept = error
             out.append(1)
-            self.assertEqual(str(kept), "tile_size: 8, 16, 32 or 64 pixels, and not 9")
+            self.assertEqual(str(kept), "tile_size: expected 8, 16, 32 or 64 pixels, got 9")
 
     def test_are_those_of_the_first_part(self) -> None:
         def part(number: int) -> None:
@@ -435,7 +435,7 @@ class Starting(unittest.TestCase):
                 calling.start()
                 calling.join()
         """)
-        printed = b"a thread has 65536 bytes of stack, and none can be started that has the 1048576 it takes\n"
+        printed = b"stack: expected 1048576 bytes, or a thread that has them, got 65536 and no thread\n"
         self.assertEqual((done.returncode, done.stdout, done.stderr), (0, printed, b""))
 
     def test_have_left_python_before_a_program_ends(self) -> None:

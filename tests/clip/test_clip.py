@@ -25,7 +25,7 @@ from tests.library.arm64 import COMPILER as ARM64, QEMU
 from tests.library.commands import PACKAGE_ENVIRONMENT, WARNINGS, need, python_with, run
 from tests.library.sanitized import SANITIZERS
 from tests.mutants import Mutant
-from tools.places import INCLUDE, STATIC_LIBRARY, TOP
+from tools.places import EXAMPLES, INCLUDE, STATIC_LIBRARY, TOP
 
 SEEDS, LONG_SEEDS, MUTANT_SEEDS, SANITIZED_SEEDS = 40, 400, 4, 4
 # The processors of the level that the library asks for, and those with a product that is fused with a sum.
@@ -153,30 +153,27 @@ def check_python() -> str:
     return f"{len(found)} bytes"
 
 
-# ---- The page and its example
+# ---- The page and the examples
 
 PAGE = os.path.join("docs", "clipping.md")
 COMPILERS = {"c": ("gcc", "-std=c99"), "cpp": ("g++", "-std=c++17")}
 
 
-def drawn_by_the_page(language: str) -> bytes:
-    """The pixels that the page's program in a language writes."""
-    (text,) = re.findall(rf"```{language}\n(.*?)```", places.text_of(PAGE), re.DOTALL)
+def floor_in(language: str) -> bytes:
+    """The pixels of the floor that the page's program in Python or the example in C or C++ writes."""
     if language == "python":
+        (text,) = re.findall(r"```python\n(.*?)```", places.text_of(PAGE), re.DOTALL)
         return run([python_with("numpy"), "-c", text], env=PACKAGE_ENVIRONMENT)
-    program, source = os.path.join(OUT, f"page-{language}"), os.path.join(OUT, f"page.{language}")
-    with open(source, "w", encoding="ascii") as file:
-        file.write(text)
+    program, source = os.path.join(OUT, f"floor-{language}"), os.path.join(EXAMPLES, language, f"floor.{language}")
     compiler, standard = COMPILERS[language]
     run([need(compiler), standard, *WARNINGS, "-I", INCLUDE, source, STATIC_LIBRARY, "-o", program, "-lm"])
     return run([program])
 
 
-def check_page(language: str) -> None:
-    """The program of the page in a language draws the picture of that in C++: sky above, and a floor
-    without a gap below."""
-    pixels = drawn_by_the_page("cpp")
-    must(drawn_by_the_page(language) == pixels, "another picture")
+def check_floor(language: str) -> None:
+    """The floor in a language is the picture of that in C++: sky above, and a floor without a gap below."""
+    pixels = floor_in("cpp")
+    must(floor_in(language) == pixels, "another picture")
     row, sky = 3 * 320, bytes((24, 24, 32))
     must(
         pixels[:row] == 320 * sky and all(pixels[k + 1 : k + 3] != sky[1:] for k in range(179 * row, 180 * row, 3)),
@@ -220,7 +217,7 @@ CASES = [
     case("standards of C and C++", check_standards),
     case("fast-math is refused", check_fast_math),
     case("the same bytes: Python", check_python),
-    *(case(f"the program of the page in {language}", check_page, language) for language in ("c", "python")),
+    *(case(f"the floor in {language}", check_floor, language) for language in ("c", "python")),
     case("the example", check_example),
     *mutants.cases(mutants.listed("tests", "clip", "mutants.edits"), found_by),
 ]

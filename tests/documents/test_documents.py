@@ -1,4 +1,4 @@
-"""Tests that what the documents name is there: files, definitions, commands, and the calls and clauses of proofs.md.
+"""Tests that what the documents name is there: files, definitions, commands, and the calls and clauses of the promises.
 Also that each public definition of specs/ has a sentence of its own, above it and in its crate's Lib.antt.
 
     python3 -m pytest tests/documents/test_documents.py
@@ -16,9 +16,9 @@ from unittest import mock
 from tools import definitions as lines, places
 from tests.reference import canvas_mutants, mutants, renderer, sample_patterns
 from tools.ci import checks
-from tools.markdown import anchor, rows, with_table
+from tools.markdown import anchor, rows
 from tools.places import TOP, text_of
-from tools.sources import layers
+from tools.sources import contracts as contracts_of_crates, layers, promises
 from tools.sources.rattle import definitions_in, functions_in
 from tools.sources.public_calls import CRATES, calls_in, calls_of, given_out, named_calls, public_calls
 
@@ -164,10 +164,9 @@ class Names(unittest.TestCase):
         self.assertLessEqual({"serde_json", "clap"}, layers.reached("trirast_cli"))
 
     def test_number_of_mutants(self) -> None:
-        self.assertIn(f"that {len(mutants.MUTANTS)} wrong rules", text_of("docs/tested.md"))
-        self.assertIn(
-            f"finds {len(canvas_mutants.EVERY)} wrong rules", text_of("docs/tested.md")
-        )
+        page = " ".join(text_of("docs/proofs.md").split())
+        self.assertIn(f"each of {len(mutants.MUTANTS)} mutants of the reference renderer", page)
+        self.assertIn(f"its canvases each of {len(canvas_mutants.EVERY)},", page)
 
     def test_sample_patterns(self) -> None:
         table = text_of("docs/rules.md").split("## Sample positions")[1].split("\n\n")[2]
@@ -180,17 +179,14 @@ class Names(unittest.TestCase):
 
 
 class Proofs(unittest.TestCase):
-    """The right cells of the tables of promises: calls, and behind a colon the names of their clauses or of
-    a record's parts."""
+    """What carries each promise: calls, and behind a colon the names of their clauses or of a record's parts."""
 
     def test_calls_and_clauses(self) -> None:
         known = {**parts(), **contracts()}
         types = set(re.findall(r"\b(?:struct|enum|trait) (\w+)", "".join(sources("src/**/*.rt").values())))
         types |= parts().keys()
         clauses: set[str | None] = set()
-        for *_promise, carriers in rows(
-            text_of("docs/proofs.md").split("## Every promise")[1].split("## What no public clause says")[0]
-        ):
+        for _words, carriers in promises.promises():
             carriers = re.sub(r"\(.*?\)", "", carriers)
             words = [word.split("::")[-1] for word in re.findall(r"`([\w:]+)`", carriers)]
             # "The same" calls are those of the row above.
@@ -207,10 +203,12 @@ class Proofs(unittest.TestCase):
 
     def test_every_public_call_is_named(self) -> None:
         public = public_calls()
-        promises, tested = text_of("docs/proofs.md"), text_of("docs/tested.md")
-        cells = [cell for *_promise, cell in rows(promises)] + [cell for cell, *_tests in rows(tested)]
-        named = set().union(*(named_calls(cell, public) for cell in cells))
-        self.assertEqual(sorted(public - named), [])
+        named = set().union(*(named_calls(carriers, public) for _words, carriers in promises.promises()))
+        tested = text_of("docs/proofs.md").split("## What is only tested")[1].split("\n## ")[0]
+        self.assertEqual(sorted(public - named - set(re.findall(r"`([\w:]+)`", tested))), [])
+
+    def test_the_page_of_promises_is_written(self) -> None:
+        self.assertEqual(text_of(promises.PAGE), promises.page(), "run python3 -m tools.sources.promises")
 
     def test_public_calls_are_read_of_sources(self) -> None:
         root = "pub use a::Shape;\npub use b::{\n    draw,\n    Job,\n};\nmod c;\npub fn version() {}\n"
@@ -256,15 +254,16 @@ pub extern "C" fn version() {}
             self.assertEqual(named_calls(cell, public), named, cell)
 
     def test_each_crate_has_its_contract(self) -> None:
-        table = text_of("docs/crates.md").split("## The contract of each crate")[1].split("\n\n")[2]
-        self.assertEqual([crate.strip("`") for crate, _contract in list(rows(table))[1:]], layers.product())
+        self.assertEqual(list(contracts_of_crates.lines(contracts_of_crates.CONTRACT)), layers.product())
+        self.assertEqual(
+            text_of(contracts_of_crates.PAGE), contracts_of_crates.page(), "run python3 -m tools.sources.contracts"
+        )
 
     def test_what_crates_rely_on(self) -> None:
-        table = text_of("docs/crates.md").split("## What each crate relies on")[1].split("\n\n")[2]
-        relying = [(crate.strip("`"), cell) for crate, cell in list(rows(table))[1:]]
+        relying = contracts_of_crates.lines(contracts_of_crates.RELIES_ON)
         uses = {one.name: one.uses for layer in layers.layers() for one in layer.crates}
-        self.assertEqual([crate for crate, _cell in relying], [crate for crate in layers.product() if uses[crate]])
-        for crate, cell in relying:
+        self.assertEqual(list(relying), [crate for crate in layers.product() if uses[crate]])
+        for crate, cell in relying.items():
             text = "".join(map(text_of, places.files("crates", crate, "src", "**", "*.rt")))
             for part in [] if cell.startswith("none; ") else cell.split("; "):
                 lower, named = part.split(": ")
@@ -277,17 +276,6 @@ pub extern "C" fn version() {}
                     self.assertTrue(is_public, f"{word} is no public name of {lower}: {cell}")
                     self.assertRegex(text, rf"\b{name}\b", f"{crate} has no {word}")
 
-    def test_public_names(self) -> None:
-        table = text_of("docs/crates.md").split("## Public names")[1].split("\n\n")[2]
-        for crates, named, _reason in list(rows(table))[1:]:
-            folders = [os.path.join("crates", crate) for crate in re.findall(r"`(\w+)`", crates)]
-            public = set().union(*(given_out(text_of(folder, "src", "lib.rt")) for folder in folders))
-            public |= {
-                part for folder in folders for call in calls_of(os.path.basename(folder)) for part in call.split("::")
-            }
-            words = {part for word in re.findall(r"`([\w:]+)`", named) for part in word.split("::")}
-            self.assertLessEqual(words, public, crates)
-
 
 class Definitions(unittest.TestCase):
     """The comments of the definitions in specs/, and the lines of each crate's Lib.antt, which
@@ -297,8 +285,6 @@ class Definitions(unittest.TestCase):
         self.assertGreaterEqual(len(lines.crates()), 15)
         for crate in lines.crates():
             self.assertEqual(list(lines.faults(crate)), [])
-        page = text_of(lines.PAGE)
-        self.assertEqual(page, with_table(page, lines.HEADING, lines.table()))
 
     def test_all_are_read(self) -> None:
         # Counted here by the word `pub` alone: a definition stands at the line's start, or in a module with parameters.

@@ -1,6 +1,6 @@
 #!/usr/bin/env python3
 """Tests of the must-fail edits: that each can be applied, and is named for a function that it changes and
-for the clause that refuses it; that the page of wrong bodies has them; and that docs/tested.md names tests that are
+for the clause that refuses it; that the page of wrong bodies has them; and that docs/proofs.md names tests that are
 there.
 
     python3 -m pytest tests/documents/test_edits.py
@@ -71,8 +71,8 @@ def test_the_page_has_them() -> None:
 
 
 def test_wrong_bodies_that_only_a_test_rejects_name_one_that_exists() -> None:
-    section = text_of("docs", "tested.md").split("\n## Wrong bodies\n")[1].split("\n## ")[0]
-    rows = [line.strip("|").split(" | ") for line in section.split("\n") if line.startswith("| ")][1:]
+    section = text_of("docs", "proofs.md").split("| Mutant | Test |\n")[1].split("\n## ")[0]
+    rows = [line.strip("|").split(" | ") for line in section.split("\n") if line.startswith("| ")]
     assert rows
     for body, named in rows:
         names = re.findall(r"`([^`]+)`", named)

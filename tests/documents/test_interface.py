@@ -38,7 +38,7 @@ class TestWritten:
         text = text_of(numbers.PATH)
         for old, new, stale in (
             ('"there are boxes, but fewer than polygons"', '"there are few boxes"', {
-                "bindings/rust/trirast/src/cause.rs", "docs/errors.md", "include/trirast.h",
+                "bindings/rust/trirast/src/cause.rs", "docs/generated/errors.md", "include/trirast.h",
             }),
             ("count = 2\n", "count = 3\n", {
                 "bindings/rust/trirast/src/numbers.rs", "include/trirast.h", "python/src/trirast/_numbers.py",

@@ -14,7 +14,6 @@ from tools.places import text_of
 from tools.writing import Counts
 
 WORD = "word "
-REWRITTEN = sorted(set(writing.pages()) - writing.listed().keys())
 
 
 def test_readme_is_short() -> None:
@@ -34,20 +33,20 @@ def test_contributing_is_short() -> None:
     assert text_of("CONTRIBUTING.md").count("\n") <= 150
 
 
-def test_list_of_pages_to_rewrite_only_shrinks() -> None:
-    # Lower this with each page that leaves the list.
-    assert len(writing.listed()) <= 15
+def test_pages_have_few_words() -> None:
+    # Code is not counted.
+    assert sum(len(writing.prose_of(text_of(page)).split()) for page in writing.pages()) <= 45_000
 
 
-@pytest.mark.parametrize("page", REWRITTEN)
-def test_rewritten_pages_are_short(page: str) -> None:
+@pytest.mark.parametrize("page", writing.pages())
+def test_pages_are_short(page: str) -> None:
     assert text_of(page).count("\n") <= 250
     lengths = [writing.words(sentence) for sentence in writing.sentences(text_of(page))]
     assert sum(lengths) <= 17 * len(lengths)
 
 
-@pytest.mark.parametrize("page", REWRITTEN)
-def test_rewritten_pages_name_no_commit(page: str) -> None:
+@pytest.mark.parametrize("page", writing.pages())
+def test_pages_name_no_commit(page: str) -> None:
     # DECISIONS names the one at which the trials can be read.
     commits = re.findall(r"(?<!\w)(?=[0-9a-f]*[a-f])(?=[a-f]*[0-9])[0-9a-f]{7,8}(?!\w)", text_of(page))
     assert set(commits) == ({"08a0cee5"} if page == "docs/DECISIONS.md" else set())
@@ -55,11 +54,7 @@ def test_rewritten_pages_name_no_commit(page: str) -> None:
 
 def test_pages_keep_the_limits() -> None:
     assert len(writing.pages()) > 30
-    assert list(writing.faults(writing.listed(), writing.counted())) == []
-
-
-def test_list_is_laid_out_by_its_command() -> None:
-    assert text_of(writing.LIST) == writing.text_of_list(writing.listed())
+    assert writing.counted() == {}, "python3 -m tools.writing prints what is too long"
 
 
 @pytest.mark.parametrize(("page", "counts"), [
@@ -80,15 +75,6 @@ def test_list_is_laid_out_by_its_command() -> None:
 ])
 def test_what_is_too_long_is_counted(page: str, counts: Counts) -> None:
     assert writing.found_in(page).counts() == counts
-
-
-def test_counts_may_only_fall() -> None:
-    before = {"a.md": Counts(3, 2, 1), "b.md": Counts(1, 0, 0), "gone.md": Counts(1, 1, 1)}
-    now = {"a.md": Counts(2, 2, 2), "new.md": Counts(0, 0, 1)}
-    faults = sorted(writing.faults(before, now))
-    assert [fault.split(":")[0] for fault in faults] == ["a.md", "b.md", "gone.md", "new.md"]
-    assert list(writing.faults(before, before)) == []
-    assert writing.renewed(before, now) == {"a.md": Counts(2, 2, 1)}
 
 
 def test_generated_pages_are_left_out() -> None:

@@ -29,9 +29,6 @@ PARTS = ("numbers", "pages", "plain", "refusals", "scene", "drawing", "reading")
 SECONDS, LONG_SECONDS, MARGIN = 30, 600, 60
 # Seeds of the longer form are others than those of CI.
 LONG_SEED = 1_000_000_000
-# Of clipping and shading in CI, so that each machine tries the same scenes. Scene 27311 is known to fail: a fragment
-# has weights that are no numbers.
-MOST_SCENES = 20_000
 
 
 def built(name: str, compiler: str, *flags: str) -> str:
@@ -49,9 +46,9 @@ def clip_and_shade() -> str:
     return built("clip_and_shade", "g++", *flags, os.path.join(SOURCES, "clip_and_shade.cpp"))
 
 
-def counted(program: str, seconds: int, seed: int, *words: str) -> list[int]:
+def counted(program: str, seconds: int, seed: int) -> list[int]:
     """Runs a program for some seconds. Returns the counts of its last line, of which the last is what is wrong."""
-    command = [program, "--seconds", str(seconds), "--seed", str(seed), *words]
+    command = [program, "--seconds", str(seconds), "--seed", str(seed)]
     try:
         done = subprocess.run(command, capture_output=True, timeout=seconds + MARGIN, text=True)
     except subprocess.TimeoutExpired as error:
@@ -69,8 +66,7 @@ def check_canvases(seconds: int, seed: int) -> str:
 
 def check_clip_and_shade(seconds: int, seed: int) -> str:
     """The sanitizers find nothing, and what comes out is what the headers promise, the same in C and C++."""
-    words = ("--scenes", str(MOST_SCENES)) if seconds == SECONDS else ()
-    scenes, refused, triangles, cuts, fragments, wrong = counted(clip_and_shade(), seconds, seed, *words)
+    scenes, refused, triangles, cuts, fragments, wrong = counted(clip_and_shade(), seconds, seed)
     must(wrong == 0 and min(refused, triangles, cuts, fragments) > 0, "nothing was refused, cut or shaded")
     return f"{scenes} scenes, {triangles} triangles, {cuts} cuts, {fragments} fragments"
 

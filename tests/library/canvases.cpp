@@ -31,7 +31,7 @@ static bool throws(trirast_status status, Call call, const std::string &values =
     try {
         call();
     } catch (const trirast::Error &error) {
-        const std::string line = trirast_status_string(status) + (values.empty() ? "" : ": " + values);
+        const std::string line = trirast_status_string(status) + values;
         if (error.what() != line) std::printf("'%s' in place of '%s'\n", error.what(), line.c_str());
         return error.status() == status && error.what() == line && !error.draw() && !error.element();
     }
@@ -99,7 +99,7 @@ static void compare_entries() {
     stored.store(1, TRIRAST_FORMAT_RGB8, std::vector<std::uint8_t>(3 * 100 * 200, 5));
     report(stored.colors(1, TRIRAST_FORMAT_RGB8) == std::vector<std::uint8_t>(3 * 100 * 200, 5) &&
                stored.colors(0)[0] == 255 &&
-               throws(TRIRAST_STATUS_BAD_SAMPLE, [&] { stored.colors(4); }, "0 to 3, and not 4"),
+               throws(TRIRAST_STATUS_BAD_SAMPLE, [&] { stored.colors(4); }, ": expected 0 to 3, got 4"),
            "the colours of one sample are stored and read");
     std::vector<std::uint16_t> apart(101 * 200, 77);
     canvas.depths(3, apart, 2 * 101);
@@ -209,7 +209,7 @@ static void compare_samples() {
             has_all &= canvas.ids(s)[101] == 70000 && canvas.ids(s).back() == 16777215;
         const std::string most = std::to_string(samples - 1), given = std::to_string(samples);
         has_all &= throws(TRIRAST_STATUS_BAD_SAMPLE, [&] { canvas.ids(samples); },
-                          "0 to " + most + ", and not " + given);
+                          ": expected 0 to " + most + ", got " + given);
     }
     report(has_all, "a draw has every one of 1, 2, 4, 8 and 16 samples");
 }
@@ -322,15 +322,15 @@ static void compare_tiles() {
     report(canvas.ids(3)[64 * 100] == 0x030201 && canvas.ids(3)[63 * 100] == 70000 && canvas.depths(3)[64 * 100] == 9,
            "one colour is that of a whole tile");
     report(throws(TRIRAST_STATUS_BAD_TILE, [&] { canvas.tile_ids(2, 0, entries); },
-                  "column 0 to 1 and row 0 to 3, and not 2 and 0") &&
+                  ": expected column 0 to 1 and row 0 to 3, got 2 and 0") &&
                throws(TRIRAST_STATUS_BAD_TILE, [&] { canvas.rows(1, 2).tile_store(0, 0, entries); },
-                      "column 0 to 1 and row 1 to 1, and not 0 and 0") &&
+                      ": expected column 0 to 1 and row 1 to 1, got 0 and 0") &&
                throws(TRIRAST_STATUS_BUFFER_TOO_SMALL,
                       [&] { canvas.tile_ids(0, 0, Span<std::uint32_t>(entries.data(), 1)); },
-                      "16384 entries, and not 1") &&
+                      ": expected 16384 entries, got 1") &&
                throws(TRIRAST_STATUS_BUFFER_TOO_SMALL,
                       [&] { canvas.tile_store(0, 0, Span<const std::uint32_t>(entries.data(), 2)); },
-                      "1 or 16384 entries, and not 2"),
+                      ": expected 1 or 16384 entries, got 2"),
            "a tile that there is not and too few entries are refused");
 }
 
@@ -362,10 +362,11 @@ static void compare_lists() {
                "a text that is no list is refused");
     }
     report(throws(TRIRAST_STATUS_BUFFER_TOO_SMALL, [&] { trirast::list_draw(list, Span<std::uint8_t>(rows)); },
-                  std::to_string(rows.size()) + " bytes") &&
+                  ": expected the file_bytes of list_info, got " + std::to_string(rows.size())) &&
                throws(TRIRAST_STATUS_BAD_TILE_SIZE, [&] { trirast::list_draw(list, 9); },
-                      "8, 16, 32 or 64 pixels, and not 9") &&
-               throws(TRIRAST_STATUS_BAD_PIXEL, [&] { trirast::list_history(list, 3, 0); }, "3 and 0"),
+                      ": expected 8, 16, 32 or 64 pixels, got 9") &&
+               throws(TRIRAST_STATUS_BAD_PIXEL, [&] { trirast::list_history(list, 3, 0); },
+                      ": expected one of the picture, got 3 and 0"),
            "so are a buffer that is too small and a pixel that there is not");
 }
 
@@ -414,7 +415,7 @@ static void compare_far_vertices(Canvas &canvas) {
     const trirast_vertex both[] = {CORNERS[0], CORNERS[1], CORNERS[2], corners[0], corners[1], corners[2]};
     trirast_batch batch = {};
     batch.draws = draws, batch.draw_count = 2, batch.vertices = both, batch.vertex_count = 6;
-    const std::string place = "vertex 1 is out of range: x 8388608 and y 0 in 1/256 pixel (32768 and 0 pixels); x";
+    const std::string place = "vertex 1 is out of range, got x 8388608 and y 0 in 1/256 pixel (32768 and 0 pixels); x";
     const std::string range = ": -8388608 to 8388607 (-32768 to 32767.99609375 pixels)";
     CanvasOptions window;
     window.width = window.height = 1, window.origin = {-5, 0};
@@ -462,10 +463,11 @@ static void compare_refused_batches(Canvas &canvas) {
     batch.draws = nullptr, batch.draw_count = 0;
     batch.vertex_stride = 12;
     report(throws(TRIRAST_STATUS_BAD_STRIDE, [&] { canvas.draw_batch(batch); },
-                  "a multiple of 4 from 16 to 2048 bytes, or 0, and not 12"),
+                  ": expected a multiple of 4 from 16 to 2048 bytes, or 0, got 12"),
            "a stride that is too short is refused");
     batch.vertex_stride = 0, batch.index_size = 3;
-    report(throws(TRIRAST_STATUS_BAD_INDEX_SIZE, [&] { canvas.draw_batch(batch); }, "2 or 4 bytes, or 0, and not 3"),
+    report(throws(TRIRAST_STATUS_BAD_INDEX_SIZE, [&] { canvas.draw_batch(batch); },
+                  ": expected 2 or 4 bytes, or 0, got 3"),
            "so is a size of an index");
     compare_far_vertices(canvas);
     State state;
@@ -483,26 +485,26 @@ static void compare_errors() {
     const std::vector<std::uint8_t> before = canvas.pixels(TRIRAST_FORMAT_RGBA8);
     std::vector<std::uint8_t> small(299);
     std::vector<std::uint16_t> depths(20000);
-    const std::string sizes = "1 to 4096 pixels a side and 1, 2, 4, 8 or 16 samples a pixel, and not ";
+    const std::string sizes = ": expected 1 to 4096 pixels a side and 1, 2, 4, 8 or 16 samples a pixel, got ";
     report(throws(TRIRAST_STATUS_BAD_CANVAS, [] { Canvas({0, 1}); }, sizes + "0 by 1 and 1") &&
                throws(TRIRAST_STATUS_BAD_CANVAS, [] { Canvas({1, 4097}); }, sizes + "1 by 4097 and 1") &&
                throws(TRIRAST_STATUS_BAD_CANVAS, [] { Canvas({1, 1, 3}); }, sizes + "1 by 1 and 3"),
            "a canvas that there is not is an exception");
-    report(throws(TRIRAST_STATUS_BAD_TILE_ROWS, [&] { canvas.rows(0, 5); }, "0 to 4, and not 0 to 5") &&
-               throws(TRIRAST_STATUS_BAD_TILE_ROWS, [&] { canvas.rows(2, 1); }, "0 to 4, and not 2 to 1"),
+    report(throws(TRIRAST_STATUS_BAD_TILE_ROWS, [&] { canvas.rows(0, 5); }, ": expected 0 to 4, got 0 to 5") &&
+               throws(TRIRAST_STATUS_BAD_TILE_ROWS, [&] { canvas.rows(2, 1); }, ": expected 0 to 4, got 2 to 1"),
            "so are tile rows");
     report(throws(TRIRAST_STATUS_BUFFER_TOO_SMALL, [&] { canvas.resolve(TRIRAST_FORMAT_RGB8, small); },
-                  "60000 bytes for 200 rows at a stride of 300, and not 299") &&
+                  ": expected 60000 bytes for 200 rows at a stride of 300, got 299") &&
                throws(TRIRAST_STATUS_BUFFER_TOO_SMALL, [&] { canvas.load(TRIRAST_FORMAT_RGB8, small, 299); },
-                      "a stride of at least 300 bytes, or 0, and not 299"),
+                      ": expected a stride of at least 300 bytes, or 0, got 299"),
            "so is a buffer that is too small");
     report(throws(TRIRAST_STATUS_BAD_FORMAT, [&] { canvas.resolve(static_cast<trirast_format>(7), small); },
-                  "0 to 4, and not 7"),
+                  ": expected 0 to 4, got 7"),
            "so is a format");
     report(throws(TRIRAST_STATUS_BAD_STRIDE, [&] { canvas.depths(0, depths, 201); },
-                  "a multiple of 2 bytes, and not 201"),
+                  ": expected a multiple of 2 bytes, got 201"),
            "so is a stride of parts of an entry");
-    report(throws(TRIRAST_STATUS_BAD_SAMPLE, [&] { canvas.ids(4); }, "0 to 3, and not 4"), "so is a sample");
+    report(throws(TRIRAST_STATUS_BAD_SAMPLE, [&] { canvas.ids(4); }, ": expected 0 to 3, got 4"), "so is a sample");
     compare_refused_batches(canvas);
     report(canvas.pixels(TRIRAST_FORMAT_RGBA8) == before, "nothing of them is drawn");
     const trirast_corners corners = {0, 0, 256, 0, 0, 256};
@@ -512,11 +514,11 @@ static void compare_errors() {
            "edge functions at points");
     report(throws(TRIRAST_STATUS_BAD_POSITION,
                   [&] { trirast::edges_at(corners, std::vector<trirast_point>{{0, 0}, {8388608, 0}}); },
-                  "point 1: x 8388608 and y 0 in 1/256 pixel (32768 and 0 pixels); x: -8388608 to 8388607 (-32768 to "
-                  "32767.99609375 pixels)") &&
+                  ": expected points[1] of -8388608 to 8388607, got x 8388608 and y 0 in 1/256 pixel (32768 and 0 "
+                  "pixels); x: -8388608 to 8388607 (-32768 to 32767.99609375 pixels)") &&
                throws(TRIRAST_STATUS_BAD_POSITION, [&] { trirast::edges_at({0, 0, 0, -8388609, 1, 1}, points); },
-                      "corner b: x 0 and y -8388609 in 1/256 pixel (0 and -32768.00390625 pixels); y: -8388608 to "
-                      "8388607 (-32768 to 32767.99609375 pixels)"),
+                      ": expected b of -8388608 to 8388607, got x 0 and y -8388609 in 1/256 pixel (0 and "
+                      "-32768.00390625 pixels); y: -8388608 to 8388607 (-32768 to 32767.99609375 pixels)"),
            "a point that is too far away is an exception");
 }
 

@@ -10,7 +10,7 @@ from typing import Iterator
 
 from tests.cases import Case, MissingError, case, must
 from tests.library import arm64, examples, in_c
-from tests.library.commands import OUT, WARNINGS, drawn_by_program, must_be_the_programs, run
+from tests.library.commands import OUT, WARNINGS, drawn_by_program, must_be_the_programs, python_with, run
 from tests.library.runners import RUNNERS
 from tests.documents.pages.examples import SCENE
 from tools.draw_list import encode
@@ -27,8 +27,11 @@ LINKED = (
     "windows-x86_64/trirast.dll", "windows-arm64/trirast.dll", "macos-x86_64/libtrirast.dylib",
     "macos-arm64/libtrirast.dylib", "linux-riscv64/libtrirast.so.2",
 )
-# Of the comparison of canvases.
-LISTS = 40
+# The comparisons of canvases, each in its short form and its longer one.
+COMPARISONS = (
+    ("compare_canvas", ("--lists", "40"), ("--lists", "400")),
+    ("compare_polygons", ("--scenes", "6"), ("--scenes", "120")),
+)
 C_FLAGS = ("-std=gnu11", "-O2", *WARNINGS)
 # What else a shared library may need.
 LOADED = {"windows": ["ucrtbase.dll"], "macos": ["/usr/lib/libSystem.B.dylib"], "linux": ["libc.so.6"]}
@@ -103,14 +106,14 @@ def check_test(platform: str, kind: str, way: str, manifest: str) -> str:
     return in_c.check_in_c(RUNNERS[platform].command(program_of(platform, kind)), way, manifest)
 
 
-def check_by_dll(way: str) -> str:
+def check_by_dll(way: str, manifest: str) -> str:
     """One way of the test, with the DLL beside the program."""
     folder = os.path.dirname(program_of("windows-x86_64", "by_dll"))
     with open(built("windows-x86_64/trirast.dll"), "rb") as file:
         data = file.read()
     with open(os.path.join(folder, "trirast.dll"), "wb") as file:
         file.write(data)
-    return check_test("windows-x86_64", "by_dll", way, "few.txt")
+    return check_test("windows-x86_64", "by_dll", way, manifest)
 
 
 def check_cpp(platform: str) -> str:
@@ -142,11 +145,13 @@ def check_examples(platform: str) -> str:
     return "canvas, threads, polygons, frames"
 
 
-def check_canvases(platform: str) -> str:
-    """Generated lists on canvases, by a program in C for the platform, sample by sample against the second renderer."""
+def check_canvases(platform: str, comparison: str, *words: str) -> str:
+    """What is generated of canvases, by a program in C for the platform, sample by sample against the second
+    renderer."""
     RUNNERS[platform].must_be_there()
-    comparison = [sys.executable, "-m", "tests.reference.compare_canvas", "--lists", str(LISTS), "--on", platform]
-    return run(comparison, cwd=TOP).decode().splitlines()[-2]
+    python = python_with("numpy") if comparison == "compare_polygons" else sys.executable
+    command = [python, "-m", f"tests.reference.{comparison}", *words, "--on", platform]
+    return run(command, cwd=TOP).decode().splitlines()[-2]
 
 
 def cases() -> Iterator[Case]:
@@ -158,11 +163,15 @@ def cases() -> Iterator[Case]:
         for way, manifest in WAYS:
             yield case(f"{platform}: {way}", check_test, platform, "static", way, manifest, needs=in_c_builds)
     for platform in ("windows-x86_64", "linux-arm64", "linux-riscv64"):
-        yield case(f"{platform}: compare-canvas", check_canvases, platform)
+        for comparison, words, more_words in COMPARISONS:
+            name = f"{platform}: {comparison}"
+            yield case(name, check_canvases, platform, comparison, *words)
+            yield case(f"{name}, longer", check_canvases, platform, comparison, *more_words, is_long=True)
     shared = "windows-x86_64, by the DLL: the test in C builds"
     windows = RUNNERS["windows-x86_64"].folder
     yield case(shared, build_test, "windows-x86_64", "by_dll", os.path.join(windows, "libtrirast.dll.a"))
-    for way in ("pictures", "canvases"):
-        yield case(f"windows-x86_64, by the DLL: {way}", check_by_dll, way, needs=shared)
+    for way, manifest in WAYS:
+        is_long = way not in ("pictures", "canvases")
+        yield case(f"windows-x86_64, by the DLL: {way}", check_by_dll, way, manifest, needs=shared, is_long=is_long)
     yield case("windows-x86_64: trirast.hpp", check_cpp, "windows-x86_64")
     yield case("windows-x86_64: examples/c", check_examples, "windows-x86_64")

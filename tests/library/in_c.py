@@ -100,7 +100,7 @@ def check_without_exceptions(compiler: str) -> None:
         input=WITHOUT_EXCEPTIONS.encode())
     done = subprocess.run([program], stderr=subprocess.PIPE, timeout=MAX_SECONDS)
     must(done.returncode == -signal.SIGABRT, f"status {done.returncode}")
-    wanted = b"trirast: no such canvas: 1 to 4096 pixels a side and 1, 2, 4, 8 or 16 samples a pixel, and not 0 by 1"
+    wanted = b"trirast: no such canvas: expected 1 to 4096 pixels a side and "
     must(done.stderr.startswith(wanted), done.stderr.decode())
 
 

@@ -18,8 +18,9 @@ INSTALLED = (
         f"include/trirast/{part}.hpp"
         for part in ("canvas", "edges", "error", "list", "polygons", "span", "state", "tile_rows", "values")
     ),
-    "include/trirast_clip.h", "include/trirast_clip.hpp", "include/trirast_lanes.hpp", "include/trirast_shade.h",
-    "include/trirast_shade.hpp", "lib/cmake/trirast/trirast-config-version.cmake",
+    "include/trirast_clip.h", "include/trirast_clip.hpp", "include/trirast_frame.hpp", "include/trirast_lanes.hpp",
+    "include/trirast_layer.hpp", "include/trirast_shade.h", "include/trirast_shade.hpp",
+    "include/trirast_texture.hpp", "lib/cmake/trirast/trirast-config-version.cmake",
     "lib/cmake/trirast/trirast-config.cmake", f"lib/glibc-hwcaps/{LEVEL}/libtrirast.so.2", "lib/libtrirast.a",
     "lib/libtrirast.so", "lib/libtrirast.so.2",
     "lib/pkgconfig/trirast.pc", f"lib/trirast/glibc-hwcaps/{LEVEL}/program.so", "lib/trirast/program.so",

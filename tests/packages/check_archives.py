@@ -16,6 +16,7 @@ from tools.packaging.common import make_anew, release, write
 from tools.places import bytes_of
 
 UNPACKED = os.path.join(OUT, "archives")
+PREFIX = os.path.join(UNPACKED, f"trirast-{release()}")
 # What CMake is told of a platform for which it builds here.
 TOLD = {
     "linux-x86_64": (),
@@ -37,24 +38,23 @@ def check_build() -> str:
     return ", ".join(f"{os.path.basename(path)} {len(data) // 1000} KB" for path, data in zip(found, first))
 
 
-def configured(platform: str, *words: str) -> str:
-    """Configures a project outside for a platform. Returns the folder in which it is built."""
+def configured(platform: str, prefix: str, *words: str) -> str:
+    """Configures a project outside for a platform, over a prefix. Returns the folder in which it is built."""
     folder = make_anew(os.path.join(OUT, f"archive-{platform}"))
     write(os.path.join(folder, "CMakeLists.txt"), PROJECT.format(version=release()).encode())
     write(os.path.join(folder, "program.c"), program_of_the_page().encode())
     build = os.path.join(folder, "build")
-    prefix = os.path.join(UNPACKED, f"trirast-{release()}")
     run([need("cmake"), "-S", folder, "-B", build, f"-DCMAKE_PREFIX_PATH={prefix}", *words], env=clean_environment())
     return build
 
 
-def check_platform(platform: str) -> None:
-    """A program over the static target draws the picture of the page."""
+def drawn_by_cmake(platform: str, prefix: str) -> None:
+    """A program over the static target of a prefix draws the picture of the page."""
     runner = RUNNERS[platform]
     if platform not in archives.built():
         raise MissingError(f"library for {platform}")
     compiler = need(runner.compilers[0])
-    build = configured(platform, f"-DCMAKE_C_COMPILER={compiler}", *TOLD[platform])
+    build = configured(platform, prefix, f"-DCMAKE_C_COMPILER={compiler}", *TOLD[platform])
     run(["cmake", "--build", build], env=clean_environment())
     program = os.path.join(build, "static" + (".exe" if "windows" in platform else ""))
     starter = [*runner.starter, *(("-L", "/usr/riscv64-linux-gnu") if "riscv" in platform else ())]
@@ -66,7 +66,7 @@ def check_platform(platform: str) -> None:
 def check_other_platform() -> None:
     """For a platform of which there is no archive, CMake says which one is missing."""
     try:
-        configured("none", "-DCMAKE_SYSTEM_NAME=Linux", "-DCMAKE_SYSTEM_PROCESSOR=sparc64")
+        configured("none", PREFIX, "-DCMAKE_SYSTEM_NAME=Linux", "-DCMAKE_SYSTEM_PROCESSOR=sparc64")
     except CheckError as error:
         must("expected a library for linux-sparc64" in " ".join(str(error).split()), str(error))
         return
@@ -77,5 +77,5 @@ def cases() -> Iterator[Case]:
     built = "archives: built twice the same"
     yield case(built, check_build)
     for platform in TOLD:
-        yield case(f"archives: CMake for {platform}", check_platform, platform, needs=built)
+        yield case(f"archives: CMake for {platform}", drawn_by_cmake, platform, PREFIX, needs=built)
     yield case("archives: CMake for a platform without one", check_other_platform, needs=built)

@@ -3,6 +3,7 @@
 from __future__ import annotations
 
 import os
+import re
 import tarfile
 from typing import Iterator
 
@@ -24,6 +25,18 @@ def check_checksums() -> str:
     return f"{len(named)} files"
 
 
+def check_table() -> str:
+    """The table names each file but itself, with what it is for, its size and its checksum."""
+    page = places.text_of(DIST, releases.TABLE)
+    rows = re.findall(r"^\| `(.*)` \| (.+) \| ([\d,]+) \| `(.*)` \|$", page, re.MULTILINE)
+    sums = {name: digest for digest, name in map(str.split, places.text_of(DIST, SUMS).splitlines())}
+    sizes = {name: f"{len(places.bytes_of(DIST, name)):,}" for name in sums}
+    wanted = {(name, sizes[name], digest) for name, digest in sums.items() if name != releases.TABLE}
+    must({(name, size, digest) for name, _, size, digest in rows} == wanted, f"{rows}")
+    must(len({purpose for _, purpose, _, _ in rows}) == len(rows), "two files are for the same")
+    return f"{len(rows)} files"
+
+
 def check_sources() -> None:
     """The archive of the sources has the files of the last commit, below a folder of the release's name."""
     name = f"trirast-{release()}"
@@ -35,4 +48,5 @@ def check_sources() -> None:
 
 def cases() -> Iterator[Case]:
     yield case("release: checksums", check_checksums)
+    yield case("release: the table of files", check_table, needs="release: checksums")
     yield case("release: sources", check_sources, needs="release: checksums")

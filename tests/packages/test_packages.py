@@ -10,14 +10,20 @@ from __future__ import annotations
 import pytest
 
 from tests import cases
-from tests.packages import check_archives, check_cmake, check_debian, check_installed, check_release, check_wheel
+from tests.packages import (
+    check_archives, check_cmake, check_debian, check_installed, check_npm, check_recipes, check_release,
+    check_wheel,
+)
 from tests.packages.checking import OUT
 from tools.packaging.common import make_anew
 from tools.places import PROGRAM, is_built
 
 CASES = [
     case
-    for subject in (check_debian, check_installed, check_wheel, check_cmake, check_archives, check_release)
+    for subject in (
+        check_debian, check_installed, check_wheel, check_cmake, check_archives, check_recipes, check_npm,
+        check_release,
+    )
     for case in subject.cases()
 ]
 

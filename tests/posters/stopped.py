@@ -31,7 +31,7 @@ SECONDS = 600
 KILL_EVERY = 3
 # How many workers are killed as soon as they are there, so that they die as they start.
 KILLED = 8
-# Seconds after which a run has to have ended of whose workers none starts.
+# Seconds after which a run has to have ended of whose workers none starts, or one hangs.
 ENDED = 300
 # The sheet that is drawn: enough triangles that a run lasts longer than Dask takes to start.
 SIDE, TRIANGLES, WINDOW = 8192, 400_000, 256
@@ -212,6 +212,25 @@ def check_killed_workers(runs: Runs, number: int) -> str:
     return f"{killed} killed in {time.monotonic() - begun:.0f} s"
 
 
+def check_hung_worker(runs: Runs) -> str:
+    """A worker hangs: the other one draws its windows, and the bytes are the same."""
+    dask()
+    out, begun = runs.path("hung_worker.ppm"), time.monotonic()
+    with runs.start("-o", out, "--scheduler", "local", "--workers", "2") as child:
+        wait_for(lambda: lines_of(out + ".resume") > 1, child)
+        worker = workers_of(child.pid)[0]
+        os.kill(worker, signal.SIGSTOP)
+        try:
+            child.wait(ENDED)
+        finally:
+            child.kill()
+            with contextlib.suppress(ProcessLookupError):
+                os.kill(worker, signal.SIGKILL)
+    must(child.returncode == 0, f"status {child.returncode}")
+    must(content(out) == runs.wanted_of("ppm"), "other bytes")
+    return f"{time.monotonic() - begun:.0f} s"
+
+
 def kill_workers(child: subprocess.Popen[bytes], seconds: float, most: int = 1 << 30) -> int:
     """Kills each worker of a run as soon as it is there, until the run ends or enough are killed.
     Returns how many were."""
@@ -285,7 +304,7 @@ def check_none_starts(runs: Runs) -> str:
             child.kill()
         _, errors = child.communicate()
     must(child.returncode == 1 and errors.count(b"\n") == 1, f"status {child.returncode}: {errors[-500:]!r}")
-    for text in (b"WorkerLostError: no window was drawn: ", b"ended, the last with status -9"):
+    for text in (b"WorkerLostError: worker: expected a window, got ", b"ended, the last with status -9"):
         must(text in errors, f"{killed} killed: {errors!r}")
     must(not os.path.exists(out), "a file stands under the final name")
     return f"{killed} killed, {time.monotonic() - begun:.0f} s"
@@ -405,6 +424,7 @@ def cases(options: Options) -> Iterator[Case]:
     yield case("a stopped run of another list", check_other_list, runs)
     for number in range(options.kills):
         yield case(f"a worker killed every three seconds, run {number + 1}", check_killed_workers, runs, number)
+    yield case("a worker that hangs", check_hung_worker, runs, is_long=True)
     yield case("all workers killed as they start", check_killed_as_they_start, runs)
     yield case("an error that Dask leaves behind", check_left_behind, runs)
     yield case("workers of which none starts", check_none_starts, runs)

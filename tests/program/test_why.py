@@ -78,10 +78,20 @@ def test_counts_the_samples_of_a_triangle() -> None:
         ("--triangle", "0"),
         ("--json", "--all"),
         ("0,0", "--triangle", "0,0"),
+        ("-0,0", "--all"),
+        ("0, 0", "--all"),
+        ("0x0,0", "--all"),
+        ("4294967296,0", "--all"),
+        ("0,0", "--sample", "-0"),
     ],
 )
 def test_refuses_what_is_not_there(words: tuple[str, ...]) -> None:
     assert call_why(TRIANGLE, *words) == (2, b"", b"trirast: command line refused\n")
+
+
+def test_numbers_may_have_a_plus_sign_and_zeros_in_front() -> None:
+    assert call_why(TRIANGLE, "+1,000") == (0, TABLE, b"")
+    assert call_why(TRIANGLE, "1,0", "--json", "--sample", "+00") == (0, JSON, b"")
 
 
 def test_refuses_what_is_no_list() -> None:

@@ -110,7 +110,7 @@ def test_samples_are_covered_as_points_one_by_one_are(samples: int) -> None:
 
 
 def test_a_difference_is_named_and_counted(monkeypatch: Any, capsys: Any) -> None:
-    def compare(scene: Scene) -> int:
+    def compare(scene: Scene, _kind: object) -> int:
         if scene.samples == COUNTS[1]:
             raise Difference("call 3, Polygons: other colours of sample 2")
         return 7

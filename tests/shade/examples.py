@@ -1,5 +1,5 @@
 """The programs over the headers for shading: examples/cpp/textured.cpp and obj.cpp, also in a window, examples/c/cube.c
-and those of docs/shading.md."""
+and those of docs/shading.md and the pages beside it."""
 
 from __future__ import annotations
 
@@ -17,7 +17,13 @@ from tests.library.sanitized import SANITIZERS
 from tests.shade.programs import OUT, PROGRAMS, STRICT, STRICT_C, library, program_of, stand_in
 from tools.places import EXAMPLES, INCLUDE
 
-PAGE = os.path.join("docs", "shading.md")
+# The pages whose examples these are, in the order in which check_page takes their examples in C++.
+PAGES = tuple(
+    os.path.join("docs", name)
+    for name in (
+        "shading.md", "how-to/textures.md", "how-to/frames.md", "how-to/shade-in-python.md",
+    )
+)
 FLAGS = ("-O2", "-march=x86-64-v2", "-ffp-contract=off")
 SIZE, PIXEL = ("160", "120"), ("80", "70")
 
@@ -129,23 +135,31 @@ def built(name: str, text: str) -> str:
     return program
 
 
-def by_threads(program: str, lines: str) -> str:
-    """The program of the page with those lines for a frame that threads share."""
+def examples_in(language: str) -> list[str]:
+    """The examples of the pages in a language."""
+    text = "".join(map(places.text_of, PAGES))
+    return re.findall(rf"```{language}\n(.*?)```", text, re.DOTALL)
+
+
+def by_tiles(program: str, lines: str) -> str:
+    """The program with those lines for a frame that is drawn tile by tile."""
     begin, end = program.index("    // A frame."), program.index("    // Pixels.")
-    return f"#include <atomic>\n#include <thread>\n{program[:begin]}{lines}{program[end:]}"
+    return f"#include <trirast_frame.hpp>\n{program[:begin]}{lines}{program[end:]}"
 
 
 def check_page() -> str:
-    """The program of the page draws the cube: other pictures from other sides, each with the checks of its faces, and
-    the same bytes by threads. Returns how many pixels."""
-    text, texel, levels, threads = re.findall(r"```cpp\n(.*?)```", places.text_of(PAGE), re.DOTALL)
+    """examples/cpp/cube.cpp, of which the page has parts, draws the cube: other pictures from other sides, each with
+    the checks of its faces, and the same bytes tile by tile. Returns how many pixels."""
+    shader, frame, texel, levels, tiles = examples_in("cpp")
+    text = places.text_of(PROGRAMS, "cube.cpp")
+    must(shader in text and frame in text, "the page shows other parts than those of cube.cpp")
     run([built("texel", TEXEL.format(texel))])
     run([built("levels", LEVELS.format(levels))])
-    program, threaded = built("page", text), built("page-threads", by_threads(text, threads))
+    program, tiled = built("page", text), built("page-tiles", by_tiles(text, tiles))
     shown = []
     for turn in ("0.6", "1.4"):
         picture_bytes = run([program, turn])
-        must(run([threaded, turn]) == picture_bytes, f"another picture by threads at {turn}")
+        must(run([tiled, turn]) == picture_bytes, f"another picture by tiles at {turn}")
         pixels = picture_file.decode(picture_bytes).pixel_data
         colors = [pixels[k : k + 3] for k in range(0, len(pixels), 3)]
         shown.append(len(colors) - colors.count(bytes((24, 24, 32))))
@@ -156,11 +170,9 @@ def check_page() -> str:
 
 
 def check_in_c() -> str:
-    """examples/c/cube.c has the shader that the page shows. It draws the cube from all sides and, where the near plane
+    """examples/c/cube.c draws the cube from all sides and, where the near plane
     cuts it, from near, and sanitizers find nothing. Returns how much of each frame the cube takes."""
     path = os.path.join(EXAMPLES, "c", "cube.c")
-    (shader,) = re.findall(r"```c\n(.*?)```", places.text_of(PAGE), re.DOTALL)
-    must(shader in places.text_of(path), "another shader than that of the page")
     program = os.path.join(OUT, "cube")
     run([need("gcc"), *STRICT_C, "-O1", "-g", *SANITIZERS, "-I", INCLUDE, path, library(), "-o", program, "-lm"])
     shares = []
@@ -176,7 +188,7 @@ def check_in_c() -> str:
 def check_python() -> str:
     """The program in Python of the page draws the cube of that in C++: no channel is more than 1 away. Returns how many
     differ."""
-    (text,) = re.findall(r"```python\n(.*?)```", places.text_of(PAGE), re.DOTALL)
+    (text,) = examples_in("python")
     more = "\nimport sys\nsys.stdout.buffer.write(frame(float(sys.argv[1])).rgb().tobytes())\n"
     drawn = run([python_with("numpy"), "-c", text + more, "0.6"], env=PACKAGE_ENVIRONMENT, cwd=OUT)
     wanted = picture_file.decode(run([os.path.join(OUT, "page"), "0.6"])).pixel_data

@@ -196,6 +196,46 @@ void weights(int rounds) {
     expect(worst.ahead * 100 > all && worst.back * 100 > all, "one side alone was taken", "weights");
 }
 
+// w of a triangle may be any positive floats: what lies more than 2^72 above the least changes no weight by 2^-24, but
+// on the edge across from that corner.
+void far_apart(int rounds) {
+    scene::Numbers numbers(17);
+    std::size_t points = 0, cut_off = 0;
+    for (int round = 0; round < rounds; round++) {
+        Triangles given = triangles_of(numbers);
+        for (float &w : given.w)
+            w = static_cast<float>(std::ldexp(numbers.within(1, 2), static_cast<int>(numbers.within(-148, 127))));
+        Eight at = points_in(given, numbers);
+        // A corner, and a point on an edge.
+        at.x[0] = given.vertices[0].x, at.y[0] = given.vertices[0].y;
+        given.vertices[4] = given.vertices[3], given.vertices[4].x ^= 2;
+        at.x[1] = (given.vertices[3].x + given.vertices[4].x) / 2, at.y[1] = given.vertices[3].y;
+        weigh_eight(given.vertices, given.w, given.indices, at);
+        for (std::size_t lane = 0; lane < 8; lane++) {
+            const trirast_vertex *corner = &given.vertices[3 * lane];
+            const float *w = &given.w[3 * lane];
+            const reference::Edges e = reference::edges(corner[0], corner[1], corner[2], at.x[lane], at.y[lane]);
+            if (e.area == 0 || e.a < 0 || e.b < 0 || e.c < 0) continue;
+            const std::size_t least = static_cast<std::size_t>(std::min_element(w, w + 3) - w);
+            const Exact wanted = exact(given, 3 * lane, at.x[lane], at.y[lane]);
+            float sum = 0;
+            for (std::size_t c = 0; c < 3; c++) {
+                const float got = at.weight[c][lane];
+                sum += got, cut_off += w[c] > 0x1p72f * w[least];
+                expect(got >= 0, "a negative weight, or no number", "w far apart");
+                expect(std::isfinite(at.right[c][lane]) && std::isfinite(at.down[c][lane]), "an infinite difference",
+                       "w far apart");
+                if (wanted.weight[least] > 0)
+                    expect(std::fabs(got - wanted.weight[c]) < 0x1p-20L, "a weight beyond its bound", "w far apart");
+            }
+            expect(std::fabs(sum - 1) < 0x1p-21f, "the sum of the weights", "w far apart");
+            points++;
+        }
+    }
+    std::printf("w far apart: %zu points, %zu w cut off\n", points, cut_off);
+    expect(cut_off > points && cut_off < 2 * points, "few w are cut off, or most", "w far apart");
+}
+
 // ---- Lanes
 
 // Each comparison of each pair of these numbers, in each lane.
@@ -567,6 +607,7 @@ void cleared() {
 
 void run(int seeds) {
     weights(seeds == 1 ? 10000 : 100000);
+    far_apart(2000);
     patterns(), comparisons(), floors();
     for (const std::uint32_t samples : {4u, 1u, 2u, 8u, 16u})
         for (const At rate : {At::pixel, At::centre, At::sample}) pairs("ring", rate, samples);

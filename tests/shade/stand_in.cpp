@@ -112,10 +112,19 @@ void draw_at(const trirast_draw &draw, const std::uint32_t (&values)[5], const s
     if (!passes(draw.depth_test, values[4], sample.depth)) return;
     if (draw.depth_write) sample.depth = static_cast<std::uint16_t>(values[4]);
     if (id) return set_number(sample, *id);
-    const bool is_over = draw.blend.color_source == TRIRAST_FACTOR_SOURCE_ALPHA;
-    for (int c = 0; c < 3; c++) {
-        const std::uint32_t blended = (values[c] * values[3] + sample.channels[c] * (255 - values[3]) + 127) / 255;
-        sample.channels[c] = static_cast<std::uint8_t>(is_over ? blended : values[c]);
+    for (std::uint32_t c = 0; c < 3; c++) {
+        const std::uint32_t stored = sample.channels[c];
+        const auto factor = [&](std::uint32_t kind) {
+            return kind == TRIRAST_FACTOR_ONE            ? 255
+                   : kind == TRIRAST_FACTOR_SOURCE_ALPHA ? values[3]
+                   : kind == TRIRAST_FACTOR_STORED_COLOR ? stored
+                   : kind == TRIRAST_FACTOR_ZERO         ? 0
+                                                         : 255 - values[3];
+        };
+        const std::uint32_t sum =
+            values[c] * factor(draw.blend.color_source) + stored * factor(draw.blend.color_stored) + 127;
+        const std::uint32_t found = draw.blend.color_operation ? std::min(sum / 255, 255u) : values[c];
+        sample.channels[c] = static_cast<std::uint8_t>(found);
     }
 }
 
@@ -158,6 +167,7 @@ trirast_status draw_batch(const trirast_canvas &canvas, const trirast_proved_bat
                           const std::uint32_t *first_id) {
     const auto *vertices = static_cast<const trirast_vertex *>(batch.vertices);
     const auto *indices = static_cast<const std::uint32_t *>(batch.indices);
+    if (batch.draw_count == 1 && batch.draws[0].vertex_count == 0) return TRIRAST_STATUS_OK;
     if (batch.draw_count != 1 || (batch.vertex_stride != 0 && batch.vertex_stride != 16) || batch.in_order != 0 ||
         batch.index_size == 2)
         return TRIRAST_STATUS_BAD_STRIDE;

@@ -17,7 +17,7 @@ from tests.web.explorer import ALT, FOLDER, HEIGHT, SECONDS, WIDTH, Explorer
 from tests.web.figure import NAMES, figure_in, run_program
 from tests.web.positions import check_shown
 
-MAX_BYTES = 450_000
+MAX_BYTES = 480_000
 PHONE = (390, 844)
 MAX_FUNCTION_LINES = 40
 SIGNS = {"+": "1", "0": "0", "−": "-1"}

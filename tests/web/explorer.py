@@ -78,9 +78,9 @@ class Handler(http.server.SimpleHTTPRequestHandler):
 
 
 @contextlib.contextmanager
-def served(texts: Mapping[str, str] = {}) -> Iterator[str]:
-    """The address of the page, served on this machine alone, with other texts of some files."""
-    handler = functools.partial(Handler, directory=FOLDER, texts=texts)
+def served(texts: Mapping[str, str] = {}, folder: str = FOLDER) -> Iterator[str]:
+    """The address of the page, or of another folder, served on this machine alone, with other texts of some files."""
+    handler = functools.partial(Handler, directory=folder, texts=texts)
     with http.server.ThreadingHTTPServer(("127.0.0.1", 0), handler) as server:
         threading.Thread(target=server.serve_forever, daemon=True).start()
         try:

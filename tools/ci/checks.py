@@ -22,6 +22,7 @@ BUILDS = {
     "program": ("bin/trirast",),
     "library": ("library",),
     "platforms": ("platforms",),
+    "module": ("lib/wasm64/canvas.wasm",),
     "why": ("bin/trirast_why",),
     "installed": ("lib/stub/trirast", "lib/x86-64-v3/program.so"),
     "readers": ("bin/refused_tiles", "bin/list_bench"),
@@ -101,6 +102,12 @@ CHECKS = (
         about="pages, the statement, must-fail edits and contracts against the sources; what is written from "
         "interface/numbers.toml; the length of lines and sentences",
         command="pytest tests/documents --ignore tests/documents/pages", seconds=12,
+    ),
+    Check(
+        name="site",
+        about="all pages as one site with search, which Sphinx builds without a warning, in out/site",
+        command="tools.site", seconds=20,
+        needs=("python:sphinx", "python:myst_parser", "python:furo", "python:sphinx_copybutton"),
     ),
     Check(
         name="schema",
@@ -226,8 +233,8 @@ CHECKS = (
         name="check-library",
         about="the library, the header, the packages for Python and Rust, and the examples, against the program, also "
         "by Wine and qemu",
-        command="pytest tests/library", seconds=400,
-        long="-m 'long or not long'", long_seconds=440,
+        command="pytest tests/library", seconds=460,
+        long="-m 'long or not long'", long_seconds=1100,
         runs=(*INSTALLATION, "platforms"), needs=COMPILER,
     ),
     Check(
@@ -257,6 +264,22 @@ CHECKS = (
         runs=("library",), needs=(*COMPILER, "g++"),
     ),
     Check(
+        name="frame",
+        about="frames tile by tile, materials and blended layers against one canvas; a walk through a level, with the "
+        "same bytes for each number of threads; mutants",
+        command="pytest tests/frame", seconds=60,
+        long="-m 'long or not long'", long_seconds=420,
+        runs=("library",), needs=(*COMPILER, "g++"),
+    ),
+    Check(
+        name="texture",
+        about="textures: mip maps against exact means, samples within their bounds, the same bytes by every compiler, "
+        "mutants",
+        command="pytest tests/texture", seconds=45,
+        long="-m 'long or not long'", long_seconds=240,
+        needs=(*COMPILER, "g++"),
+    ),
+    Check(
         name="guarded",
         about="random calls on canvases between guard pages, against a plain renderer; clipping and shading under "
         "sanitizers; what TRIRAST_CHECKS reports",
@@ -273,9 +296,9 @@ CHECKS = (
     ),
     Check(
         name="check-packages",
-        about="Debian packages, wheels, archives and CMake files, each installed in a clean folder",
-        command="pytest tests/packages", seconds=50,
-        runs=(*INSTALLATION, "platforms"), needs=COMPILER,
+        about="Debian packages, wheels, the npm package, archives, CMake files and recipes, each in a clean folder",
+        command="pytest tests/packages", seconds=90,
+        runs=(*INSTALLATION, "platforms", "module"), needs=COMPILER,
     ),
     Check(
         name="check-poster",
@@ -289,7 +312,7 @@ CHECKS = (
         about="the page in Chromium, each sample against the program",
         command="pytest tests/web", seconds=46,
         long="-m 'long or not long'", long_seconds=150,
-        runs=EVERYTHING, needs=COMPILER,
+        runs=(*EVERYTHING, "module"), needs=COMPILER,
     ),
 )
 

@@ -43,6 +43,10 @@ class Number:
     word: str = ""
     # What the header has instead of the meaning.
     formula: str = ""
+    # Of a factor its name in Vulkan, its number in OpenGL, and the factor for alpha if that is another.
+    vulkan: str = ""
+    opengl: int = 0
+    of_alpha: str = ""
     # What the bindings say of it besides.
     note: str = ""
     # Its exception in Python.

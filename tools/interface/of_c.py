@@ -71,6 +71,18 @@ def c_declaration(function: Function) -> str:
     return f"{head}(" + f",\n{' ' * (len(head) + 1)}".join(lines) + ");"
 
 
+def c_factor_rows(factors: list[Number]) -> str:
+    """Lines of a macro, each with what the interfaces call a factor."""
+    values = {number.name: number.value for number in factors}
+    rows = [
+        f"    ROW({number.value}, {values[number.of_alpha or number.name]}, {number.vulkan}, 0x{number.opengl:04X})"
+        for number in factors
+    ]
+    column = max(map(len, rows[:-1])) + 1
+    lines = [f"{line:<{column}}\\" for line in ["#define FACTORS(ROW)", *rows[:-1]]]
+    return "\n".join([*lines, rows[-1]])
+
+
 def c_places(pattern: Pattern) -> str:
     """Where samples lie, in lines of a macro."""
     begin = f"    {{{pattern.count}, {{"

@@ -22,12 +22,13 @@ WHOLE = {
     "interface.js": "web/interface.js",
     "structs.js": "web/structs.js",
     "calls.c": "packaging/calls.c",
-    "errors.md": "docs/errors.md",
+    "errors.md": "docs/generated/errors.md",
 }
 SCHEMA = "docs/conformance.schema.json"
 PARTS = {
     "trirast.h": "include/trirast.h",
     "values.hpp": "include/trirast/values.hpp",
+    "factors.hpp": "conformance/rasterize/factors.hpp",
     "status.rt": "crates/c_abi/src/status.rt",
     "Statuses.antt": "crates/c_abi/specs/Statuses.antt",
     "fault.rt": "crates/batch/src/fault.rt",

@@ -35,7 +35,7 @@ TAKEN = {
 }
 # The documents of each package.
 DOCUMENTS = {
-    "trirast": ("draw-list.md", "rules.md", "proofs.md", "statement.md"),
+    "trirast": ("draw-list.md", "rules.md", "proofs.md", "generated/promises.md", "statement.md"),
     "libtrirast2": (),
     "libtrirast-dev": ("how-to/install.md", "reference/calls.md"),
 }

@@ -2,7 +2,7 @@
 
     python3 -m tools.packaging.listing
 
-It reads the packages of dist/, which `make deb wheel` builds. `make check-packages` compares the lists with them.
+It reads the packages of dist/, which `make deb wheel npm` builds. `make check-packages` compares the lists with them.
 """
 
 from __future__ import annotations
@@ -18,22 +18,31 @@ from io import BytesIO
 from typing import Iterable
 
 from tools import places
-from tools.packaging import wheel
+from tools.packaging import npm, wheel
 from tools.packaging.common import DIST
 from tools.places import TOP
 
 PAGE = os.path.join(TOP, "packaging", "FILES.md")
-DEBIAN_TITLE = "The Debian packages"
+DEBIAN_TITLE, WHEELS_TITLE, NPM_TITLE = "The Debian packages", "Every wheel", "The npm package"
+# The folder in a wheel where its library is, which alone differs from platform to platform.
+LIBRARY = f"trirast/{wheel.FOLDER}/"
 
 
-def wheel_title(processor: str) -> str:
-    return f"The wheel for {processor}"
+def wheel_title(platform: str) -> str:
+    return f"The library in the wheel for {platform}"
 
 
-def wheel_files(processor: str) -> dict[str, int]:
+def wheel_files(platform: str) -> dict[str, int]:
     """The files of a wheel with their sizes in bytes."""
-    with zipfile.ZipFile(wheel.path_of(processor)) as file:
+    with zipfile.ZipFile(wheel.path_of(platform)) as file:
         return {member.filename: member.file_size for member in file.infolist()}
+
+
+def wheel_lists(platform: str) -> dict[str, list[str]]:
+    """The lists of a wheel's files by their titles."""
+    files = wheel_files(platform)
+    libraries = [name for name in files if name.startswith(LIBRARY)]
+    return {wheel_title(platform): libraries, WHEELS_TITLE: sorted(files.keys() - set(libraries))}
 
 
 def debian_files() -> dict[str, int]:
@@ -65,10 +74,12 @@ def listed(title: str) -> list[str]:
 
 def main() -> int:
     page = places.text_of(PAGE)
-    lists = {DEBIAN_TITLE: debian_files()}
-    lists.update(
-        {wheel_title(name): wheel_files(name) for name in wheel.PROCESSORS if os.path.exists(wheel.path_of(name))}
-    )
+    lists: dict[str, Iterable[str]] = {DEBIAN_TITLE: debian_files()}
+    for name in wheel.TARGETS:
+        if os.path.exists(wheel.path_of(name)):
+            lists.update(wheel_lists(name))
+    if os.path.exists(npm.MODULE):
+        lists[NPM_TITLE] = npm.contents()
     for title, files in lists.items():
         page = page.replace(f"## {title}\n\n{part_of(page, title)}", f"## {title}\n\n{bullets(files)}")
     with open(PAGE, "w", encoding="utf-8") as file:

@@ -26,9 +26,10 @@ This page has the theorem about `trirast::run`, the call that reads a draw list 
 definition of this repository that the theorem rests on, in reading order. So its reader needs neither the code nor the
 proofs of that call.
 
-The page covers `trirast::run` only. [proofs.md](proofs.md) has the promises of all other calls, each with the clauses
-that carry it: [the program](proofs.md#the-program), [the library for C](proofs.md#the-library),
-[a canvas](proofs.md#a-canvas). Their definitions stand in `crates/*/specs`.
+The page covers `trirast::run` only. [Every promise](generated/promises.md) has those of all other calls, each with the
+clauses that carry it: [the program](generated/promises.md#the-program), [the library for
+C](generated/promises.md#the-library), [a canvas](generated/promises.md#a-canvas). Their definitions
+are in `crates/*/specs`.
 
 The [Glossary](#glossary) explains each symbol and each name of the toolchain, as `negsuc` and `R.remaining`. The
 [Index](#index) says which section defines a name of this repository, as `Counted`.

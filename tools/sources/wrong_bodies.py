@@ -3,7 +3,7 @@
     python3 -m tools.sources.wrong_bodies
 
 An edit is a file crates/NAME/must-fail/FUNCTION.WHAT_IS_WRONG.edit. If the function has several clauses, a line
-`clause: NAME` of the edit says which one refuses it; `rt` does not read that line.
+`clause: NAME` of the edit says which one rejects it; `rt` does not read that line.
 """
 
 from __future__ import annotations
@@ -21,11 +21,11 @@ from tools.sources.rattle import Function, functions_in
 
 PAGE = os.path.join("docs", "generated", "wrong_bodies.md")
 HEAD = """\
-# Wrong bodies that the prover refuses
+# Must-fail edits
 
-Each row is a must-fail edit: it makes one function wrong, and `rt ci` fails unless the prover refuses it. The
-edit of `FUNCTION` is the file `crates/CRATE/must-fail/FUNCTION.WHAT_IS_WRONG.edit`. The clause is the promise
-that the wrong body breaks; a dash stands for a contract whose only clause has no name.
+Each row is a must-fail edit, a mutant of proved code: it makes one function wrong, and `rt ci` fails unless the
+prover rejects it. The edit of `FUNCTION` is the file `crates/CRATE/must-fail/FUNCTION.WHAT_IS_WRONG.edit`. The clause
+is the promise that the mutant breaks; a dash stands for a contract whose only clause has no name.
 `python3 -m tools.sources.wrong_bodies` writes this page.
 """
 REST = """\
@@ -102,7 +102,7 @@ def tables() -> Iterator[str]:
     every = edits()
     for crate in crates():
         yield f"## `{crate}`\n"
-        yield "| Function | Clause | Wrong body |\n|---|---|---|"
+        yield "| Function | Clause | Mutant |\n|---|---|---|"
         for edit in every:
             if edit.crate == crate:
                 clause = edit.clause()

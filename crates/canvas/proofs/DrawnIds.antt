@@ -7,7 +7,7 @@ use Rattle.grid.specs.declared.sample_count.SampleCount.{SampleCount}
 use Rattle.shade.specs.declared.sample.CanvasSample.{CanvasSample}
 use Rattle.shade.specs.declared.placed.Placed.{Placed}
 use Rattle.shade.specs.Depth.{Passes}
-use Rattle.canvas.proofs.Flat.{IsFlat}
+use Rattle.lanes.specs.Sources.{IsFlat}
 use Rattle.shade.specs.Placed.{channel, IsInterpolated, Meets}
 use Rattle.shade.specs.Canvas.{CanvasDraws, CanvasEnds}
 use Rattle.shade.specs.declared.operands.Channel.TheVariants.{Colour}
@@ -17,7 +17,7 @@ use Rattle.shade.specs.Merging.{operands_of}
 use Rattle.shade.proofs.Blended.{replaced}
 use Rattle.shade.proofs.Decided.{meets, passes}
 use Rattle.shade.proofs.CanvasDrawn.{canvas_draws}
-use Rattle.canvas.proofs.Flat.{flat_value}
+use Rattle.lanes.proofs.Flat.{flat_value}
 use Rattle.shade.proofs.Values.{quotient-unique}
 use Rattle.canvas.specs.Ids.{with_id, with_ids, PassesAt, IsLast, HasColourOfId, HasId}
 

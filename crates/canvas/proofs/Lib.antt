@@ -1,4 +1,3 @@
-pub mod Flat
 pub mod Places
 pub mod Ends
 pub mod DrawnTiles

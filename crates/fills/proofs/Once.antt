@@ -21,7 +21,7 @@ use Rattle.canvas.specs.Layout.{IsStoredIn, stored}
 use Rattle.canvas.specs.Window.{IsSamePixel}
 use Rattle.blocks.proofs.TilePlanes.{cases_eq}
 use Rattle.fills.specs.Painting.{Shape, fragment_of, IsInScissor, MeetsSample, Paints, PaintAll, ArePainted}
-use Rattle.fills.proofs.FewSamples.{applied_once}
+use Rattle.block_fills.proofs.FewSamples.{applied_once}
 
 -- ---- whether a polygon meets a sample is decided
 by_truth : (b : Bool) (P : Type 0) → (IsTrue b ↔ P) → IsDecided P

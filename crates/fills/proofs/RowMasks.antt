@@ -20,11 +20,12 @@ use Rattle.canvas.specs.declared.canvas.Canvas.{Canvas}
 use Rattle.canvas.specs.declared.window.Origin.{Origin}
 use Rattle.canvas.specs.Layout.{IsStoredIn, columns_of}
 use Rattle.canvas.specs.Window.{moved_state}
-use Rattle.fills.specs.declared.masks.Masks.{Masks}
+use Rattle.block_fills.specs.declared.masks.Masks.{Masks}
 use Rattle.fills.specs.declared.polygon.Polygon.{Polygon}
 use Rattle.fills.specs.Painting.{IsInScissor, shape_of}
-use Rattle.fills.specs.Parts.{seen_fragment, AreMasksOfRow, IsFlagged, MeetsHere, RowsPaint}
-use Rattle.fills.proofs.Joined.{rows_same}
+use Rattle.block_fills.specs.Parts.{IsFlagged, RowsPaint}
+use Rattle.fills.specs.Parts.{seen_fragment, AreMasksOfRow, MeetsHere}
+use Rattle.block_fills.proofs.Joined.{rows_same}
 
 -- the state as seen from the origin lets the same samples be drawn
 allows_here : (state : State) (x y : ℤ) (i j s : ℕ) → i < 4096 → j < 4096 → Allows (moved_state x y state) i j s → IsInScissor state.scissor (pos i +ℤ x) (pos j +ℤ y)

@@ -18,10 +18,11 @@ use Rattle.canvas.proofs.Places.{row_of as in_row, row_put, row_kept}
 use Rattle.fills.specs.declared.polygon.Polygon.{Polygon}
 use Rattle.fills.specs.declared.window.Window.{Window}
 use Rattle.fills.specs.Painting.{ArePainted, MeetsSample, PaintAll, Shape, fragment_of, shape_of}
-use Rattle.fills.specs.Parts.{seen_fragment, LiesInRows, MeetsHere, RowsPaint, HoldsSamples}
-use Rattle.fills.proofs.Joined.{rows_joined}
-use Rattle.fills.proofs.Merged.{by_alpha}
-use Rattle.fills.proofs.Strips.{cases_eq}
+use Rattle.block_fills.specs.Parts.{RowsPaint}
+use Rattle.fills.specs.Parts.{seen_fragment, LiesInRows, MeetsHere, HoldsSamples}
+use Rattle.block_fills.proofs.Joined.{rows_joined}
+use Rattle.fills.proofs.ByAlpha.{by_alpha}
+use Rattle.block_fills.proofs.Strips.{cases_eq}
 
 -- ---- one tile row of several
 module _ (c : Canvas) (first end row : ℕ) (from : first ≤ row) (mid part : List BlockSamples) (n a : ℕ) (room : a + n ≤ length mid) (long : length part ≡ n) (many : n ≡ planes_of_row c)

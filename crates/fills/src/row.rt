@@ -6,12 +6,12 @@ ghost use Rattle.polygons.specs.declared.rule.Rule.TheVariants.{NonZero};
 ghost use Rattle.polygons.specs.Cells.{flags_by, AreZeros, AreMasksAlone};
 ghost use Rattle.polygons.specs.Runs.{AreRunsOf};
 ghost use Rattle.fills.specs.Painting.{IsOriginInBand};
-ghost use Rattle.fills.specs.Parts.{seen_fragment, AreMasksOfRow, MeetsHere, RowsPaint};
+ghost use Rattle.block_fills.specs.Parts.{RowsPaint};
+ghost use Rattle.fills.specs.Parts.{seen_fragment, AreMasksOfRow, MeetsHere};
 
-use crate::masks::Masks;
 use crate::polygon::Polygon;
 use crate::scratch::clear_masks;
-use crate::strip::paint_masks;
+use block_fills::{Masks, paint_masks};
 use canvas::{Canvas, Origin};
 use lanes::{BlockSamples, Fragment};
 use polygons::{Counters, Flags, Runs, Strip, cover_parts};

@@ -65,6 +65,12 @@
 --   IsReady: The triangle can be drawn in this mode by this depth and this colour.
 --   known_of: The colour equation of a draw list's `over`, or of its `none`.
 --
+-- Source.antt
+--   IsOfTriangle: The fragment is that of a triangle of this merge at a point that the triangle covers.
+--   GivesFragment: The source gives this fragment at a point.
+--   IsReadySource: A triangle's depth and colour can be computed in their modes.
+--   TakesFrom: The sample at a point takes each fragment that the source gives there.
+--
 -- Merging.antt
 --   IsTested: What the depth test makes of a stored depth, and the lane of its result: all ones if it passed, else 0.
 --   AreByteFragments: The fragments have sixteen lanes of at most 255 in each channel.
@@ -86,5 +92,6 @@ pub mod Lanes
 pub mod Operands
 pub mod Sources
 pub mod Mode
+pub mod Source
 pub mod Merging
 pub mod Sums

@@ -1,23 +1,20 @@
-//! How the samples of a block are drawn.
+//! How the samples of a block are drawn from a source of depth and one of colour.
 ghost use Rattle.std.specs.Prelude.{◌≡◌, ℕ, ◌+◌, ◌*◌, ◌<◌, IsBitSet, IsTrue, false, length};
 ghost use Rattle.grid.specs.Samples.{part_size};
 ghost use Rattle.shade.specs.Presets.{IsKnown};
 ghost use Rattle.shade.specs.declared.known.KnownEquation.TheVariants.{Replace};
 ghost use Rattle.lanes.specs.declared.sources.DepthSource.TheVariants.{Unused};
 ghost use Rattle.lanes.specs.Block.{IsOnScreen, AreDrawn};
-ghost use Rattle.lanes.specs.BlockMask.{CoversBlock, IsBlockDrawn, IsBlockDrawnBy};
+ghost use Rattle.lanes.specs.BlockMask.{IsBlockDrawnBy};
 ghost use Rattle.lanes.specs.Lanes.{IsMask};
-ghost use Rattle.lanes.specs.Mode.{IsMergeMode, WritesEachColour, WritesColours, WritesNoColour, known_of};
+ghost use Rattle.lanes.specs.Mode.{WritesEachColour, WritesColours, WritesNoColour, known_of};
 ghost use Rattle.lanes.specs.Sources.{TakesGiven};
 
 use crate::block_mask::BlockMask;
 use crate::block_samples::BlockSamples;
 use crate::group::draw_group;
-use crate::interpolants::Interpolants;
 use crate::known::{whole, with_known, writing_all, writing_no_colour};
 use crate::lane_mask::lanes_of_mask;
-use crate::mode::DrawMode;
-use crate::one_by_one::draw_each;
 use crate::sources::{ColourSource, DepthSource};
 use gradients::Corrections;
 use grid::Point;
@@ -175,8 +172,8 @@ fn draw_planes<const ANY: bool>(
 /// Draws a block's samples by a merge that writes all colour channels by an equation of draw lists, and alpha with
 /// `ALPHA`. Each source of colour and of depth has code of its own, since what is made here is known in the code that
 /// stands in line.
-#[inline(never)]
-fn draw_by_sources<const OVER: bool, const ALPHA: bool>(
+#[inline(always)]
+pub(crate) fn draw_planes_listed<const OVER: bool, const ALPHA: bool>(
     merge: &Merge,
     depth: &DepthSource<'_>,
     colour: &ColourSource<'_>,
@@ -261,8 +258,8 @@ fn draw_blended_alone<const ALPHA: bool>(
 
 /// Draws a block's samples by a merge that writes all colour channels by any equation. Where depth has no part, each
 /// source of colour has code of its own.
-#[inline(never)]
-fn draw_blended(
+#[inline(always)]
+pub(crate) fn draw_planes_blended(
     merge: &Merge,
     depth: &DepthSource<'_>,
     colour: &ColourSource<'_>,
@@ -290,8 +287,8 @@ fn draw_blended(
 }
 
 /// Draws a block's samples by a merge that writes nothing but depths. Each source of depth has code of its own.
-#[inline(never)]
-fn draw_depths(
+#[inline(always)]
+pub(crate) fn draw_planes_depths(
     merge: &Merge,
     depth: &DepthSource<'_>,
     colour: &ColourSource<'_>,
@@ -323,8 +320,8 @@ fn draw_depths(
 }
 
 /// Draws a block's samples by any other merge. Each equation of draw lists has code of its own.
-#[inline(never)]
-fn draw_otherwise(
+#[inline(always)]
+pub(crate) fn draw_planes_otherwise(
     known: KnownEquation,
     merge: &Merge,
     depth: &DepthSource<'_>,
@@ -349,97 +346,6 @@ fn draw_otherwise(
         }
         KnownEquation::Other => {
             draw_planes::<true>(merge, depth, colour, mask, samples, corrections);
-        }
-    }
-}
-
-/// Draws what the sources give at the samples of a block that are in the mask, in a mode for the merge.
-#[inline(always)]
-pub(crate) fn draw_by_mode(
-    mode: DrawMode,
-    merge: &Merge,
-    depth: &DepthSource<'_>,
-    colour: &ColourSource<'_>,
-    mask: &BlockMask,
-    samples: &mut [BlockSamples],
-    corrections: &mut Corrections,
-)
-    requires mode { IsMergeMode merge.now mode }
-    requires samples { length samples.old ≡ part_size mask.now.count }
-    ensures drawn { IsBlockDrawnBy (TakesGiven merge.now depth.now colour.now) mask.now samples.old samples.new }
-    ensures samples { length samples.new ≡ length samples.old }
-{
-    match mode {
-        DrawMode::Replace => draw_by_sources::<false, false>(
-            merge,
-            depth,
-            colour,
-            mask,
-            samples,
-            corrections,
-        ),
-        DrawMode::Over => draw_by_sources::<true, false>(
-            merge,
-            depth,
-            colour,
-            mask,
-            samples,
-            corrections,
-        ),
-        DrawMode::ReplaceWithAlpha => draw_by_sources::<false, true>(
-            merge,
-            depth,
-            colour,
-            mask,
-            samples,
-            corrections,
-        ),
-        DrawMode::OverWithAlpha => draw_by_sources::<true, true>(
-            merge,
-            depth,
-            colour,
-            mask,
-            samples,
-            corrections,
-        ),
-        DrawMode::Blend => draw_blended(merge, depth, colour, mask, samples, corrections),
-        DrawMode::Depths => draw_depths(merge, depth, colour, mask, samples, corrections),
-        DrawMode::Otherwise(known) => draw_otherwise(
-            known,
-            merge,
-            depth,
-            colour,
-            mask,
-            samples,
-            corrections,
-        ),
-    }
-}
-
-impl Interpolants {
-    /// Draws the triangle at the samples of a block that are in the mask, each of which it covers. `samples` holds
-    /// those of the block, sample index by sample index. Corrections are counted.
-    #[inline(always)]
-    pub fn draw(
-        &self,
-        mask: &BlockMask,
-        samples: &mut [BlockSamples],
-        corrections: &mut Corrections,
-    )
-        requires samples { length samples.old ≡ part_size mask.now.count }
-        requires covered { CoversBlock self.now mask.now }
-        ensures drawn { IsBlockDrawn self.now mask.now samples.old samples.new }
-        ensures samples { length samples.new ≡ length samples.old }
-    {
-        let placed = &self.placed;
-        match self.mode {
-            None => draw_each(placed, mask, samples),
-            Some(mode) => {
-                let depth = &self.depth.source(placed);
-                let colour = &self.colour.source(placed);
-                let merge = &placed.state.merge;
-                draw_by_mode(mode, merge, depth, colour, mask, samples, corrections);
-            }
         }
     }
 }

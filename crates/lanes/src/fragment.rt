@@ -1,16 +1,8 @@
-ghost use Rattle.std.specs.Prelude.{◌≡◌, length};
-ghost use Rattle.grid.specs.Position.{Position};
-ghost use Rattle.grid.specs.Samples.{part_size};
-ghost use Rattle.lanes.specs.BlockMask.{IsBlockMerged};
-ghost use Rattle.lanes.specs.Sources.{GivesDepth};
+//! One colour and one depth for many samples.
+ghost use Rattle.std.specs.Prelude.{◌≡◌};
 
-use crate::block::draw_by_mode;
-use crate::block_mask::BlockMask;
-use crate::block_samples::BlockSamples;
-use crate::mode::{DrawMode, needs_no_depth};
-use crate::sources::{ColourSource, DepthSource};
-use gradients::Corrections;
-use shade::{Merge, Shaded, State};
+use crate::mode::DrawMode;
+use shade::{Shaded, State};
 use std::marker::Model;
 
 /// One colour and one depth for all samples, made ready to be drawn: the mode that suits it is found once. Contracts see
@@ -31,18 +23,6 @@ impl Model for Fragment {
     ghost view = { λ f. record { shaded = f.shaded; state = f.state } };
 
     ghost invariant = { λ f. IsMergeMode f.state.merge f.mode };
-}
-
-/// This depth at all samples, if it has a part in the merge.
-#[inline(always)]
-fn depth_source<'a>(merge: &Merge, z: u16) -> DepthSource<'a>
-    ensures { (p : Position) → GivesDepth merge.now result p z }
-{
-    if needs_no_depth(merge) {
-        DepthSource::Unused
-    } else {
-        DepthSource::Flat(z)
-    }
 }
 
 impl Fragment {
@@ -71,29 +51,5 @@ impl Fragment {
         ensures { result.now ≡ self.now.state }
     {
         &self.state
-    }
-
-    /// Draws the fragment at the samples of a block that are in the mask. `samples` holds those of the block, sample
-    /// index by sample index.
-    #[inline(always)]
-    pub fn draw(&self, mask: &BlockMask, samples: &mut [BlockSamples])
-        requires { length samples.old ≡ part_size mask.now.count }
-        ensures drawn { IsBlockMerged self.now mask.now samples.old samples.new }
-        ensures samples { length samples.new ≡ length samples.old }
-    {
-        let Shaded { r, g, b, a, z } = self.shaded;
-        let colour = &ColourSource::Flat([r, g, b, a]);
-        let merge = &self.state.merge;
-        let depth = &depth_source(merge, z);
-        let mut corrections = Corrections::none();
-        draw_by_mode(
-            self.mode,
-            merge,
-            depth,
-            colour,
-            mask,
-            samples,
-            &mut corrections,
-        );
     }
 }

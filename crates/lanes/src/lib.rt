@@ -7,6 +7,7 @@ mod blend;
 mod block;
 mod block_mask;
 mod block_samples;
+mod drawing;
 mod factors;
 mod fragment;
 mod group;
@@ -19,6 +20,7 @@ mod mode;
 mod one_by_one;
 mod operands;
 mod resolve;
+mod source;
 mod sources;
 
 pub use block_mask::BlockMask;

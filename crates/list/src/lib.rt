@@ -1,4 +1,4 @@
-//! Draw lists in JSON: the two readers behind one call, and what `model` says of a draw list.
+//! Draw lists in JSON: the two readers behind one call, and what `draw_list` says of a draw list.
 #![tactic(auto)]
 
 mod reader;

@@ -9,6 +9,7 @@ pub mod Totals
 pub mod Windings
 pub mod Plotted
 pub mod Parts
+pub mod FourFlips
 pub mod PartRows
 pub mod ByteRows
 pub mod ByteSums
@@ -26,6 +27,7 @@ pub mod LowestBit
 pub mod MaskLanes
 mod SignedLanes
 pub mod ShortRows
+pub mod PlacedEdges
 pub mod Division
 pub mod Exact
 pub mod Parity

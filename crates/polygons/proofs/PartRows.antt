@@ -1,13 +1,11 @@
 -- A row of pixels in which an edge is counted by one sample of a part after another.
-use Rattle.std.proofs.Common.{◌≡◌, ◌↔◌, ◌⊎◌, inl, inr, refl, sym, subst, ap, ◌∙◌, arith, ℕ, ◌+◌, ◌*◌, ◌/◌, ◌%◌, ◌^◌, ◌<◌, ◌≤◌, Bool, true, false, cond, IsTrue, List, length, set, bit_and, slice_index, slice_index_or, ℤ, pos, ◌+ℤ◌, ◌≤ℤ◌, ◌<ℤ◌, w32, to_z, of_z}
+use Rattle.std.proofs.Common.{◌≡◌, ◌↔◌, ◌⊎◌, inl, inr, refl, sym, subst, ap, ◌∙◌, arith, ℕ, ◌+◌, ◌*◌, ◌/◌, ◌^◌, ◌<◌, ◌≤◌, Bool, true, false, cond, IsTrue, List, length, set, bit_and, slice_index, slice_index_or, ℤ, pos, ◌+ℤ◌, ◌≤ℤ◌, ◌<ℤ◌, w32, to_z, of_z}
 use Rattle.std.proofs.lemmas.Int.{ints}
 use Rattle.std.proofs.lemmas.Bool.{cases_eq, cases_lt, false≢true}
 use Rattle.std.proofs.lemmas.List.{length-set}
-use Rattle.std.proofs.lemmas.Nat.Bits.{bit_at-zero, bit_at-pow_other}
 use Rattle.std.specs.Int.RustNames.{bit_xor}
 use Rattle.polygons.specs.ManyRows.{row_of}
-use Rattle.polygons.proofs.RowLists.{row-here, row-other}
-use Rattle.std.specs.Int.{bit_at, int_max}
+use Rattle.std.specs.Int.{int_max}
 use Rattle.polygons.specs.declared.rule.Rule.{Rule}
 use Rattle.polygons.specs.declared.rule.Rule.TheVariants.{EvenOdd, NonZero}
 use Rattle.polygons.specs.Rows.{from_column}
@@ -20,8 +18,9 @@ use Rattle.grid.specs.Position.{Position}
 use Rattle.grid.specs.Samples.{part_size}
 use Rattle.polygons.proofs.Triangle.{above_or_not}
 use Rattle.polygons.proofs.Counters.{sum-same}
-use Rattle.polygons.proofs.Totals.{word-here, word-other, flip_here, flip_other, clear_bit, flipped_added, added_right}
-use Rattle.polygons.proofs.Windings.{cell_same, first_added, flag_place}
+use Rattle.polygons.proofs.FourFlips.{sums_of_sample, IsSampleFlipped, unflipped, flipped_at}
+use Rattle.polygons.proofs.Totals.{added_right}
+use Rattle.polygons.proofs.Windings.{cell_same}
 use Rattle.polygons.proofs.Plotted.{alike_from, alike_moved, alike_none, part_small, same_columns, AreRowsAdded}
 
 -- whether a sample's rows hold a row, as code reads them
@@ -132,11 +131,6 @@ column_inside EvenOdd down f c column block _ l even_odd nonzero = (let e = even
 column_inside NonZero true f c column block long l even_odd nonzero = (let e = nonzero refl in omega (arith, l, e, long))
 column_inside NonZero false f c column block long l even_odd nonzero = (let e = nonzero refl in omega (arith, l, e, long))
 
--- what the sums of a sample's rows are by its flags
-sums_of_sample : (q : Rule) (f c f' : List (List ℕ)) (s : ℕ) → ((j k : ℕ) → flag_of f' s j k ≡ flag_of f s j k) → (j k : ℕ) → running_sum q f' c s j k ≡ running_sum q f c s j k
-sums_of_sample EvenOdd f c f' s same j k = sum-same _ _ (k + 1) (λ i _. ap pos (same j i))
-sums_of_sample NonZero f c f' s same j k = sum-same _ _ (k + 1) (λ i _. cell_same f c f' c s j i refl (same j i) (same j (i + 8 * length c)) (same j (i + 16 * length c)) refl)
-
 module _ (rule : Rule) (row : ℕ) (columns from to : List ℤ) (down : Bool) (f c : List (List ℕ)) (places crossed bits words : List ℕ) (column block : ℕ) (low : row < 64)
     (place : (s : ℕ) → s < 4 → pos (slice_index places s) ≡ int_max (slice_index_or columns s (pos 0)) (pos 0)) (one : (s : ℕ) → s < 4 → slice_index places s / 8 ≡ column)
     (tells : (s : ℕ) → s < 4 → (slice_index crossed s ≡ 1 ↔ HasRow from to row s)) (small : (s : ℕ) → s < 4 → slice_index crossed s < 2)
@@ -145,81 +139,32 @@ module _ (rule : Rule) (row : ℕ) (columns from to : List ℤ) (down : Bool) (f
     (clear : rule ≡ NonZero → (s : ℕ) → s < 4 → bit_and (slice_index (row_of f block) (word_of s row)) (slice_index bits s) ≡ 0)
     (flipped : (s : ℕ) → s < 4 → slice_index words (word_of s row) ≡ bit_xor (slice_index (row_of f block) (word_of s row)) (slice_index bits s))
     (kept : (i : ℕ) → (i / 4 ≡ row / 8 → ⊥) → slice_index words i ≡ slice_index (row_of f block) i) where
-  -- the flag of sample s, and the flags if this sample alone is flipped
-  abbrev place_of : ℕ → ℕ
-  place_of s = 8 * block + slice_index places s % 8
-
-  abbrev one_flipped : ℕ → List (List ℕ)
-  one_flipped s = set f block (set (row_of f block) (word_of s row) (bit_xor (slice_index (row_of f block) (word_of s row)) (slice_index bits s)))
-
   abbrev all_flipped : List (List ℕ)
   all_flipped = set f block words
-
-  word_same : (s j : ℕ) → s < 4 → slice_index words (word_of s j) ≡ slice_index (row_of (one_flipped s) block) (word_of s j)
-  word_same s j l = elim (cases_eq (j / 8) (row / 8)) [
-    | inl e ↦
-        let same : word_of s j ≡ word_of s row = ap (λ n. 4 * n + s) e in
-        ap (slice_index words) same ∙ flipped s l ∙ sym (ap (slice_index (row_of (one_flipped s) block)) same ∙ word-here f block (word_of s row) _ inside (omega (arith, room)))
-    | inr e ↦
-        kept (word_of s j) (λ same. e (omega (arith, same)))
-        ∙ sym (word-other f block (word_of s row) _ block (word_of s j) inside (λ _ same. e (omega (arith, same))))
-  ]
-
-  flag_same : (s : ℕ) → s < 4 → (j k : ℕ) → flag_of all_flipped s j k ≡ flag_of (one_flipped s) s j k
-  flag_same s l j k = elim (cases_eq (k / 8) block) [
-    | inl e ↦
-        ap (λ n. bit_at (slice_index (row_of all_flipped n) (word_of s j)) (bit_in_block j k)) e
-        ∙ ap (λ ws. bit_at (slice_index ws (word_of s j)) (bit_in_block j k)) (row-here f block words inside)
-        ∙ ap (λ w. bit_at w (bit_in_block j k)) (word_same s j l) ∙ sym (ap (λ n. bit_at (slice_index (row_of (one_flipped s) n) (word_of s j)) (bit_in_block j k)) e)
-    | inr e ↦
-        ap (λ ws. bit_at (slice_index ws (word_of s j)) (bit_in_block j k)) (row-other f block (k / 8) words e)
-        ∙ sym (ap (λ ws. bit_at (slice_index ws (word_of s j)) (bit_in_block j k)) (row-other f block (k / 8) _ e))
-  ]
 
   -- a sample whose rows do not hold this one
   not_crossed : (s : ℕ) → s < 4 → (HasRow from to row s → ⊥) → slice_index crossed s ≡ 0
   not_crossed s l none = (let d = small s l in elim (cases_eq (slice_index crossed s) 1) [ inl e ↦ absurd (none ((tells s l).0 e)) | inr e ↦ omega (arith, d, e) ])
 
   flag_kept : (s : ℕ) → s < 4 → (HasRow from to row s → ⊥) → (j k : ℕ) → flag_of all_flipped s j k ≡ flag_of f s j k
-  flag_kept s l none j k =
-      flag_same s l j k
-      ∙ flip_other f s row block (slice_index bits s) inside (omega (arith, room)) l s j k l (λ _ _ _. ap (λ b. bit_at b (bit_in_block j k)) (no_bit s l (not_crossed s l none)) ∙ bit_at-zero (bit_in_block j k))
+  flag_kept s l none = unflipped rule s row f (slice_index bits s) words block l low inside room (flipped s l) kept (no_bit s l (not_crossed s l none))
 
   -- one whose rows do
-  added : (s : ℕ) → s < 4 → HasRow from to row s → IsAdded rule s row (row + 1) (added_from columns s down) f c (one_flipped s) c
-  added s l has = by_rule rule refl within
-    where
-      bit : slice_index bits s ≡ 2 ^ bit_in_block row (place_of s)
-      bit = set_bit s l ((tells s l).1 has) ∙ ap (λ n. 2 ^ n) (omega arith)
-
-      here : flag_of (one_flipped s) s row (place_of s) ≡ (flag_of f s row (place_of s) + 1) % 2
-      here = flip_here f s row block (place_of s) (slice_index bits s) (omega arith) inside (omega (arith, room)) bit
-
-      others : (r j k : ℕ) → r < 4 → j < 64 → (r ≡ s → j ≡ row → k ≡ place_of s → ⊥) → flag_of (one_flipped s) r j k ≡ flag_of f r j k
-      others r j k h m other =
-          flip_other f s row block (slice_index bits s) inside (omega (arith, room)) l r j k h (λ same e g.
-          ap (λ b. bit_at b (bit_in_block j k)) bit ∙ bit_at-pow_other (bit_in_block row (place_of s)) (bit_in_block j k) (λ q. other same (omega arith) (omega arith)))
-
-      by_rule : (q : Rule) → q ≡ rule → column < columns_in q f c → IsAdded q s row (row + 1) (added_from columns s down) f c (one_flipped s) c
-      by_rule EvenOdd is m =
-          let e = even_odd (sym is) in let o = one s l in
-          flipped_added s row (slice_index places s) (place_of s) (slice_index_or columns s (pos 0)) down f c (one_flipped s) l low (place s l) (omega arith) (length-set f block _) here others
-      by_rule NonZero is m =
-          let o = one s l in
-          first_added down f c (one_flipped s) s row (slice_index places s) (place_of s) (slice_index_or columns s (pos 0)) l low (omega arith) (place s l)
-          (flag_place down (slice_index places s) (length c) block (nonzero (sym is) ∙ ap (λ n. n + cond down 0 (length c)) (sym o))) (length-set f block _)
-          (ap (λ n. bit_at (slice_index (row_of f n) (word_of s row)) (bit_in_block row (place_of s))) (omega arith) ∙ clear_bit (slice_index (row_of f block) (word_of s row)) (slice_index bits s) (bit_in_block row (place_of s)) bit (clear (sym is) s l))
-          here others
+  sample : (s : ℕ) → s < 4 → HasRow from to row s → IsSampleFlipped rule s row (slice_index_or columns s (pos 0)) down f c all_flipped
+  sample s l has =
+      flipped_at rule s row f (slice_index bits s) words block l low inside room (flipped s l) kept (slice_index places s) column (slice_index_or columns s (pos 0)) down c (place s l) (one s l) (set_bit s l ((tells s l).1 has)) within even_odd nonzero
+      (λ e. clear e s l)
 
   pub all_counted : IsRowCounted rule 4 row columns from to down f c all_flipped c
   all_counted = record {
     flags_len = length-set f block words;
     counters_len = refl;
     here = λ s k l has m.
-        subst (λ z. IsAlike (modulus rule) z (running_sum rule f c s row k +ℤ added_from columns s down row k)) (sym (sums_of_sample rule (one_flipped s) c all_flipped s (flag_same s l) row k))
-        ((added s l has).here row k (omega arith) (omega arith) m);
+        let v = sample s l has in
+        subst (λ z. IsAlike (modulus rule) z (running_sum rule f c s row k +ℤ added_from columns s down row k)) (sym (sums_of_sample rule v.once c all_flipped s v.same row k))
+        (v.added.here row k (omega arith) (omega arith) m);
     others = λ s j k l h m none. elim (has_or_not from to row s) [
-      | inl has ↦ sums_of_sample rule (one_flipped s) c all_flipped s (flag_same s l) j k ∙ (added s l has).others s j k l h m (λ _ a b. none l has (omega arith))
+      | inl has ↦ let v = sample s l has in sums_of_sample rule v.once c all_flipped s v.same j k ∙ v.added.others s j k l h m (λ _ a b. none l has (omega arith))
       | inr not ↦ sums_of_sample rule f c all_flipped s (flag_kept s l not) j k
     ];
     marked = by_rule rule refl;
@@ -229,8 +174,9 @@ module _ (rule : Rule) (row : ℕ) (columns from to : List ℤ) (down : Bool) (f
       by_rule EvenOdd is h = h
       by_rule NonZero is h = λ s j k x y z d u. elim (has_or_not from to row s) [
         | inl has ↦
-            let marked = (subst (λ r. IsAdded r s row (row + 1) (added_from columns s down) f c (one_flipped s) c) (sym is) (added s x has)).marked h in
-            flag_same s x j (k + 16 * length c) ∙ marked s j k x y z (sym (flag_same s x j k) ∙ d) (sym (flag_same s x j (k + 8 * length c)) ∙ u)
+            let v = sample s x has in
+            let marked = (subst (λ r. IsAdded r s row (row + 1) (added_from columns s down) f c v.once c) (sym is) v.added).marked h in
+            v.same j (k + 16 * length c) ∙ marked s j k x y z (sym (v.same j k) ∙ d) (sym (v.same j (k + 8 * length c)) ∙ u)
         | inr not ↦ flag_kept s x not j (k + 16 * length c) ∙ h s j k x y z (sym (flag_kept s x not j k) ∙ d) (sym (flag_kept s x not j (k + 8 * length c)) ∙ u)
       ]
 

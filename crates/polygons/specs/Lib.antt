@@ -142,6 +142,9 @@
 --   IsMissed: The edge runs through no row of a strip at that sample.
 --   AreCrossed: The bits say at which samples of a strip the edge runs through a row, and the numbers say where.
 --
+-- Placed.antt
+--   AreInOneBlock: All crossings lie in one block, each at the pixel of its bit there.
+--
 -- Apart.antt
 --   IsAbove: Both ends are at the upper border of the strip, or above it.
 --   IsBelow: Both ends are at the lower border of the strip, or below it.
@@ -241,6 +244,7 @@ pub mod Screen
 pub mod Strip
 pub mod Walking
 pub mod Crossed
+pub mod Placed
 pub mod Apart
 pub mod Runs
 pub mod Cells

@@ -32,6 +32,7 @@ mod runs;
 mod short;
 mod short_crossings;
 mod short_lanes;
+mod short_places;
 mod slope;
 mod starts;
 mod strip;

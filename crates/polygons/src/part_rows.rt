@@ -94,7 +94,7 @@ fn pixel_bits(row: usize, columns: u64x4, crossed: u64x4) -> u64x4
 /// Whether four samples count an edge by flipping these bits of their words: always by the even-odd rule, and by the
 /// nonzero rule if none of them is set.
 #[inline(always)]
-fn can_flip(rule: Rule, words: u64x4, bits: u64x4) -> bool
+pub(crate) fn can_flip(rule: Rule, words: u64x4, bits: u64x4) -> bool
     requires words { length words ≡ 4 }
     requires bits { length bits ≡ 4 }
     ensures { IsTrue result ↔

@@ -1,6 +1,6 @@
 //! Where the edges of a polygon are first crossed in the rows of a strip: each edge is looked at once, walked down by up to
 //! four samples of a pixel at once, and adds to one cell of each row that it runs through.
-ghost use Rattle.std.specs.Prelude.{◌≡◌, ℕ, ◌+◌, ◌*◌, ◌^◌, ◌<◌, ◌≤◌, ◌<ℤ◌, ◌≤ℤ◌, length, map, IsTrue};
+ghost use Rattle.std.specs.Prelude.{◌≡◌, ℕ, ◌+◌, ◌*◌, ◌^◌, ◌<◌, ◌≤◌, ◌<ℤ◌, ◌≤ℤ◌, length, map, IsTrue, IfSome};
 ghost use Rattle.grid.specs.Position.{Position, IsInBand};
 ghost use Rattle.grid.specs.Samples.{part_size, parts_of};
 ghost use Rattle.polygons.specs.Crossing.{winding};
@@ -8,6 +8,7 @@ ghost use Rattle.polygons.specs.Short.{IsShortEdge};
 ghost use Rattle.polygons.specs.Polygon.{path_edges, path_end, ring_edges};
 ghost use Rattle.polygons.specs.Rings.{position_of, end_of, corners_between, AreCornersInBand};
 ghost use Rattle.polygons.specs.Crossed.{AreCrossed};
+ghost use Rattle.polygons.specs.Placed.{AreInOneBlock};
 ghost use Rattle.polygons.specs.Runs.{corner_at, AreRunsOf, IsCrossedAsChord};
 ghost use Rattle.polygons.specs.Strip.{strip_sample};
 ghost use Rattle.polygons.specs.Rows.{direction};
@@ -25,14 +26,15 @@ use crate::rule::Rule;
 use crate::runs::Runs;
 use crate::short::is_short;
 use crate::short_crossings::ShortCrossings;
+use crate::short_places::ShortPlaces;
 use crate::starts::Starts;
 use crate::strip::Strip;
 use crate::walk::{Descent, PartWalk};
 use grid::{Point, SampleCount};
 
-/// Marks where a short edge is crossed by samples of each index of a part.
-#[inline(always)]
-fn plot_short_samples(
+/// Marks where a short edge is crossed by samples of each index of a part, one after another. Few parts need it.
+#[inline(never)]
+fn plot_short_each(
     flags: &mut [Flags],
     counters: &mut [Counters],
     rule: Rule,
@@ -60,6 +62,69 @@ fn plot_short_samples(
     }
 }
 
+/// Marks where a short edge is crossed by samples of each index of a part. All crossings lie in one block.
+#[inline(always)]
+fn plot_placed_samples(
+    flags: &mut [Flags],
+    counters: &mut [Counters],
+    rule: Rule,
+    edge: &Edge,
+    forward: bool,
+    starts: &Starts,
+    part: usize,
+    crossings: &ShortCrossings,
+    places: &ShortPlaces,
+)
+    requires short { IsShortEdge edge.now }
+    requires runs_down { edge.now.a.y ≤ℤ edge.now.b.y }
+    requires part { part < parts_of starts.now.strip.count }
+    requires counters { HasCounters rule flags.old counters.old }
+    requires crossings { AreCrossed starts.now.strip edge.now crossings.now }
+    requires places { AreInOneBlock crossings.now places.now }
+    ensures { IsPlotted rule starts.now.strip part (λ p. signed forward (direction edge.now p)) flags.old counters.old
+        flags.new counters.new }
+{
+    if !places.flip(
+        flags, counters, rule, edge, forward, starts, part, crossings,
+    ) {
+        plot_short_each(
+            flags, counters, rule, edge, forward, starts, part, crossings,
+        );
+    }
+}
+
+/// Marks where a short edge is crossed by samples of each index of a part.
+#[inline(always)]
+fn plot_short_samples(
+    flags: &mut [Flags],
+    counters: &mut [Counters],
+    rule: Rule,
+    edge: &Edge,
+    forward: bool,
+    starts: &Starts,
+    part: usize,
+    crossings: &ShortCrossings,
+    places: &Option<ShortPlaces>,
+)
+    requires short { IsShortEdge edge.now }
+    requires runs_down { edge.now.a.y ≤ℤ edge.now.b.y }
+    requires part { part < parts_of starts.now.strip.count }
+    requires counters { HasCounters rule flags.old counters.old }
+    requires crossings { AreCrossed starts.now.strip edge.now crossings.now }
+    requires places { IfSome places.now (λ p. AreInOneBlock crossings.now p) }
+    ensures { IsPlotted rule starts.now.strip part (λ p. signed forward (direction edge.now p)) flags.old counters.old
+        flags.new counters.new }
+{
+    match places {
+        Some(placed) => plot_placed_samples(
+            flags, counters, rule, edge, forward, starts, part, crossings, placed,
+        ),
+        None => plot_short_each(
+            flags, counters, rule, edge, forward, starts, part, crossings,
+        ),
+    }
+}
+
 /// Marks where a short edge is crossed by samples of a part.
 #[inline(always)]
 fn plot_short_part(
@@ -69,12 +134,14 @@ fn plot_short_part(
     starts: &Starts,
     part: usize,
     crossings: &ShortCrossings,
+    places: &Option<ShortPlaces>,
 )
     requires short { IsShortEdge edge.now }
     requires runs_down { edge.now.a.y ≤ℤ edge.now.b.y }
     requires part { part < parts_of starts.now.strip.count }
     requires room { HasParts starts.now.strip cells.old }
     requires crossings { AreCrossed starts.now.strip edge.now crossings.now }
+    requires places { IfSome places.now (λ p. AreInOneBlock crossings.now p) }
     ensures { IsPartPlotted starts.now.strip part (λ p. signed forward (direction edge.now p)) cells.old cells.new }
 {
     let from = part * cells.flagged;
@@ -88,6 +155,7 @@ fn plot_short_part(
         starts,
         part,
         crossings,
+        places,
     );
 }
 
@@ -109,8 +177,9 @@ fn plot_short<const PARTS: usize>(
     if crossings.bits == 0 {
         return;
     }
+    let places = ShortPlaces::of(&crossings);
     for part in 0..PARTS {
-        plot_short_part(cells, edge, forward, starts, part, &crossings);
+        plot_short_part(cells, edge, forward, starts, part, &crossings, &places);
     }
 }
 

@@ -5,3 +5,5 @@ mod Reversed
 mod Walks
 mod Wide
 mod Wider
+mod Lines
+mod Rows

@@ -62,6 +62,16 @@
 --
 -- Laws.antt
 --   widened: The style with another width.
+--
+-- Lines.antt
+--   edge_function: The edge function of the line at p: 0 at a point of the line, and linear in p.
+--   IsOnSide: p is on this side of the line.
+--   HasColumn: The span has this column.
+--
+-- Pieces.antt
+--   IsInPair: p is on both sides.
+--   IsRound: p is in the disc, if there is one.
+--   IsInPiece: p is in this part of a stroke: on all of its sides, and in its disc.
 
 pub mod Border
 pub mod Segment
@@ -72,3 +82,5 @@ pub mod Path
 pub mod Stroke
 pub mod Walking
 pub mod Laws
+pub mod Lines
+pub mod Pieces

@@ -1,7 +1,7 @@
 ghost use Rattle.std.specs.Prelude.{◌≡◌, ◌↔◌, ℤ, ◌≤◌, ◌^◌, ◌≤ℤ◌, IsTrue};
 ghost use Rattle.grid.specs.Bounds.{IsWithin};
 ghost use Rattle.strokes.specs.Border as border;
-ghost use Rattle.strokes.specs.Border.{Owns, IsAtMost, IsWithinHalf};
+ghost use Rattle.strokes.specs.Border.{Owns, IsAtMost, IsWithinRoot, IsWithinHalf};
 
 /// Whether the side of a border on which an edge function is less owns the border, where the edge function grows in this
 /// direction: the top-left rule of Direct3D 11.
@@ -36,5 +36,22 @@ pub fn offset_bound(width: u32, square: u64, is_owned: bool) -> i64
         half - 1
     } else {
         half
+    }
+}
+
+/// The threshold of a circle's borders in a row of samples, by what the square of its diameter leaves of twice the
+/// distance from the row: how far right or left a point of the row is from the center is on this side if and only if it is
+/// at most the threshold.
+pub(crate) fn root_bound(square: u64, is_owned: bool) -> i64
+    requires { square ≤ 2 ^ 53 }
+    ensures meaning { (f : ℤ) → (f ≤ℤ result) ↔ IsWithinRoot square is_owned f }
+    ensures size { IsWithin (2 ^ 33) result }
+{
+    let root = square.isqrt();
+    let bound = (root / 2) as i64;
+    if root % 2 == 0 && root * root == square && !is_owned {
+        bound - 1
+    } else {
+        bound
     }
 }

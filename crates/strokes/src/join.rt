@@ -58,7 +58,7 @@ fn is_in_miter(a: Point, b: Point, c: Point, width: u32, p: Point) -> bool
 }
 
 /// Whether the corner abc has a miter.
-fn is_mitered(join: Join, a: Point, b: Point, c: Point) -> bool
+pub(crate) fn is_mitered(join: Join, a: Point, b: Point, c: Point) -> bool
     requires { IsLimit join }
     ensures { IsTrue result ↔ IsMitered join a b c }
 {

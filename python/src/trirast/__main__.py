@@ -28,7 +28,7 @@ def facts() -> Iterator[Tuple[str, Any]]:
 
 def level_of(path: str, machine: str) -> str:
     """The processors for which a library is, by the folder in which the loader finds that of the second level."""
-    if machine != "x86_64":
+    if machine not in ("x86_64", "AMD64"):
         return machine
     return "x86-64-v3" if "x86-64-v3" in os.path.realpath(path).split(os.sep) else "x86-64-v2"
 

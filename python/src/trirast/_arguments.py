@@ -1,7 +1,7 @@
 """What callers pass, as numbers. `_buffers` does the same for arrays.
 
 Each function takes the name of the parameter. Its message is that name, what is wanted and what was passed: "threads:
-at least 1, and not 0". Nothing is rounded, cut or guessed.
+expected at least 1, got 0". Nothing is rounded, cut or guessed.
 """
 
 import math
@@ -10,10 +10,14 @@ import reprlib
 from numbers import Complex, Real
 from typing import Any, Callable, Collection, Mapping, SupportsIndex, Tuple, TypeVar
 
+from ._color_names import TEXTS, channels_of
+
 Choice = TypeVar("Choice")
 NUMBERS = 1 << 32
 LONGEST = 60
 CHANNEL = " of 0 to 255"
+# What to do with the colours of matplotlib.
+OF_FLOATS = "; of matplotlib's colours of 0 to 1, pass cmap(values, bytes=True) or 255 times as much, rounded"
 # Python makes no text of an integer of more bits than some 14,000.
 MOST_BITS = 4096
 
@@ -42,7 +46,7 @@ def integer(name: str, value: SupportsIndex, unit: str = "") -> int:
     try:
         return operator.index(value)
     except TypeError:
-        raise TypeError(f"{name}: an integer{unit}, and not {shown(value)}") from None
+        raise TypeError(f"{name}: expected an integer{unit}, got {shown(value)}") from None
 
 
 def number(name: str, value: SupportsIndex, otherwise: int = NUMBERS - 1) -> int:
@@ -59,7 +63,7 @@ def between(
     """An integer in a range. Raises ValueError at any other, or what is made of the message."""
     given = integer(name, value, unit)
     if not least <= given <= greatest:
-        raise refused(f"{name}: {least} to {greatest}{unit}, and not {shown(given)}")
+        raise refused(f"{name}: expected {least} to {greatest}{unit}, got {shown(given)}")
     return given
 
 
@@ -76,11 +80,11 @@ def real(name: str, value: Any) -> float:
         # float would read a text.
         given = math.ldexp(value, 0)
     except TypeError:
-        raise TypeError(f"{name}: a real number, and not {shown(value)}") from None
+        raise TypeError(f"{name}: expected a real number, got {shown(value)}") from None
     except OverflowError:
         given = math.inf
     if not math.isfinite(given):
-        raise ValueError(f"{name}: a finite float, and not {shown(value)}")
+        raise ValueError(f"{name}: expected a finite float, got {shown(value)}")
     return given
 
 
@@ -88,7 +92,7 @@ def thread_count(threads: SupportsIndex, name: str = "threads") -> int:
     """The number of threads of a call. Raises ValueError if it is less than 1."""
     given = integer(name, threads)
     if given < 1:
-        raise ValueError(f"{name}: at least 1, and not {shown(given)}")
+        raise ValueError(f"{name}: expected at least 1, got {shown(given)}")
     return given
 
 
@@ -109,17 +113,53 @@ def of_length(name: str, values: Any, length: int) -> Tuple[Any, ...]:
         found = tuple(values) if count == length else ()
     # Python does not look into a memoryview of several dimensions.
     except (TypeError, NotImplementedError):
-        raise TypeError(f"{name}: a sequence of {length} values, and not {shown(values)}") from None
+        raise TypeError(f"{name}: expected a sequence of {length} values, got {shown(values)}") from None
     if count != length or len(found) != length:
-        raise ValueError(f"{name}: {length} values, and not {len(found) if found else count}")
+        raise ValueError(f"{name}: expected {length} values, got {len(found) if found else count}")
     return found
+
+
+def each_of(name: str, values: Any, length: int, read: Callable[[str, Any], Choice]) -> Tuple[Choice, ...]:
+    """What is read of each value of a sequence of as many, by a name with its place."""
+    return tuple(read(f"{name}[{place}]", value) for place, value in enumerate(of_length(name, values, length)))
 
 
 def color_of(name: str, values: Any, *lengths: int) -> Tuple[int, ...]:
     """As many channels as one of the lengths, the first of which counts in a message: 0 to 255 each. Raises ValueError
     at any other."""
+    if isinstance(values, str):
+        return of_text(name, values, lengths)
     found = next((each for each in lengths if has_length(values, each)), lengths[0])
-    return tuple(between(name, integer(name, channel, CHANNEL), 0, 255) for channel in of_length(name, values, found))
+    return each_of(name, values, found, channel_of)
+
+
+def of_text(name: str, text: str, lengths: Tuple[int, ...]) -> Tuple[int, ...]:
+    """The channels of a name of CSS or of a text as #rrggbb, opaque if they have to be four."""
+    found = channels_of(str.__str__(text))
+    if found is None:
+        raise ValueError(f"{name}: expected {TEXTS}, got {shown(text)}")
+    if len(found) in lengths:
+        return found
+    if len(found) > max(lengths):
+        raise ValueError(f"{name}: expected a colour without alpha, got {shown(text)}")
+    return (*found, 255)
+
+
+def without_texts(name: str, colors: Any) -> Any:
+    """Colours as they are, but a list with texts as a list of channels."""
+    if not isinstance(colors, (list, tuple)) or not any(isinstance(each, str) for each in colors):
+        return colors
+    return [(*color_of(f"{name}[{row}]", each, 3, 4), 255)[:4] for row, each in enumerate(colors)]
+
+
+def channel_of(name: str, value: Any) -> int:
+    """A channel. Raises ValueError at one out of range."""
+    try:
+        return between(name, integer(name, value, CHANNEL), 0, 255)
+    except TypeError as error:
+        if isinstance(value, Real):
+            raise TypeError(f"{error}{OF_FLOATS}") from None
+        raise
 
 
 def flag(name: str, value: Any) -> int:
@@ -128,7 +168,7 @@ def flag(name: str, value: Any) -> int:
         return int(bool(value))
     if isinstance(value, int) and value in (0, 1):
         return int(value)
-    raise TypeError(f"{name}: True or False, and not {shown(value)}")
+    raise TypeError(f"{name}: expected True or False, got {shown(value)}")
 
 
 def named(name: str, names: Collection[str], value: Any) -> int:
@@ -136,7 +176,7 @@ def named(name: str, names: Collection[str], value: Any) -> int:
     # Of a class derived from str the text itself, whatever it says of its hash.
     given = str.__str__(value) if isinstance(value, str) else None
     if given is None or given not in names:
-        raise ValueError(f"{name}: one of {', '.join(names)}, and not {shown(value)}")
+        raise ValueError(f"{name}: expected one of {', '.join(names)}, got {shown(value)}")
     return list(names).index(given)
 
 

@@ -15,10 +15,10 @@ def draws_of(draws: Any) -> List[Draw]:
     try:
         found = list(draws)
     except (TypeError, NotImplementedError):
-        raise TypeError(f"draws: a sequence of trirast.Draw, and not {shown(draws)}") from None
+        raise TypeError(f"draws: expected a sequence of trirast.Draw, got {shown(draws)}") from None
     for number, each in enumerate(found):
         if not isinstance(each, Draw):
-            raise TypeError(f"draws: draw {number}: a trirast.Draw, and not {shown(each)}")
+            raise TypeError(f"draws[{number}]: expected a trirast.Draw, got {shown(each)}")
     return found
 
 

@@ -45,7 +45,7 @@ def blend_in_c(blend: Union[Preset, Blend]) -> CBlend:
     if isinstance(blend, Blend):
         return numbered(blend)
     if not isinstance(blend, str):
-        raise TypeError(f"blend: a name or a trirast.Blend, and not {shown(blend)}")
+        raise TypeError(f"blend: expected a name or a trirast.Blend, got {shown(blend)}")
     return numbered(chosen("blend", BLENDS, blend))
 
 
@@ -53,5 +53,5 @@ def numbered(blend: Blend) -> CBlend:
     """The numbers of a blend."""
     numbers: Dict[str, Any] = {}
     for (name, value), known in zip(zip(Blend._fields, blend[:6]), 2 * KNOWN_NUMBERS):
-        numbers[name] = chosen(f"blend: {name}", known, value)
-    return CBlend(**numbers, constant=color_of("blend: constant", blend.constant, 4))
+        numbers[name] = chosen(f"blend.{name}", known, value)
+    return CBlend(**numbers, constant=color_of("blend.constant", blend.constant, 4))

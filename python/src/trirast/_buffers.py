@@ -38,13 +38,13 @@ def refusal(name: str, wanted: str, view: memoryview, is_written: bool) -> Value
     if is_written:
         given += ", read-only" * view.readonly + ", not contiguous" * (not view.c_contiguous)
     view.release()
-    return ValueError(f"{name}: {wanted}, and not {given}")
+    return ValueError(f"{name}: expected {wanted}, got {given}")
 
 
 def refuse_masked(name: str, value: Any) -> None:
     """Raises TypeError at a masked array of numpy: its buffer has what is masked too."""
     if hasattr(value, "mask") and hasattr(value, "filled"):
-        raise TypeError(f"{name}: an array without a mask, and not a masked one; use filled")
+        raise TypeError(f"{name}: expected an array without a mask, got a masked one; use filled")
 
 
 def buffer_of(value: Any) -> Optional[memoryview]:
@@ -119,7 +119,7 @@ def view_of(name: str, value: Any, wanted: str) -> memoryview:
     try:
         return memoryview(value)
     except (TypeError, ValueError, BufferError):
-        raise TypeError(f"{name}: {wanted}, and not {shown(value)}") from None
+        raise TypeError(f"{name}: expected {wanted}, got {shown(value)}") from None
 
 
 def readable(name: str, value: Any, *forms: Form) -> Tuple[Form, Buffer]:
@@ -128,7 +128,7 @@ def readable(name: str, value: Any, *forms: Form) -> Tuple[Form, Buffer]:
     wanted = " or ".join(map(str, forms))
     view = buffer_of(value)
     if view is None:
-        raise TypeError(f"{name}: {wanted}, and not {shown(value)}")
+        raise TypeError(f"{name}: expected {wanted}, got {shown(value)}")
     for form in forms:
         if form.fits(view):
             return form, Buffer(view if view.c_contiguous else memoryview(view.tobytes()))

@@ -1,10 +1,11 @@
 """Who may call on a canvas: one thread at a time."""
 
-import os
 from sys import is_finalizing
 from threading import RLock
 from typing import Any
 from weakref import WeakSet
+
+from ._system import at_fork
 
 
 class Calls:
@@ -42,7 +43,7 @@ class Lost:
 
     def __enter__(self) -> None:
         raise RuntimeError(
-            "another thread was drawing on this canvas when the process was forked, or when it began to end; make "
+            "canvas: expected no call when the process was forked or began to end, got one of another thread; make "
             "another canvas"
         )
 
@@ -59,4 +60,4 @@ def leave_others() -> None:
         calls.leave_others()
 
 
-os.register_at_fork(after_in_child=leave_others)
+at_fork(after_in_child=leave_others)

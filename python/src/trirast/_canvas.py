@@ -6,7 +6,9 @@ import sys
 from array import array
 from typing import Any, Callable, Dict, List, Literal, Optional, Sequence, SupportsFloat, SupportsIndex, Tuple, Union
 
-from ._arguments import between, chosen, color_of, flag, integer, named, number, of_length, shown, signed, thread_count
+from ._arguments import (
+    between, chosen, color_of, each_of, flag, integer, named, number, of_length, shown, signed, thread_count
+)
 from ._batch import batch_of, draws_of
 from ._blend import Blend, Preset
 from ._boxes import add_boxes
@@ -25,7 +27,7 @@ from ._patterns import COUNTS
 from ._picture import Path, Picture, save_png
 from ._png import png_chunks
 from ._records import HIGH, LOW, POSITION, UNIT, table_of
-from ._rings import RULES, Rule, polygons_of, rings_of, rows_crossed, scratch_of
+from ._rings import RULES, Rule, kept_scratch, polygons_of, rings_of, rows_crossed
 from ._threads import share
 from ._values import OF_DRAWS, BatchValues, PolygonValues, point_values
 from ._version import INTERFACE
@@ -74,7 +76,7 @@ class Canvas:
         memory: Optional[Any] = None,
     ) -> None:
         channels = channels_of(alpha)
-        x, y = (signed("origin", each) for each in of_length("origin", origin, 2))
+        x, y = each_of("origin", origin, 2, signed)
         size = Canvas.size(width, height, samples)
         kind = integer("width", width), integer("height", height), integer("samples", samples), channels
         self._set(kind, (x, y), aligned(size) if memory is None else given(memory, size), size)
@@ -125,18 +127,19 @@ class Canvas:
         # 0 is the default of C.
         size: int = library().trirast_canvas_size(CCanvas(0, *numbers)) if numbers[2] else 0
         if not size:
-            wanted = f"a canvas has 1 to {MAX_SIDE} pixels a side and {COUNTS} samples a pixel"
+            wanted = f"1 to {MAX_SIDE} pixels a side and {COUNTS} samples a pixel"
             sides = " by ".join(shown(integer(name, side)) for name, side in (("width", width), ("height", height)))
             found = f"{sides} and {shown(integer('samples', samples))}"
-            raise CanvasError.of_line(f"{wanted}, and not {found}; larger: trirast.poster")
+            raise CanvasError.of_line(f"canvas: expected {wanted}, got {found}; trirast.poster draws larger ones")
         return size
 
     def clear(
-        self, color: Sequence[SupportsIndex] = (0, 0, 0, 0), depth: SupportsIndex = 65535, *, threads: SupportsIndex = 1
+        self, color: Union[str, Sequence[SupportsIndex]] = (0, 0, 0, 0), depth: SupportsIndex = 65535, *,
+        threads: SupportsIndex = 1
     ) -> None:
-        """Makes each sample one of this colour, red, green, blue and alpha of 0 to 255, and of this depth, 0 to 65535.
-        Without alpha in the colour it is 255; a canvas without alpha does not look at it. Raises ValueError at any
-        other."""
+        """Makes each sample one of this colour, and of this depth, 0 to 65535. The colour is red, green, blue and alpha
+        of 0 to 255, or a text as "navy" or "#000080". Without alpha in the colour it is 255; a canvas without alpha
+        does not look at it. Raises ValueError at any other."""
         red, green, blue, *alpha = color_of("color", color, 3, 4)
         clear = CClear(red, green, blue, *(alpha or [255]), between("depth", depth, 0, 65535))
         self._each(threads, lambda piece, _top: library().trirast_canvas_clear(piece, clear))
@@ -301,9 +304,23 @@ class Canvas:
             add_boxes(polygons)
         with adding(BatchError, PolygonValues(polygons, *(ids or (None,))).of, without=OF_DRAWS):
             self._each(
-                threads, lambda piece, _top: call(piece, polygons, *ids, scratch_of(size), size, CError()),
+                threads, lambda piece, _top: call(piece, polygons, *ids, kept_scratch(size), size, CError()),
                 is_long=is_long,
             )
+
+    def draw_geometries(
+        self, geometries: Any, colors: Optional[Any] = None, *, window: Optional[Sequence[SupportsFloat]] = None,
+        **state: Any
+    ) -> None:
+        """Draws geometries of shapely, or a series of geopandas, as polygons in these colours, one for all or one for
+        each. The canvas shows a `window` in their units, x and y of its lower left corner and then of its upper right
+        one, or their bounds. The state is that of `draw_polygons`. Geometries without an area draw nothing. Needs
+        numpy. Raises ValueError if the window encloses nothing, and TypeError at what is no geometry."""
+        from .maps._arrays import bounds_of, placed
+
+        shown_window = bounds_of(geometries) if window is None else window
+        polygons = placed(geometries, shown_window, (self.width, self.height))
+        self.draw_polygons(polygons, colors=colors, **state)
 
     def rgb(self, out: Optional[Any] = None, *, threads: SupportsIndex = 1) -> Any:
         """The colours, of the shape (height, width, 3): a numpy array, or without numpy a memoryview;
@@ -380,7 +397,7 @@ class Canvas:
             ids = np.stack([self.ids(sample, threads=threads) for sample in range(self.samples)])
             return fragments_of(ids, self.origin, vertices, triangles, w, rate)
         column, row = (
-            between(f"tile: {name}", each, 0, (side - 1) // TILE_SIZE, TileError.of_line)
+            between(f"tile.{name}", each, 0, (side - 1) // TILE_SIZE, TileError.of_line)
             for name, each, side in zip(("column", "row"), of_length("tile", tile, 2), (self.width, self.height))
         )
         origin = self.origin[0] + column * TILE_SIZE, self.origin[1] + row * TILE_SIZE
@@ -395,11 +412,11 @@ class Canvas:
         in the tile of the fragments, or in the whole canvas. Depths stay, and so does alpha: 255 where ids were drawn,
         and elsewhere the one that `clear` stored."""
         if not isinstance(fragments, Fragments):
-            raise TypeError(f"fragments: a trirast.Fragments, and not {shown(fragments)}")
+            raise TypeError(f"fragments: expected a trirast.Fragments, got {shown(fragments)}")
         wanted = (self.samples, *self._sides(fragments.tile))
         if fragments.index.shape != wanted:
-            what = "samples, height and width"
-            raise ValueError(f"fragments: of a canvas of the same {what}, {wanted}, and not {fragments.index.shape}")
+            what = "the samples, height and width of this canvas"
+            raise ValueError(f"fragments: expected {what}, {wanted}, got {fragments.index.shape}")
         pictures = fragments.picture(colors, background)
         if fragments.tile is not None:
             self._store_tile(fragments.tile, pictures)
@@ -448,7 +465,7 @@ class Canvas:
         interface, kind, origin, samples = state.pop("_canvas")
         if interface != INTERFACE or len(samples) != library().trirast_canvas_size(CCanvas(0, *kind)):
             raise ValueError(
-                f"a canvas of interface {interface}, whose samples may lie in another way than those of {INTERFACE}"
+                f"canvas: expected one of interface {INTERFACE}, got {interface}, whose samples may lie in another way"
             )
         memory, first = aligned(len(samples))
         ctypes.memmove(ctypes.addressof(memory) + first, samples, len(samples))
@@ -497,14 +514,14 @@ class Canvas:
         """Raises ValueError at a buffer in the memory of the samples."""
         end = self._first + self._bytes
         if buffer.address < end and self._first < buffer.address + buffer.size:
-            raise ValueError(f"{name}: memory apart from that of the canvas")
+            raise ValueError(f"{name}: {APART}")
 
     def _check_vertices_apart(self, vertices: Any) -> None:
         """Raises ValueError at an array of numpy in the memory of the samples."""
         numpy = sys.modules.get("numpy")
         if numpy is not None and isinstance(vertices, numpy.ndarray):
             if numpy.may_share_memory(vertices, numpy.frombuffer(self._memory, numpy.uint8, self._bytes)):
-                raise ValueError("vertices: memory apart from that of the canvas")
+                raise ValueError(f"vertices: {APART}")
 
     def _rows(self, name: str, buffer: Buffer, call: Any, chosen: int, unit: int, threads: SupportsIndex) -> None:
         """Makes a call on the rows of pixels of a buffer: `chosen` is their format, or a sample, and `unit` the bytes
@@ -533,6 +550,7 @@ def of_sample(call: Any, sample: int) -> Any:
     return lambda piece, format, *buffer: call(piece, sample, format, *buffer)
 
 
+APART = "expected memory apart from that of the canvas, got memory of its samples"
 # What `_set` makes, which a copy makes anew.
 OWN = frozenset(("_memory", "_bytes", "_first", "_whole", "_calls"))
 
@@ -548,8 +566,7 @@ def edges_at(
     For a point inside the edge functions have the sign of the doubled area, and each over that area is the weight of
     its corner. Raises PositionError outside of -8388608 to 8388607."""
     corners = [
-        between(name, each, LOW, HIGH, PositionError.of_line, POSITION)
-        for name, position in (("a", a), ("b", b), ("c", c)) for each in of_length(name, position, 2)
+        each for name, position in (("a", a), ("b", b), ("c", c)) for each in each_of(name, position, 2, coordinate)
     ]
     table = table_of("points", points, PLACE)
     places = table.fill(bytearray(8 * table.count), 8)
@@ -562,6 +579,11 @@ def edges_at(
         with adding(PositionError, lambda _error: point_values(places)):
             library().trirast_edges_at(CCorners(*corners), given_points.address, 0, table.count, written.address)
     return found
+
+
+def coordinate(name: str, value: SupportsIndex) -> int:
+    """A coordinate of a corner. Raises PositionError at one outside of the guard band."""
+    return between(name, value, LOW, HIGH, PositionError.of_line, POSITION)
 
 
 # ---- Memory
@@ -582,7 +604,7 @@ def given(memory: Any, size: int) -> Tuple[Any, int]:
     """The caller's own memory."""
     own = raw("memory", memory, size)
     if own.address % 2:
-        raise ValueError("memory: an address that is even, as any memory of an allocation of its own has")
+        raise ValueError("memory: expected an even address, got an odd one; allocate it for itself")
     return own.memory, 0
 
 

@@ -2,7 +2,7 @@
 
 from typing import Any, List, NamedTuple, Sequence, SupportsIndex, Tuple
 
-from ._arguments import between, named, of_length, shown
+from ._arguments import between, each_of, named, of_length, shown
 from ._buffers import refuse_masked
 from ._cut_triangle import MADE, Corner, Ears, Plane, kept
 from ._numpy import np
@@ -41,7 +41,7 @@ class Clipped(NamedTuple):
         given = np.asarray(values)
         wanted = len(self.vertices) - len(self.cuts)
         if given.ndim == 0 or len(given) != wanted:
-            raise ValueError(f"values: {wanted} rows, one for each position, and not the shape {given.shape}")
+            raise ValueError(f"values: expected {wanted} rows, one for each position, got the shape {given.shape}")
         return np.concatenate([given, np.einsum("ck,ck...->c...", self.weights, given[self.corners])])
 
 
@@ -52,9 +52,9 @@ class View:
         self, viewport: Sequence[SupportsIndex], near_plane: int, sides: int, depths: Sequence[SupportsIndex]
     ) -> None:
         left, top, width, height = of_length("viewport", viewport, 4)
-        starts = tuple(between("viewport", each, -LARGEST, LARGEST) for each in (left, top))
-        sizes = tuple(between("viewport", each, 1, LARGEST) for each in (width, height))
-        self.near_depth, far_depth = (between("depths", each, 0, 65535) for each in of_length("depths", depths, 2))
+        starts = tuple(between(f"viewport[{k}]", each, -LARGEST, LARGEST) for k, each in enumerate((left, top)))
+        sizes = tuple(between(f"viewport[{k}]", each, 1, LARGEST) for k, each in enumerate((width, height), 2))
+        self.near_depth, far_depth = each_of("depths", depths, 2, depth_of)
         self.least_depth, self.greatest_depth = sorted((self.near_depth, far_depth))
         self.near_factor = float(near_plane)
         self.scales = (*(UNIT / 2 * size for size in sizes), (far_depth - self.near_depth) / (1 + self.near_factor))
@@ -210,15 +210,20 @@ def places_of(positions: Any) -> Array:
     try:
         given = np.asarray(positions)
     except ValueError:
-        raise ValueError("positions: rows of x, y, z and w, and not rows of several lengths") from None
+        raise ValueError("positions: expected rows of x, y, z and w, got rows of several lengths") from None
     if given.dtype.kind not in "fiu":
         what = shown(positions) if given.ndim == 0 else given.dtype
-        raise TypeError(f"positions: rows of x, y, z and w, floats or integers, and not {what}")
+        raise TypeError(f"positions: expected rows of x, y, z and w, floats or integers, got {what}")
     if given.size == 0:
         return np.zeros((4, 0))
     if given.ndim != 2 or given.shape[1] != 4:
-        raise ValueError(f"positions: rows of x, y, z and w, and not the shape {given.shape}")
+        raise ValueError(f"positions: expected rows of x, y, z and w, got the shape {given.shape}")
     return np.ascontiguousarray(given.T, np.float64)
+
+
+def depth_of(name: str, value: Any) -> int:
+    """A depth. Raises ValueError at one out of range."""
+    return between(name, value, 0, 65535)
 
 
 def check_indices(rows: Array, count: int, of_what: str) -> None:
@@ -227,4 +232,4 @@ def check_indices(rows: Array, count: int, of_what: str) -> None:
     if len(wrong):
         row, column = wrong[0].tolist()
         wanted = f"an index of {count} {of_what}"
-        raise ValueError(f"triangles: row {row}, index {column}: {wanted}, and not {rows[row, column]}")
+        raise ValueError(f"triangles[{row}][{column}]: expected {wanted}, got {rows[row, column]}")

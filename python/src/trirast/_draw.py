@@ -4,7 +4,7 @@ import sys
 from array import array
 from typing import Any, Optional, Sequence, SupportsIndex, Tuple, TypedDict, Union
 
-from ._arguments import between, flag, named, of_length, shown, signed
+from ._arguments import between, each_of, flag, named, shown, signed
 from ._blend import Blend, Preset, blend_in_c
 from ._declarations import CDraw
 from ._numbers import CULLS, DEPTH_TESTS, TOPOLOGIES, Cull, DepthTest
@@ -56,7 +56,8 @@ class Draw:
     ) -> None:
         given = [(kind, values) for kind, values in enumerate((triangles, strip, quads)) if values is not None]
         if len(given) > 1:
-            raise ValueError("a draw has one of triangles, strip and quads")
+            both = " and ".join(TOPOLOGIES[kind][0] for kind, _values in given)
+            raise ValueError(f"draw: expected one of triangles, strip and quads, got {both}")
         self._topology, indices = given[0] if given else (0, None)
         name, length = TOPOLOGIES[self._topology]
         self._vertices = vertices_of(vertices, colors, depth)
@@ -111,7 +112,7 @@ def state_in_c(
     return (
         named("cull", CULLS, cull), named("depth_test", DEPTH_TESTS, depth_test), flag("depth_write", depth_write),
         kept_of(keep), int(scissor is not None), ~between("sample_mask", sample_mask, 0, EVERY_SAMPLE) & EVERY_SAMPLE,
-        *(signed("scissor", side) for side in of_length("scissor", (0, 0, 0, 0) if scissor is None else scissor, 4)),
+        *each_of("scissor", (0, 0, 0, 0) if scissor is None else scissor, 4, signed),
         blend_in_c(blend),
     )
 
@@ -126,5 +127,5 @@ def in_order(count: int) -> Copy:
 def kept_of(keep: Any) -> int:
     """The bits of channels that are not written. Raises ValueError at what is no channel, or is one twice."""
     if not isinstance(keep, str) or not set(keep) <= set(CHANNELS) or len(set(keep)) < len(keep):
-        raise ValueError(f"keep: some of the letters r, g, b and a, and not {shown(keep)}")
+        raise ValueError(f"keep: expected some of the letters r, g, b and a, got {shown(keep)}")
     return sum(1 << CHANNELS.index(letter) for letter in keep)

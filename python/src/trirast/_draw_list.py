@@ -11,7 +11,7 @@ from ._errors import LimitError, TileSizeError
 from ._ffi import library, memory_of
 from ._numbers import MAX_LIST_BYTES
 from ._picture import ImageInfo, Picture, memory_for
-from ._threads import share, with_stack
+from ._threads import leave, share, with_stack
 
 TILE_SIZES = (8, 16, 32, 64)
 # A triangle takes at least two bytes of a list, as the index of a strip. Where triangles as large as the picture meet
@@ -20,6 +20,8 @@ LONG_PIXELS = 1 << 29
 TRIANGLE_BYTES, MAX_TRIANGLES = 2, 65536
 # What takes longer is drawn in parts of so many seconds. Each reads the list, in a tenth of its time at most.
 PART_SECONDS, READINGS = 0.5, 10
+# Lists of as many bytes are read in some tenths of a second, also those with an error.
+QUICK_BYTES = 1 << 20
 DrawList = Union[bytes, bytearray, memoryview, str, Dict[str, Any], List[Any]]
 
 
@@ -67,11 +69,12 @@ def parts_of_long(draw_range: Callable[[int, int], None], rows: int, reading: fl
 
 @with_stack
 def draw_file(draw_list: DrawList, tile_size: SupportsIndex = 32) -> bytes:
-    """The whole file of a draw list's picture, PPM or PGM, header and pixels, on the calling thread.
-    Raises an Error."""
+    """The whole file of a draw list's picture, PPM or PGM, header and pixels, drawn by one thread. An interrupt need
+    not wait for it: drawing goes on alone, and the interpreter ends after it. Raises an Error."""
     size, data = tile_size_of(tile_size), as_bytes(draw_list)
     file = bytearray(read_image_info(data).file_bytes)
-    library().trirast_list_draw(data, len(data), size, memory_of(memoryview(file)), len(file), CError())
+    memory = memory_of(memoryview(file))
+    leave(lambda: library().trirast_list_draw(data, len(data), size, memory, len(file), CError()))
     return bytes(file)
 
 
@@ -85,7 +88,7 @@ def tile_size_of(given: SupportsIndex) -> int:
     """A tile size. Raises TileSizeError at any other."""
     size = integer("tile_size", given)
     if size not in TILE_SIZES:
-        raise TileSizeError.of_line(f"tile_size: 8, 16, 32 or 64 pixels, and not {shown(size)}")
+        raise TileSizeError.of_line(f"tile_size: expected 8, 16, 32 or 64 pixels, got {shown(size)}")
     return size
 
 
@@ -93,7 +96,7 @@ def as_bytes(draw_list: DrawList) -> bytes:
     """The text of a draw list. Raises LimitError if it is too long."""
     data = text_of(draw_list)
     if len(data) > MAX_LIST_BYTES:
-        raise LimitError.of_line(f"draw_list: at most {MAX_LIST_BYTES} bytes, and not {len(data)}")
+        raise LimitError.of_line(f"draw_list: expected at most {MAX_LIST_BYTES} bytes, got {len(data)}")
     return data
 
 
@@ -108,8 +111,16 @@ def text_of(draw_list: DrawList) -> bytes:
 
 def read_image_info(data: bytes) -> ImageInfo:
     info = CImageInfo()
-    library().trirast_list_info(data, len(data), info, CError())
+    read(data, lambda: library().trirast_list_info(data, len(data), info, CError()))
     return ImageInfo(info.width, info.height, info.pixel_bytes, info.header_bytes, info.file_bytes)
+
+
+def read(data: bytes, call: Callable[[], Any]) -> None:
+    """Makes a call that reads a list. An interrupt need not wait for one that is long."""
+    if len(data) > QUICK_BYTES:
+        leave(call)
+    else:
+        call()
 
 
 def tile_row_ranges(rows: int, threads: int) -> List[Tuple[int, int]]:

@@ -141,6 +141,5 @@ def adding(kind: Type[Kind], values_of: Callable[[Kind], str], without: str = ""
     try:
         yield
     except kind as error:
-        line, values = str(error).replace(without, ""), values_of(error)
-        error.args = (f"{line}: {values}" if values else line,)
+        error.args = (str(error).replace(without, "") + values_of(error),)
         raise

@@ -7,16 +7,21 @@ else the installed one.
 
 import ctypes
 import os
+import sys
 from functools import lru_cache
 from typing import Any, Tuple
 
 from ._declarations import OTHERS, POINTER, STATUSES, WORD, CError, to
 from ._errors import error_of
 from ._numbers import ERROR_MESSAGE_SIZE as MESSAGE_SIZE
+from ._system import file_on_windows
 from ._version import INTERFACE
 
 HOW_TO_GET_IT = "run make library in the repository of trirast, then set TRIRAST_LIBRARY to its lib/libtrirast.so"
-SHARED = f"libtrirast.so.{INTERFACE}"
+# The files by which the library is loaded, the first that is there. load.so is empty and needs the library, so that the
+# loader takes the one for the processor's level. The last is the library itself.
+BY_SYSTEM = {"win32": ("trirast.dll",), "darwin": ("libtrirast.dylib",)}
+FILES = BY_SYSTEM.get(sys.platform, ("load.so", f"libtrirast.so.{INTERFACE}"))
 
 
 class CSymbolInfo(ctypes.Structure):
@@ -28,12 +33,10 @@ class CSymbolInfo(ctypes.Structure):
 def library_path() -> str:
     """Where the library is, or its name, by which the system's loader finds it."""
     package = os.path.dirname(os.path.abspath(__file__))
-    # load.so is empty and needs the library, so that the loader takes the one for the processor's level.
-    in_wheel, in_repository = (
-        os.path.join(folder, "lib", "load.so") for folder in (package, os.path.join(package, "..", "..", ".."))
-    )
-    found = [path for path in (in_wheel, in_repository) if os.path.exists(path)]
-    return os.environ.get("TRIRAST_LIBRARY") or (found or [SHARED])[0]
+    in_wheel_and_repository = (package, os.path.join(package, "..", "..", ".."))
+    paths = (os.path.join(folder, "lib", name) for folder in in_wheel_and_repository for name in FILES)
+    found = [path for path in paths if os.path.exists(path)]
+    return os.environ.get("TRIRAST_LIBRARY") or [*found, FILES[-1]][0]
 
 
 @lru_cache(maxsize=None)
@@ -47,7 +50,7 @@ def library(kind: Any = ctypes.CDLL) -> Any:
     try:
         loaded = kind(path)
     except OSError as error:
-        raise OSError(f"the library of trirast cannot be loaded: {error}; {HOW_TO_GET_IT}") from None
+        raise OSError(f"library: expected one that can be loaded, got {error}; {HOW_TO_GET_IT}") from None
     try:
         check_version(path, loaded)
         for name, (takes, gives) in {**OTHERS, **{name: (takes, WORD) for name, takes in STATUSES.items()}}.items():
@@ -56,16 +59,18 @@ def library(kind: Any = ctypes.CDLL) -> Any:
             if name in STATUSES:
                 call.errcheck = raise_error if takes[-1] == to(CError) else raise_status
     except AttributeError as error:
-        raise ImportError(f"{path} is another library, or an older one: {error}; {HOW_TO_GET_IT}") from None
+        raise ImportError(f"{path}: expected calls of interface {INTERFACE}, got {error}; {HOW_TO_GET_IT}") from None
     return loaded
 
 
 def loaded_path() -> str:
     """The file of the library that the loader chose. library_path() may name one that only leads to it."""
+    if sys.platform == "win32":
+        return file_on_windows(library())
     found = CSymbolInfo()
     address = ctypes.cast(library().trirast_interface, ctypes.c_void_p)
     if not ctypes.CDLL(None).dladdr(address, ctypes.byref(found)):
-        raise OSError("the loader does not say which library it chose")
+        raise OSError("library: expected its path from dladdr, got none")
     return os.path.abspath(os.fsdecode(found.file))
 
 
@@ -73,7 +78,7 @@ def check_version(path: str, loaded: Any) -> None:
     """Raises ImportError if the library has less than this package calls."""
     version = loaded.trirast_interface()
     if version < INTERFACE:
-        raise ImportError(f"{path} has interface {version}, and this package needs {INTERFACE}; {HOW_TO_GET_IT}")
+        raise ImportError(f"{path}: expected interface {INTERFACE}, got {version}; {HOW_TO_GET_IT}")
 
 
 def raise_error(status: int, _call: Any, arguments: Tuple[Any, ...]) -> int:

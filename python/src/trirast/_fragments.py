@@ -14,6 +14,8 @@ Array = Any
 Rate = Literal["pixel", "centre", "sample"]
 RATES: Tuple[Rate, ...] = ("pixel", "centre", "sample")
 CENTRE = UNIT // 2
+# How many times the least w of a triangle the others are taken for at most.
+MOST_W = 2.0**900
 
 
 class Fragments(NamedTuple):
@@ -49,7 +51,7 @@ class Fragments(NamedTuple):
         wanted = int(self.corners.max(initial=-1)) + 1
         if given.ndim == 0 or len(given) < wanted:
             which = "one for each vertex, also of those that cuts made (Clipped.attributes)"
-            raise ValueError(f"values: {wanted} rows at least, {which}, and not the shape {given.shape}")
+            raise ValueError(f"values: expected {wanted} rows at least, {which}, got the shape {given.shape}")
         return np.einsum("fc,fc...->f...", by, given[self.corners])
 
     def picture(self, colors: Any, background: Any = (0, 0, 0)) -> Array:
@@ -59,8 +61,8 @@ class Fragments(NamedTuple):
         given = floats("colors", colors)
         if given.shape != (len(self.id), 3):
             raise ValueError(
-                f"colors: {len(self.id)} rows of red, green and blue, one for each fragment, "
-                f"and not the shape {given.shape}"
+                f"colors: expected {len(self.id)} rows of red, green and blue, one for each fragment, "
+                f"got the shape {given.shape}"
             )
         table = packed(given)
         found = table[self.index] if len(table) else np.zeros(self.index.shape, np.uint32)
@@ -76,9 +78,9 @@ def floats(name: str, values: Any) -> Array:
             raise TypeError("texts, which float would read, times, or complex numbers")
         return given.astype(float)
     except OverflowError:
-        raise ValueError(f"{name}: numbers that a float holds, and not {shown(values)}") from None
+        raise ValueError(f"{name}: expected numbers that a float holds, got {shown(values)}") from None
     except (TypeError, ValueError):
-        raise TypeError(f"{name}: numbers, and not {shown(values)}") from None
+        raise TypeError(f"{name}: expected numbers, got {shown(values)}") from None
 
 
 def packed(given: Array) -> Array:
@@ -132,9 +134,17 @@ def middles(index: Array, count: int) -> Array:
     return found
 
 
+def near_one(w: Array) -> Array:
+    """Rows of w by a power of two, so that the least of each is from 1 to 2, and none above 2^900: edge functions by
+    these, and 1 by their sum, are finite."""
+    _share, exponents = np.frexp(w.min(1, keepdims=True))
+    with np.errstate(over="ignore"):
+        return np.minimum(np.ldexp(w, 1 - exponents), MOST_W)
+
+
 def weigh(corners: Array, w: Array, points: Array) -> Tuple[Array, Array, Array]:
     """The weights at points in triangles, and how they differ at the next pixels. `corners` has rows of three pairs of
-    x and y."""
+    x and y, and `w` of three numbers near 1."""
     from_point = corners - points[:, None]
     ahead, behind = np.roll(from_point, -1, 1), np.roll(from_point, -2, 1)
     edges = (ahead[..., 0] * behind[..., 1] - ahead[..., 1] * behind[..., 0]) / w
@@ -154,12 +164,13 @@ def fragments_of(
     """The fragments of ids, of the shape (samples, height, width)."""
     named("rate", RATES, rate)
     if not {"x", "y"} <= set(getattr(getattr(vertices, "dtype", None), "names", None) or ()):
-        raise TypeError("vertices: an array with the fields x and y, as those of trirast.clip")
+        wanted = "an array with the fields x and y, as those of trirast.clip"
+        raise TypeError(f"vertices: expected {wanted}, got {shown(vertices)}")
     indices = np.frombuffer(indices_of("triangles", triangles, index_columns(3)), np.uint32)
     rows = indices.reshape(-1, 3).astype(np.int64)
     distances = floats("w", w)
     if distances.shape != vertices.shape:
-        raise ValueError(f"w: {len(vertices)} numbers, one for each vertex, and not the shape {distances.shape}")
+        raise ValueError(f"w: expected {len(vertices)} numbers, one for each vertex, got the shape {distances.shape}")
     check_indices(rows, len(vertices), "vertices")
     places = np.stack([vertices["x"], vertices["y"]], 1).astype(np.int64)
     index, number, (x, y) = shown_by(ids, len(rows), rate)
@@ -171,5 +182,5 @@ def fragments_of(
         within = np.full((len(number), 2), CENTRE)
     points = UNIT * (np.stack([x, y], 1) + np.array(origin)) + within
     corners = rows[number]
-    weights, right, down = weigh(places[corners], distances[corners], points)
+    weights, right, down = weigh(places[corners], near_one(distances[corners]), points)
     return Fragments(number, points[:, 0], points[:, 1], corners, weights, right, down, index)

@@ -4,11 +4,11 @@ from typing import Any, List, NamedTuple, Optional, SupportsIndex, Tuple
 
 from ._arguments import flag, number, shown
 from ._declarations import CError, CEvent, CFragment, CHistoryRequest, CSampleCounts, CSampleInfo, CStored
-from ._draw_list import DrawList, as_bytes, read_image_info
+from ._draw_list import DrawList, as_bytes, read, read_image_info
 from ._errors import PixelError, SampleError, TriangleError, adding
 from ._ffi import library
 from ._records import UNIT
-from ._threads import with_stack
+from ._threads import leave, with_stack
 
 Color = Tuple[int, int, int]
 
@@ -156,28 +156,30 @@ def why(
 def triangle_samples(draw_list: DrawList, draw: SupportsIndex, triangle: SupportsIndex) -> TriangleSamples:
     """Returns how many samples of the picture this triangle of this draw covers, how many it changes, and how many
     still show it: it is the last triangle that changes them. Both numbers count from 0; a strip and quads count the
-    triangles as which they are drawn.
+    triangles as which they are drawn. An interrupt need not wait for the counts: they go on alone, and the interpreter
+    ends after them.
 
     Raises a TriangleError, which is an IndexError, if the list has no such triangle, and another Error of a
     list that is not drawn.
     """
     data, counts = as_bytes(draw_list), CSampleCounts()
     place = number("draw", draw), number("triangle", triangle)
-    with adding(TriangleError, lambda _error: f"triangle {shown(triangle)} of draw {shown(draw)}"):
-        library().trirast_list_triangle_samples(data, len(data), *place, counts, CError())
+    asked = f"triangle {shown(triangle)} of draw {shown(draw)}"
+    with adding(TriangleError, lambda _error: f": expected one of the list, got {asked}"):
+        leave(lambda: library().trirast_list_triangle_samples(data, len(data), *place, counts, CError()))
     return TriangleSamples(*place, counts.covered, counts.changed, counts.shown)
 
 
 def pixel_values(data: bytes, x: SupportsIndex, y: SupportsIndex) -> str:
     """The pixels that there are, and the one that was asked for."""
     info = read_image_info(data)
-    return f"x 0 to {info.width - 1} and y 0 to {info.height - 1}, and not {shown(x)} and {shown(y)}"
+    return f": expected x 0 to {info.width - 1} and y 0 to {info.height - 1}, got {shown(x)} and {shown(y)}"
 
 
 def sample_values(data: bytes, sample: Optional[SupportsIndex]) -> str:
     """The same of samples, of which each pixel has as many as the first."""
     info = read_events(data, 0, 0, 0, False, 0)[1]
-    return f"0 to {info.samples - 1}, and not {shown(sample)}"
+    return f": expected 0 to {info.samples - 1}, got {shown(sample)}"
 
 
 def resolved(colors: List[Color]) -> Color:
@@ -190,7 +192,7 @@ def read_events(data: bytes, x: int, y: int, sample: int, is_all: bool, capacity
     """The first events of a sample's history, at most this many, and what the library says of the sample."""
     request = CHistoryRequest(0, 0, 0, x, y, sample, is_all)
     events, info = (CEvent * capacity)(), CSampleInfo()
-    library().trirast_list_history(data, len(data), request, events, capacity, info, CError())
+    read(data, lambda: library().trirast_list_history(data, len(data), request, events, capacity, info, CError()))
     return events, info
 
 

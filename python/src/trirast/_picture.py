@@ -42,7 +42,7 @@ class Picture:
     def __init__(self, width: int, height: int, is_depth: bool, memory: memoryview) -> None:
         shape = [height, width, 2 if is_depth else 3]
         if memory.nbytes != height * width * shape[2]:
-            raise ValueError(f"memory: {height * width * shape[2]} bytes, and not {memory.nbytes}")
+            raise ValueError(f"memory: expected {height * width * shape[2]} bytes, got {memory.nbytes}")
         # All that is said of the picture's size is the shape of the bytes that are there.
         self._pixels = memory.cast("B", shape=shape)
 
@@ -79,20 +79,21 @@ class Picture:
         """Red, green and blue of a pixel. Columns and rows are counted from 0 at the upper left corner. Raises
         ValueError at a picture of depths."""
         if self.is_depth:
-            raise ValueError("a picture of depths has no colours: use depth")
+            raise ValueError("pixel: expected a picture of colours, got one of depths; use depth")
         red, green, blue = self._at(column, row)
         return red, green, blue
 
     def depth(self, column: int, row: int) -> int:
         """The depth of a pixel's sample 0. Raises ValueError at a picture of colours."""
         if not self.is_depth:
-            raise ValueError("a picture of colours has no depths: use pixel")
+            raise ValueError("depth: expected a picture of depths, got one of colours; use pixel")
         return int.from_bytes(self._at(column, row), "big")
 
     def _at(self, column: int, row: int) -> bytes:
         i, j = integer("column", column), integer("row", row)
         if not (0 <= i < self.width and 0 <= j < self.height):
-            raise IndexError(f"a picture of {self.width} by {self.height} pixels has no pixel {shown(i)}, {shown(j)}")
+            wanted = f"column 0 to {self.width - 1} and row 0 to {self.height - 1}"
+            raise IndexError(f"pixel: expected {wanted}, got {shown(i)} and {shown(j)}")
         length = self._shape[2]
         first = length * (j * self.width + i)
         return bytes(self._pixels.cast("B")[first : first + length])
@@ -105,7 +106,7 @@ class Picture:
         end = os.path.splitext(name)[1].lower()
         if end not in ends:
             shows = "depths" if self.is_depth else "colours"
-            raise ValueError(f"path: an end of {' or '.join(ends)}, for a picture of {shows}, and not {shown(name)}")
+            raise ValueError(f"path: expected a name that ends in {' or '.join(ends)}, for {shows}, got {shown(name)}")
         dots = checked_dpi(dpi, name)
         write(path, png_chunks(self._pixels, dots) if end == PNG else self._netpbm())
 
@@ -113,7 +114,7 @@ class Picture:
         """Writes a picture of colours as a PPM file, whatever its name. Raises ValueError at one of depths, which only
         a PGM file can hold."""
         if self.is_depth:
-            raise ValueError("a picture of depths is no PPM file: use save, which writes PGM")
+            raise ValueError("ppm: expected a picture of colours, got one of depths; use save, which writes PGM")
         write(path, self._netpbm())
 
     def _netpbm(self) -> "list[Any]":
@@ -145,7 +146,7 @@ def save_png(path: Path, pixels: memoryview, dpi: Optional[SupportsFloat]) -> No
     """Writes pixels with alpha, which a PNG file alone has. Raises ValueError at any other end of the path."""
     name = os.fsdecode(path)
     if os.path.splitext(name)[1].lower() != PNG:
-        raise ValueError(f"path: an end of {PNG}, for a picture with alpha, and not {shown(name)}")
+        raise ValueError(f"path: expected a name that ends in {PNG}, for a picture with alpha, got {shown(name)}")
     write(path, png_chunks(pixels, checked_dpi(dpi, name)))
 
 

@@ -34,12 +34,12 @@ def checked_dpi(dpi: Optional[Any], path: Optional[str], ends: Tuple[str, ...] =
         return None
     if path is None or not path.lower().endswith(ends):
         raise ValueError(
-            f"dpi: only for a name that ends in {', '.join(ends)}, and not for "
-            f"{'tiles' if path is None else shown(path)}"
+            f"dpi: expected a file whose name ends in {' or '.join(ends)}, got "
+            f"{'tiles' if path is None else shown(path)}; leave dpi out"
         )
     given = real("dpi", dpi)
     if not LEAST_DPI <= given <= GREATEST_DPI:
-        raise ValueError(f"dpi: {LEAST_DPI} to {GREATEST_DPI}, and not {shown(dpi)}")
+        raise ValueError(f"dpi: expected {LEAST_DPI} to {GREATEST_DPI}, got {shown(dpi)}")
     return given
 
 

@@ -15,7 +15,7 @@ from typing import Any, Callable, Optional, Tuple
 import numpy as np
 from numpy.typing import NDArray
 
-from ._arguments import shown
+from ._arguments import OF_FLOATS, color_of, shown, without_texts
 from ._declarations import CPolygons
 from ._records import HIGH, LOW, SNAP
 from ._rings import leading_zero
@@ -59,7 +59,7 @@ class Polygons:
         corners, ring_ends, polygon_ends = (
             array_of(name, getattr(self, name), like) for name, like in zip(ENDS, NONE.arrays)
         )
-        colors = color_rows(array_of("colors", self.colors, NONE.colors), len(polygon_ends))
+        colors = color_rows(array_of("colors", without_texts("colors", self.colors), NONE.colors), len(polygon_ends))
         found = Polygons(
             own_corners(corners, copy),
             own_numbers("ring_ends", ring_ends, (0, MOST), NONE.ring_ends, copy),
@@ -70,7 +70,8 @@ class Polygons:
         check_ends("ring_ends", found.ring_ends, len(found.corners), "corners", zero)
         check_ends("polygon_ends", found.polygon_ends, len(found.ring_ends), "rings", zero)
         if len(found.colors) != found.count:
-            raise ValueError(f"colors: {found.count} rows, one for each polygon, and not {len(found.colors)}{zero}")
+            wanted = f"{found.count} rows, one for each polygon"
+            raise ValueError(f"colors: expected {wanted}, got {len(found.colors)}{zero}")
         return checked(found)
 
     def _in_c(self) -> CPolygons:
@@ -237,8 +238,8 @@ def as_read(array: Numbers, like: Numbers) -> Numbers:
     found = np.require(np.ndarray.view(array, np.ndarray), None, ("C", "A"))
     if found.dtype != like.dtype or found.ndim != like.ndim or found.shape[1:] != like.shape[1:]:
         raise ValueError(
-            f"an array: expected {like.dtype} in rows of the shape {like.shape[1:]}, got {found.dtype} of the shape "
-            f"{found.shape}; give no array another type or shape in place"
+            f"polygons: expected an array of {like.dtype} in rows of the shape {like.shape[1:]}, got {found.dtype} "
+            f"of the shape {found.shape}; give no array another type or shape in place"
         )
     return found
 
@@ -250,7 +251,7 @@ def array_of(name: str, given: Any, like: Numbers) -> Any:
     try:
         found = np.array(given)
     except (ValueError, OverflowError) as error:
-        raise ValueError(f"{name}: rows of integers, and not {shown(given)}: {error}") from error
+        raise ValueError(f"{name}: expected rows of integers, got {shown(given)}: {error}") from error
     return found if found.size else like
 
 
@@ -258,6 +259,8 @@ def color_rows(colors: Any, count: int) -> Any:
     """Returns colours with alpha, which is 255 if they have none, and one colour as rows of it."""
     if colors is None:
         return np.full((count, 4), OPAQUE, np.uint8)
+    if isinstance(colors, str):
+        colors = np.array(color_of("colors", colors, 3, 4))
     if getattr(colors, "ndim", 0) == 1 and colors.shape[0] in (3, 4):
         colors = np.broadcast_to(colors, (count, len(colors)))
     if getattr(colors, "ndim", 0) != 2 or colors.shape[1] != 3:
@@ -275,15 +278,16 @@ def own_numbers(name: str, array: Any, limits: tuple[int, int], like: Numbers, c
         or array.dtype.kind not in "iu" and array.size
     ):
         kind = f"{type(array).__name__} {getattr(array, 'dtype', '')}".strip()
-        how = f"; {SNAP}" * (like is NONE.corners and kind.startswith("ndarray float"))
-        raise TypeError(f"{name}: an array or a list of integers{wide}, without a mask, and not {kind}{how}")
+        hint = {"corners": f"; {SNAP}", "colors": OF_FLOATS}.get(name, "")
+        how = hint * kind.startswith("ndarray float")
+        raise TypeError(f"{name}: expected an array or a list of integers{wide}, without a mask, got {kind}{how}")
     # Another class may say what it likes of its size.
     array = np.asarray(array)
     if array.shape[1:] != like.shape[1:] or array.ndim != like.ndim:
-        raise ValueError(f"{name}: integers{wide}, and not the shape {array.shape}")
+        raise ValueError(f"{name}: expected integers{wide}, got the shape {array.shape}")
     least, most = limits
     if array.size and not (least <= int(array.min()) and int(array.max()) <= most):
-        raise ValueError(f"{name}: {least} to {most}, and not {array.min()} to {array.max()}")
+        raise ValueError(f"{name}: expected {least} to {most}, got {array.min()} to {array.max()}")
     is_own = array.dtype == like.dtype and array.dtype.isnative and not copy
     found: Numbers = np.require(array, None, ("C", "A")).view() if is_own else np.array(array, like.dtype, order="C")
     found.flags.writeable = False
@@ -294,7 +298,7 @@ def check_ends(name: str, ends: Numbers, count: int, of: str, zero: str) -> None
     """Raises ValueError unless ends rise to the number of what they end. `zero` says of a leading 0."""
     falls = np.flatnonzero(ends[1:] < ends[:-1])
     if len(falls):
-        raise ValueError(f"{name}: row {falls[0] + 1}: at least {ends[falls[0]]}, and not {ends[falls[0] + 1]}")
+        raise ValueError(f"{name}[{falls[0] + 1}]: expected at least {ends[falls[0]]}, got {ends[falls[0] + 1]}")
     last = int(ends[-1]) if len(ends) else 0
     if last != count:
-        raise ValueError(f"{name}: the last one is the number of {of}, {count}, and not {last}{zero}")
+        raise ValueError(f"{name}[-1]: expected {count}, the number of {of}, got {last}{zero}")

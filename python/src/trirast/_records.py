@@ -45,7 +45,7 @@ class Column(NamedTuple):
         """What its integers are, in a message that refuses a float."""
         return {"i": POSITION, "B": CHANNEL}.get(self.code, "")
 
-    def refused(self, name: str, row: int, value: Any) -> Optional[Exception]:
+    def refused(self, where: str, value: Any) -> Optional[Exception]:
         """The error of a value, or `None` if it is an integer that fits."""
         least, greatest = LIMITS[self.code]
         try:
@@ -54,12 +54,10 @@ class Column(NamedTuple):
         except TypeError:
             is_real = self.is_position and hasattr(value, "__float__")
             unit = self.unit if is_real or not self.is_position else ""
-            return TypeError(
-                f"{name}: row {row}, {self.name}: an integer{unit}, and not {shown(value)}{f'; {SNAP}' * is_real}"
-            )
+            return TypeError(f"{where}: expected an integer{unit}, got {shown(value)}{f'; {SNAP}' * is_real}")
         # What lies between the band and 32 bits the library refuses, if an index names it.
         wanted = f"{LOW} to {HIGH}{POSITION}" if self.is_position else f"{least} to {greatest}"
-        return ValueError(f"{name}: row {row}, {self.name}: {wanted}, and not {shown(value)}")
+        return ValueError(f"{where}: expected {wanted}, got {shown(value)}")
 
 
 Columns = Sequence[Column]
@@ -67,7 +65,7 @@ Columns = Sequence[Column]
 
 def index_columns(count: int) -> Columns:
     """The columns of rows of indices."""
-    return tuple(Column(f"index {number}", "I", 4 * number) for number in range(count))
+    return tuple(Column(f"[{number}]", "I", 4 * number) for number in range(count))
 
 
 class Table:
@@ -87,7 +85,7 @@ class Table:
         if self.count * size == len(made):
             error = self._put(made, size)
         else:
-            error = ValueError(f"{self._name}: {len(made) // size} rows, and not {self.count}")
+            error = ValueError(f"{self._name}: expected {len(made) // size} rows, got {self.count}")
         self._values = ()
         if error is not None:
             raise error
@@ -116,9 +114,13 @@ class Table:
 
     def _error(self, column: Column, values: Iterable[Any], first: int) -> Exception:
         """The error of the first of a column's values that is refused. The row of the first one is `first`."""
-        errors = (column.refused(self._name, row, value) for row, value in enumerate(values, first))
+        # A column of its own is named by the rows, as strip[1], and another one as strip[1].x or quads[1][2].
+        name = column.name if column.name.startswith("[") else f".{column.name}"
+        part = name * (len(self._columns) > 1)
+        errors = (column.refused(f"{self._name}[{row}]{part}", value) for row, value in enumerate(values, first))
         return next(
-            (error for error in errors if error), TypeError(f"{self._name}: integers, which no other thread changes")
+            (error for error in errors if error),
+            TypeError(f"{self._name}: expected integers, got some that another thread changes"),
         )
 
 
@@ -154,7 +156,7 @@ def table_of(name: str, values: Any, *choices: Columns) -> Table:
         rows: List[Any] = in_own_order(view, family).tolist()
     except NotImplementedError:
         view.release()
-        raise TypeError(f"{name}: integers in the machine's order, and not {kind}") from None
+        raise TypeError(f"{name}: expected integers in the machine's order, got {kind}") from None
     if view.ndim == 1:
         return Table(name, columns, [rows[k :: len(columns)] for k in range(len(columns))])
     return Table(name, columns, list(zip(*rows)))
@@ -185,11 +187,11 @@ def nothing_of(
 ) -> Table:
     """The table of a buffer without rows. Raises the error of one that has no rows of integers."""
     if columns is None:
-        raise ValueError(f"{name}: {rows_of(choices)}, and not the shape {shape}")
+        raise ValueError(f"{name}: expected {rows_of(choices)}, got the shape {shape}")
     if 0 in shape:
         return Table(name, columns, [()] * len(columns))
     how = f"; {SNAP}" * (family == "float" and columns[0].is_position)
-    raise TypeError(f"{name}: integers{columns[0].unit}, and not {kind}{how}")
+    raise TypeError(f"{name}: expected integers{columns[0].unit}, got {kind}{how}")
 
 
 def rows_of(choices: Sequence[Columns]) -> str:
@@ -203,16 +205,16 @@ def of_sequence(name: str, values: Any, choices: Sequence[Columns]) -> Table:
     try:
         rows = list(values)
     except TypeError:
-        raise TypeError(f"{name}: {rows_of(choices)}, and not {shown(values)}") from None
+        raise TypeError(f"{name}: expected {rows_of(choices)}, got {shown(values)}") from None
     if len(choices[0]) == 1:
         return Table(name, choices[0], [rows])
     first = len(rows[0]) if rows and hasattr(rows[0], "__len__") else len(choices[0])
     columns = next((each for each in choices if len(each) == first), None)
     if columns is None:
         counts = " or ".join(str(len(each)) for each in choices)
-        raise ValueError(f"{name}: row 0: {counts} values, and not {first}")
+        raise ValueError(f"{name}[0]: expected {counts} values, got {first}")
     listed: List[Tuple[Any, ...]] = [
-        tuple(of_length(f"{name}: row {number}", row, len(columns))) for number, row in enumerate(rows)
+        tuple(of_length(f"{name}[{number}]", row, len(columns))) for number, row in enumerate(rows)
     ]
     return Table(name, columns, list(zip(*listed)) or [()] * len(columns))
 
@@ -223,7 +225,7 @@ def indices_of(name: str, values: Any, columns: Columns) -> Copy:
     if isinstance(values, (bytes, bytearray)):
         found = exact_bytes(values)
         if len(found) % size:
-            raise ValueError(f"{name}: {rows_of([columns])} of 4 bytes, and not {len(found)} bytes")
+            raise ValueError(f"{name}: expected {rows_of([columns])} of 4 bytes, got {len(found)} bytes")
         return found
     table = table_of(name, values, columns)
     return table.fill(bytearray(size * table.count), size)

@@ -2,6 +2,7 @@
 
 import ctypes
 import sys
+import threading
 from array import array
 from typing import Any, Literal, Optional, Tuple
 
@@ -21,6 +22,8 @@ COLOR = tuple(Column(name, "B", k) for k, name in enumerate(("red", "green", "bl
 DEPTH = Column("depth", "H", 0)
 BOX = tuple(Column(name, "i", 4 * k) for k, name in enumerate(("left", "top", "right", "bottom")))
 WHITE = 255, 255, 255
+# What each thread keeps from call to call.
+KEPT = threading.local()
 
 
 def rings_of(corners: Any, ring_ends: Optional[Any], polygon_ends: Optional[Any]) -> CPolygons:
@@ -30,7 +33,7 @@ def rings_of(corners: Any, ring_ends: Optional[Any], polygon_ends: Optional[Any]
     module = sys.modules.get(f"{__package__}._polygons")
     if module is not None and isinstance(corners, module.Polygons):
         if ring_ends is not None or polygon_ends is not None:
-            raise TypeError("corners: a trirast.Polygons has its own ends; leave ring_ends and polygon_ends out")
+            raise TypeError("ring_ends, polygon_ends: expected None, got ends beside those of the trirast.Polygons")
         found: CPolygons = corners.owned()._in_c()
         return found
     places = table_of("corners", corners, PLACE)
@@ -117,3 +120,10 @@ def depths_of(depth: Any, count: int) -> Copy:
 def scratch_of(size: int) -> Any:
     """Returns memory for a call, of this size in bytes, aligned to 8."""
     return (ctypes.c_uint64 * (size // 8))()
+
+
+def kept_scratch(size: int) -> Any:
+    """Returns such memory of this size or more, which the calling thread keeps for its next call."""
+    if not hasattr(KEPT, "scratch") or ctypes.sizeof(KEPT.scratch) < size:
+        KEPT.scratch = scratch_of(size)
+    return KEPT.scratch

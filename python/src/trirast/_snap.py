@@ -32,7 +32,7 @@ def snap(xy: Any, scale: SupportsFloat = 1) -> Any:
         return numpy.array(pairs_of(xy, factor), numpy.int32).reshape(-1, 2)
     given = numpy.asarray(view)
     if given.ndim != 2 or given.shape[1] != 2:
-        raise ValueError(f"xy: rows of x and y, and not the shape {given.shape}")
+        raise ValueError(f"xy: expected rows of x and y, got the shape {given.shape}")
     with numpy.errstate(over="ignore", invalid="ignore"):
         # A copy, which no other thread changes.
         floats = given.astype(numpy.float64)
@@ -49,14 +49,14 @@ def pairs_of(rows: Any, factor: float) -> Any:
     try:
         listed = rows.tolist() if isinstance(rows, memoryview) else list(rows)
     except (TypeError, NotImplementedError):
-        raise TypeError(f"xy: rows of x and y, and not {shown(rows)}") from None
+        raise TypeError(f"xy: expected rows of x and y, got {shown(rows)}") from None
     return [snapped_pair(row, pair, factor) for row, pair in enumerate(listed)]
 
 
 def snapped_pair(row: int, pair: Any, factor: float) -> Any:
     """One row. Raises the error of its first number that is refused."""
-    x, y = of_length(f"xy: row {row}", pair, 2)
-    return snapped(f"xy: row {row}, x", x, factor), snapped(f"xy: row {row}, y", y, factor)
+    x, y = of_length(f"xy[{row}]", pair, 2)
+    return snapped(f"xy[{row}].x", x, factor), snapped(f"xy[{row}].y", y, factor)
 
 
 def snapped(name: str, value: Any, factor: float) -> int:
@@ -64,5 +64,6 @@ def snapped(name: str, value: Any, factor: float) -> int:
     # An infinity, which a product may be, has no nearest integer.
     found = round(min(max(UNIT * (factor * real(name, value)), 2 * LOW), 2 * HIGH))
     if not LOW <= found <= HIGH:
-        raise ValueError(f"{name}: {BAND}, and not {shown(value)}" + f" by the scale {shown(factor)}" * (factor != 1))
+        scaled = f" by the scale {shown(factor)}" * (factor != 1)
+        raise ValueError(f"{name}: expected {BAND}, got {shown(value)}{scaled}")
     return found

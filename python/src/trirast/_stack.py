@@ -5,13 +5,17 @@ less, by threading.stack_size or by `ulimit -s`, and to run out of stack ends th
 """
 
 import ctypes
-import os
-import resource
+import sys
 import threading
 from _thread import get_ident, stack_size
 from contextlib import contextmanager
 from functools import lru_cache
 from typing import Any, Iterator
+
+from ._system import at_fork, stack_on_windows
+
+if sys.platform != "win32":
+    import resource
 
 # Bytes that are enough for a call and for Python.
 STACK = 1 << 20
@@ -31,6 +35,8 @@ def is_enough() -> bool:
 
 def size() -> int:
     """The bytes of stack of the calling thread. Those of the main thread grow up to a limit of the system."""
+    if sys.platform == "win32":
+        return stack_on_windows()
     if get_ident() == threading.main_thread().ident:
         return of_system()
     attributes, found = ATTRIBUTES(), ctypes.c_size_t()
@@ -53,7 +59,9 @@ def threads_library() -> Any:
 
 
 def of_system() -> int:
-    """The bytes of stack that the system gives."""
+    """The bytes of stack that the system gives, or 0 on Windows, where python.exe says how many."""
+    if sys.platform == "win32":
+        return 0
     limit = resource.getrlimit(resource.RLIMIT_STACK)[0]
     return STACK if limit == resource.RLIM_INFINITY else limit
 
@@ -88,4 +96,4 @@ def enough() -> Iterator[None]:
 
 
 # A forked child has none of the other threads: one that is starting threads would leave the lock to nobody.
-os.register_at_fork(before=STARTING.acquire, after_in_parent=STARTING.release, after_in_child=STARTING.release)
+at_fork(before=STARTING.acquire, after_in_parent=STARTING.release, after_in_child=STARTING.release)

@@ -8,7 +8,6 @@ then on the calling thread does all: in `__del__`, callbacks of `gc` and what wa
 """
 
 import atexit
-import os
 from _thread import start_new_thread
 from collections import deque
 from functools import wraps
@@ -21,6 +20,7 @@ from weakref import WeakSet
 
 from . import _stack
 from ._buffers import Buffer
+from ._system import at_fork
 
 Part = Tuple[Any, ...]
 Call = Callable[..., Any]
@@ -61,12 +61,21 @@ def share(call: Call, split: Callable[[int], Sequence[Part]], threads: int, used
             return
         if not _stack.is_enough():
             raise RuntimeError(
-                f"a thread has {_stack.size()} bytes of stack, and none can be started that "
-                f"has the {_stack.STACK} it takes"
+                f"stack: expected {_stack.STACK} bytes, or a thread that has them, got {_stack.size()} and no thread"
             )
         parts = split(1)
     for part in parts:
         call(*part)
+
+
+def leave(call: Callable[[], Any]) -> None:
+    """Makes a call that may take long, and that nobody else sees anything of. An interrupt is raised at once: the call
+    goes on alone, and the interpreter ends after it."""
+    work = Work(call, [()], 1, ())
+    if work.is_done_or_left():
+        work.raise_error()
+    else:
+        share(call, lambda _count: [()], 1)
 
 
 class Work:
@@ -90,6 +99,13 @@ class Work:
     def is_done_by_threads(self) -> bool:
         """Has threads do the parts, and returns whether there was a thread. An interrupt is raised after that."""
         self._outlast(LEVELS)
+        return bool(self._started)
+
+    def is_done_or_left(self) -> bool:
+        """The same, but an interrupt is raised at once, and leaves the parts to the threads."""
+        self._start()
+        while self._started and not self._is_done():
+            self._signals.get()
         return bool(self._started)
 
     def _outlast(self, levels: int) -> None:
@@ -199,4 +215,4 @@ def end() -> None:
 
 atexit.register(end)
 # A copy of the process has none of the threads.
-os.register_at_fork(after_in_child=WORKS.clear)
+at_fork(after_in_child=WORKS.clear)

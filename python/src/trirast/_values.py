@@ -1,4 +1,4 @@
-"""What a BatchError says behind the library's line: the values that were passed, and what they may be."""
+"""What a BatchError says behind the library's line: the values that were passed, as ", got 1 for 2 polygons"."""
 
 import ctypes
 import struct
@@ -25,10 +25,10 @@ class BatchValues(NamedTuple):
     def of(self, error: BatchError) -> str:
         draw, element = error.draw or 0, error.element or 0
         if error.name == "TooManyIds":
-            return f"the first is {self.first_id}"
+            return f", got {self.first_id} as the first"
         # Rows of indices are whole.
         if error.name == "NotWhole":
-            return f"{self._draws[draw].vertex_count} vertices, and not three for each triangle"
+            return f", got {self._draws[draw].vertex_count} vertices; a triangle has three"
         if error.name == "BadIndex":
             return self._index_values(draw, element)
         if error.name == "BadPosition":
@@ -38,13 +38,13 @@ class BatchValues(NamedTuple):
     def _index_values(self, draw: int, element: int) -> str:
         name, length = TOPOLOGIES[self._draws[draw].topology]
         row, place = divmod(element, length)
-        return f"{self._draws[draw].vertex_count}; {name}: row {row}" + f", index {place}" * (length > 1)
+        return f": {self._draws[draw].vertex_count}; {name}[{row}]" + f"[{place}]" * (length > 1)
 
     def _quad_values(self, draw: int, element: int) -> str:
         first = sum(each.index_count for each in self._draws[:draw]) + 4 * element
         quad = (INDEX * 4).from_address(self.batch.indices + ctypes.sizeof(INDEX) * first)
         places = (str(self._vertex(draw, index)) for index in quad)
-        return f"vertices {', '.join(map(str, quad))} at {', '.join(places)} in 1/256 pixel"
+        return f", got vertices {', '.join(map(str, quad))} at {', '.join(places)} in 1/256 pixel"
 
     @property
     def _draws(self) -> Any:
@@ -65,10 +65,10 @@ class PolygonValues(NamedTuple):
     def of(self, error: BatchError) -> str:
         given, element = self.polygons, error.element
         if error.name == "TooManyIds":
-            return f"the first is {self.first_id}, and there are {given.polygon_count}"
+            return f", got {self.first_id} as the first of {given.polygon_count}"
         if error.name in COUNTS:
             wanted, passed = (getattr(given, member) for member in COUNTS[error.name])
-            return f"{wanted}, and not {passed}"
+            return f", got {passed} for {wanted} polygons"
         if error.name == "BadPosition":
             return position_values(place_at(given.corners + CORNER_BYTES * (element or 0)), (0, 0))
         rings, polygons = ends_of(given)
@@ -90,8 +90,8 @@ def last_of(ends: Any) -> int:
 def end_values(name: str, ends: Any, element: Optional[int], of_all: str) -> str:
     """Where one ends, or the last one."""
     if element is None:
-        return f"the last {name} ends at {last_of(ends)}, and there are {of_all}"
-    return f"it begins at {last_of(ends[:element])} and ends at {ends[element]}, and there are {of_all}"
+        return f", got {of_all}, and the last {name} ends at {last_of(ends)}"
+    return f", got {ends[element]} after {last_of(ends[:element])}, of {of_all}"
 
 
 def place_at(address: int) -> Tuple[int, int]:
@@ -104,13 +104,13 @@ def point_values(points: bytearray) -> str:
     """The first of the points that is out of range."""
     places = struct.iter_unpack("=ii", points)
     row, (x, y) = next((row, place) for row, place in enumerate(places) if min(place) < LOW or max(place) > HIGH)
-    return f"points: row {row}: {position_values((x, y), (0, 0))}"
+    return f": expected points[{row}] of {LOW} to {HIGH}{position_values((x, y), (0, 0))}"
 
 
 def position_values(place: Tuple[int, int], origin: Tuple[int, int]) -> str:
     """A position, and the range of each coordinate that is outside of it: on the screen, and as seen from an origin."""
     x, y = place
-    parts = [f"x {x} and y {y} in 1/256 pixel ({pixels(x)} and {pixels(y)} pixels)"]
+    parts = [f", got x {x} and y {y} in 1/256 pixel ({pixels(x)} and {pixels(y)} pixels)"]
     for name, value, begin in zip("xy", place, origin):
         least, greatest = max(LOW, LOW + UNIT * begin), min(HIGH, HIGH + UNIT * begin)
         if not least <= value <= greatest:

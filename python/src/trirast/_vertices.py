@@ -3,7 +3,7 @@
 from array import array
 from typing import Any, Optional
 
-from ._arguments import between, color_of, has_length
+from ._arguments import between, color_of, has_length, without_texts
 from ._buffers import exact_bytes, refuse_masked
 from ._numpy import np
 from ._records import Column, Columns, Copy, table_of
@@ -53,7 +53,7 @@ def records_of(vertices: Any) -> Copy:
     if isinstance(vertices, (bytes, bytearray)):
         found = exact_bytes(vertices)
         if len(found) % VERTEX_BYTES:
-            raise ValueError(f"vertices: records of {VERTEX_BYTES} bytes, and not {len(found)} bytes")
+            raise ValueError(f"vertices: expected records of {VERTEX_BYTES} bytes, got {len(found)} bytes")
         return found
     table = table_of("vertices", vertices, PLACE, WHOLE)
     return table.fill(bytearray(BLANK * table.count), VERTEX_BYTES)
@@ -66,9 +66,8 @@ def of_fields(vertices: Any) -> Copy:
     given: Any = np.asarray(vertices).view()
     names = given.dtype.names or ()
     if not {"x", "y"} <= set(names) or given.ndim != 1:
-        raise ValueError(
-            f"vertices: one dimension, with the fields x and y, and not {', '.join(names)} of the shape {given.shape}"
-        )
+        found = f"{', '.join(names)} of the shape {given.shape}"
+        raise ValueError(f"vertices: expected one dimension with the fields x and y, got {found}")
     if has_members(given) and not given.dtype.hasobject and len(given):
         made = bytearray(VERTEX_BYTES * len(given))
         np.frombuffer(made, RECORD)[:] = given.getfield(RECORD, given.dtype.fields["x"][1])
@@ -99,7 +98,9 @@ def has_members(vertices: Any) -> bool:
 
 
 def is_one_color(colors: Any) -> bool:
-    """Whether these are channels, and not rows of them."""
+    """Whether these are channels, or a text, and not rows of them."""
+    if isinstance(colors, str):
+        return True
     try:
         is_row = getattr(colors, "ndim", 1) == 1 and has_length(colors, 3, 4)
         return is_row and not hasattr(next(iter(colors), ()), "__len__")
@@ -109,6 +110,7 @@ def is_one_color(colors: Any) -> bool:
 
 def put_colors(records: bytearray, count: int, colors: Any, columns: Columns = COLOR, size: int = VERTEX_BYTES) -> None:
     """Writes a colour to all records of this size, or one to each. One of three channels is opaque."""
+    colors = without_texts("colors", colors)
     if not is_one_color(colors):
         records[columns[3].begin :: size] = bytes([OPAQUE]) * count
         table_of("colors", colors, columns[:3], columns).fill(records, size)

@@ -21,7 +21,6 @@ NOT_RUN = (
         r"make_map\.py|world\.npz|covers\.py|seams\.py|choropleth\.py",
         "needs the coastlines of GSHHG, 200 MB of another package",
     ),
-    (r"pytest tests/posters", "`make check-poster` in a longer form"),
     (r"tools\.packaging\.listing", "writes into packaging/: `make check-packages` compares what it would write"),
 )
 

@@ -9,9 +9,12 @@ from tools import places
 
 PAGES = ("README.md", *(
     f"docs/{name}.md" for name in (
-        "canvas", "canvas_proved", "draw-list", "explain/drivers", "gallery", "how-to/explain-a-sample",
-        "how-to/install", "how-to/test-a-driver", "maps", "matplotlib", "performance", "polygons", "posters", "proofs",
-        "python", "reference/calls", "reference/conformance", "rules", "shaded_frames", "shading", "tested", "web",
+        "canvas", "draw-list", "explain/drivers", "gallery", "how-to/areas", "how-to/explain-a-sample",
+        "how-to/frames", "how-to/install", "how-to/map-layers", "how-to/plot-geodata", "how-to/polygons-in-python",
+        "how-to/shade-in-python", "how-to/test-a-driver",
+        "how-to/textures", "maps", "matplotlib", "performance", "polygons", "posters",
+        "proofs", "python", "reference/calls", "reference/conformance", "reference/matplotlib", "rules",
+        "shaded_frames", "shading", "web",
     )
 ))
 FENCE = re.compile(r"^```(\w*)\n(.*?)^```$", re.MULTILINE | re.DOTALL)

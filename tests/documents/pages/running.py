@@ -24,9 +24,11 @@ from tools.places import OUT, PROGRAM, PYTHON_SOURCES, TOP
 # What the commands and examples of a page need of Python and of the system, beside a compiler.
 NEEDS: dict[str, tuple[str, ...]] = {
     "docs/gallery.md": ("numpy", "matplotlib"), "docs/matplotlib.md": ("numpy", "matplotlib"),
-    "docs/maps.md": ("numpy", "matplotlib", "PIL"), "docs/polygons.md": ("numpy", "PIL"),
+    "docs/how-to/areas.md": ("numpy",), "docs/maps.md": ("numpy", "matplotlib", "PIL"),
     "docs/posters.md": ("numpy", "distributed"), "docs/python.md": ("numpy",), "docs/rules.md": ("matplotlib",),
-    "docs/shading.md": ("numpy",),
+    "docs/how-to/map-layers.md": ("numpy", "shapely", "PIL"),
+    "docs/how-to/plot-geodata.md": ("geopandas", "cartopy", "xarray", "seaborn"),
+    "docs/how-to/shade-in-python.md": ("numpy",), "docs/how-to/polygons-in-python.md": ("numpy", "PIL"),
 }
 # Pictures that a page's commands leave, and the pictures of the documents that have to be the same: whole, or in the
 # colours of their shapes.

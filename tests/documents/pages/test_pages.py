@@ -31,8 +31,9 @@ ELSEWHERE = {
     ("docs/how-to/install.md", "rust"): "bindings/rust/trirast, whose documentation has them",
     ("docs/how-to/install.md", "cmake"): "tools/packaging",
     ("docs/matplotlib.md", "ipython"): "python/tests/test_matplotlib_notebooks.py, where there is IPython",
-    ("docs/shading.md", "cpp"): "tests/shade, which compares its picture",
-    ("docs/shading.md", "c"): "a part of examples/c/cube.c, as tests/shade sees",
+    ("docs/shading.md", "cpp"): "parts of examples/cpp/cube.cpp, as tests/shade sees",
+    ("docs/how-to/textures.md", "cpp"): "tests/shade, which builds both parts",
+    ("docs/how-to/frames.md", "cpp"): "tests/shade, which compares its picture with that of one thread",
     ("README.md", "json"): "run as a list", ("docs/draw-list.md", "json"): "run as a list",
 }
 RUN = {"sh", "inline", "console", "python", "text"}

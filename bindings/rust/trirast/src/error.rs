@@ -8,8 +8,8 @@ use trirast_sys as sys;
 use crate::values::Values;
 use crate::ErrorKind;
 
-/// Why a call failed, and where. Its text is one line, as "draw 3: the indices make no whole triangles or quads", and
-/// on a canvas it says what was passed and what may be, as "no such sample: 0 to 3, and not 4".
+/// Why a call failed, and where. Its text is one line, and on a canvas it says what was passed and what may be, as
+/// "no such sample: expected 0 to 3, got 4".
 #[derive(Clone, Copy, Debug, PartialEq, Eq)]
 pub struct Error {
     raw: sys::trirast_error,
@@ -73,10 +73,7 @@ impl fmt::Display for Error {
         // The last byte is the zero behind the text.
         let written = &line[..length.min(line.len() - 1)];
         formatter.write_str(std::str::from_utf8(written).unwrap_or_default())?;
-        match self.values {
-            Values::None => Ok(()),
-            values => write!(formatter, ": {values}"),
-        }
+        self.values.fmt(formatter)
     }
 }
 

@@ -41,37 +41,41 @@ impl fmt::Display for Values {
         match *self {
             Values::None => Ok(()),
             Values::Canvas([width, height, samples]) => {
-                write!(formatter, "1 to {MAX_SIDE} pixels a side and {SAMPLE_COUNTS} samples a pixel, ")?;
-                write!(formatter, "and not {width} by {height} and {samples}")
+                write!(formatter, ": expected 1 to {MAX_SIDE} pixels a side and {SAMPLE_COUNTS} samples a pixel, ")?;
+                write!(formatter, "got {width} by {height} and {samples}")
             }
-            Values::Index { given, count } => write!(formatter, "0 to {}, and not {given}", count.saturating_sub(1)),
+            Values::Index { given, count } => {
+                write!(formatter, ": expected 0 to {}, got {given}", count.saturating_sub(1))
+            }
             Values::TileRows { given: [first, end], own: [own_first, own_end] } => {
-                write!(formatter, "{own_first} to {own_end}, and not {first} to {end}")
+                write!(formatter, ": expected {own_first} to {own_end}, got {first} to {end}")
             }
             Values::Tile { given: [column, row], columns, rows: [first, end] } => {
                 let (columns, end) = (columns.saturating_sub(1), end.saturating_sub(1));
-                write!(formatter, "column 0 to {columns} and row {first} to {end}, and not {column} and {row}")
+                write!(formatter, ": expected column 0 to {columns} and row {first} to {end}, got {column} and {row}")
             }
             Values::Entries { given, wanted, or_one } => {
-                write!(formatter, "{}{wanted} entries, and not {given}", if or_one { "1 or " } else { "" })
+                write!(formatter, ": expected {}{wanted} entries, got {given}", if or_one { "1 or " } else { "" })
             }
-            Values::Stride { given, element } => write!(formatter, "a multiple of {element} bytes, and not {given}"),
+            Values::Stride { given, element } => {
+                write!(formatter, ": expected a multiple of {element} bytes, got {given}")
+            }
             Values::Buffer { given, row, rows, stride } => write_buffer(formatter, given, row, rows, stride),
-            Values::Vertices(count) => write!(formatter, "{count}"),
+            Values::Vertices(count) => write!(formatter, ": {count}"),
             Values::Position { of, at, origin } => {
                 if let Some((name, number)) = of {
-                    write!(formatter, "{name} {number}: ")?;
+                    write!(formatter, ": expected {name}[{number}] of {LOW} to {HIGH}")?;
                 }
                 write_position(formatter, at, origin)
             }
             Values::Origin(Origin { x, y }) => {
                 let [least, greatest] = ORIGINS;
-                write!(formatter, "an origin of {least} to {greatest} pixels, and not {x} and {y}")
+                write!(formatter, ": expected an origin of {least} to {greatest} pixels, got {x} and {y}")
             }
             Values::Ends { begin, end, count, of } => {
-                write!(formatter, "it begins at {begin} and ends at {end}, and there are {count} {of}")
+                write!(formatter, ", got {end} after {begin}, of {count} {of}")
             }
-            Values::Counts { given, wanted } => write!(formatter, "{wanted}, and not {given}"),
+            Values::Counts { given, wanted } => write!(formatter, ", got {given} for {wanted} polygons"),
         }
     }
 }
@@ -86,16 +90,16 @@ fn write_buffer(
 ) -> fmt::Result {
     let stride = if stride == 0 { row } else { stride };
     if stride < row {
-        return write!(formatter, "a stride of at least {row} bytes, or 0, and not {stride}");
+        return write!(formatter, ": expected a stride of at least {row} bytes, or 0, got {stride}");
     }
     let wanted = rows.checked_sub(1).map_or(0, |above| above.saturating_mul(stride).saturating_add(row));
-    write!(formatter, "{wanted} bytes for {rows} rows at a stride of {stride}, and not {given}")
+    write!(formatter, ": expected {wanted} bytes for {rows} rows at a stride of {stride}, got {given}")
 }
 
 /// Writes a position, and the range of each coordinate that is outside of it.
 fn write_position(formatter: &mut fmt::Formatter<'_>, [x, y]: Position, origin: Origin) -> fmt::Result {
     let (in_x, in_y) = (pixels(x.into()), pixels(y.into()));
-    write!(formatter, "x {x} and y {y} in 1/256 pixel ({in_x} and {in_y} pixels)")?;
+    write!(formatter, ", got x {x} and y {y} in 1/256 pixel ({in_x} and {in_y} pixels)")?;
     for (name, value, begin) in [("x", x, origin.x), ("y", y, origin.y)] {
         let (least, greatest) = range(begin);
         if (least..=greatest).contains(&value.into()) {

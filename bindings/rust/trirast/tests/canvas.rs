@@ -449,7 +449,7 @@ fn refuses_canvases_that_there_are_not() {
     {
         let error = Canvas::builder(width, height).samples(samples).build().unwrap_err();
         let sizes = "1 to 4096 pixels a side and 1, 2, 4, 8 or 16 samples a pixel";
-        let line = format!("no such canvas: {sizes}, and not {width} by {height} and {samples}");
+        let line = format!("no such canvas: expected {sizes}, got {width} by {height} and {samples}");
         assert_eq!((error.kind(), error.to_string()), (ErrorKind::BadCanvas, line));
         assert_eq!((error.draw(), error.element()), (None, None));
     }
@@ -472,7 +472,7 @@ fn refuses_buffers_that_are_too_small() {
         assert_eq!(refused(canvas.depths_into(0, &mut depths, 21)).0, ErrorKind::BadStride);
         assert_eq!(refused(canvas.depths_into(4, &mut depths, 20)).0, ErrorKind::BadSample);
         assert_eq!(depths, [7; 1999]);
-        assert_eq!(canvas.ids(4).unwrap_err().to_string(), "no such sample: 0 to 3, and not 4");
+        assert_eq!(canvas.ids(4).unwrap_err().to_string(), "no such sample: expected 0 to 3, got 4");
         assert_eq!(canvas.pixels(Format::Rgb8).unwrap(), [1, 2, 3].repeat(2000));
     }
 }
@@ -485,7 +485,7 @@ fn says_what_was_passed_and_what_may_be() {
     let far = good.map(|vertex| Vertex { x: 8_388_608, ..vertex });
     let [.., Vertex { y, .. }] = far;
     let beyond = format!(
-        "vertex 2 is out of range: x 8388608 and y {y} in 1/256 pixel (32768 and {} pixels)",
+        "vertex 2 is out of range, got x 8388608 and y {y} in 1/256 pixel (32768 and {} pixels)",
         f64::from(y) / 256.0
     );
     let draws = [Draw::new(&good, Indices::InOrder), Draw::new(&far, &[2u32, 2, 2])];
@@ -494,15 +494,21 @@ fn says_what_was_passed_and_what_may_be() {
     let cases = [
         (
             message(canvas.resolve(Format::Rgb8, &mut bytes, 0)),
-            "buffer too small: 6000 bytes for 200 rows at a stride of 30, and not 5999".into(),
+            "buffer too small: expected 6000 bytes for 200 rows at a stride of 30, got 5999".into(),
         ),
         (
             message(canvas.load(Format::Rgb8, &bytes, 29)),
-            "buffer too small: a stride of at least 30 bytes, or 0, and not 29".into(),
+            "buffer too small: expected a stride of at least 30 bytes, or 0, got 29".into(),
         ),
-        (message(canvas.depths_into(0, &mut depths, 21)), "wrong stride: a multiple of 2 bytes, and not 21".into()),
-        (message(canvas.store(9, Format::Rgb8, &bytes, 0)), "no such sample: 0 to 3, and not 9".into()),
-        (message(canvas.rows(2, 5).map(drop)), "no such tile rows: 0 to 4, and not 2 to 5".into()),
+        (
+            message(canvas.depths_into(0, &mut depths, 21)),
+            "wrong stride: expected a multiple of 2 bytes, got 21".into(),
+        ),
+        (
+            message(canvas.store(9, Format::Rgb8, &bytes, 0)),
+            "no such sample: expected 0 to 3, got 9".into(),
+        ),
+        (message(canvas.rows(2, 5).map(drop)), "no such tile rows: expected 0 to 4, got 2 to 5".into()),
         (
             message(canvas.draw(&good, &[0u16, 1, 3], State::new())),
             "draw 0: index 2 is 3, which is not less than the number of vertices: 3".into(),
@@ -595,10 +601,10 @@ fn gives_edge_functions() {
     assert_eq!(found[3], inside);
     assert_eq!(edges_at([a, b, c], &[]).unwrap(), []);
     let error = edges([a, b, [0, 8_388_608]], [0, 0]).unwrap_err();
-    let line = "position out of range: corner 2: x 0 and y 8388608 in 1/256 pixel (0 and 32768 pixels); \
-                y: -8388608 to 8388607 (-32768 to 32767.99609375 pixels)";
+    let line = "position out of range: expected corner[2] of -8388608 to 8388607, got x 0 and y 8388608 in \
+                1/256 pixel (0 and 32768 pixels); y: -8388608 to 8388607 (-32768 to 32767.99609375 pixels)";
     assert_eq!((error.kind(), error.to_string().as_str()), (ErrorKind::BadPosition, line));
     assert_eq!(edges([a, b, c], [-8_388_609, 0]).unwrap_err().kind(), ErrorKind::BadPosition);
     let error = edges_at([a, b, c], &[[0, 0], [0, 8_388_608]]).unwrap_err();
-    assert_eq!((error.kind(), error.to_string()), (ErrorKind::BadPosition, line.replace("corner 2", "point 1")));
+    assert_eq!((error.kind(), error.to_string()), (ErrorKind::BadPosition, line.replace("corner[2]", "point[1]")));
 }

@@ -194,7 +194,7 @@ fn of_fewer_polygons_are_refused() {
         ];
         for error in errors {
             assert_eq!(error.kind(), ErrorKind::BadBatch(BatchCause::TooFewBoxes));
-            assert_eq!(error.to_string(), "there are fewer boxes than polygons: 2, and not 1");
+            assert_eq!(error.to_string(), "there are fewer boxes than polygons, got 1 for 2 polygons");
         }
         assert!(canvas.ids(0).unwrap().iter().all(|&id| id == WHITE));
         // More of them are none too few.

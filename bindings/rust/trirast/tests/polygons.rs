@@ -61,10 +61,10 @@ fn refuses_by_ring_polygon_and_corner() {
     let (ring, polygon) =
         ("ends before it begins, or behind the last corner", "ends before it begins, or behind the last ring");
     let left_over = "a vertex or an index is in no draw, or a corner or a ring in no polygon";
-    let of_corners = format!("and there are {} corners", CORNERS.len());
+    let of_corners = format!("of {} corners", CORNERS.len());
     let (x, in_pixels) = (far[5][0], f64::from(far[5][0]) / 256.0);
     let place = format!(
-        "x {x} and y 8388608 in 1/256 pixel ({in_pixels} and 32768 pixels); \
+        "got x {x} and y 8388608 in 1/256 pixel ({in_pixels} and 32768 pixels); \
          y: -8388608 to 8388607 (-32768 to 32767.99609375 pixels)"
     );
     let cases = [
@@ -72,35 +72,40 @@ fn refuses_by_ring_polygon_and_corner() {
             of(&CORNERS, &[5, 4], &[1, 2]),
             BatchCause::BadRing,
             Some(1),
-            format!("ring 1 {ring}: it begins at 5 and ends at 4, {of_corners}"),
+            format!("ring 1 {ring}, got 4 after 5, {of_corners}"),
         ),
         (
             of(&CORNERS, &[9, 9], &[1, 2]),
             BatchCause::BadRing,
             Some(0),
-            format!("ring 0 {ring}: it begins at 0 and ends at 9, {of_corners}"),
+            format!("ring 0 {ring}, got 9 after 0, {of_corners}"),
         ),
         (
             of(&CORNERS, &RINGS, &[1, 3]),
             BatchCause::BadPolygon,
             Some(1),
-            format!("polygon 1 {polygon}: it begins at 1 and ends at 3, and there are 2 rings"),
+            format!("polygon 1 {polygon}, got 3 after 1, of 2 rings"),
         ),
-        // What a corner is called is the library's.
-        (of(&far, &RINGS, &[1, 2]), BatchCause::BadPosition, Some(5), format!("5 is out of range: {place}")),
+        (
+            of(&far, &RINGS, &[1, 2]),
+            BatchCause::BadPosition,
+            Some(5),
+            // What a corner is called is the library's.
+            format!("5 is out of range, {place}"),
+        ),
         (of(&CORNERS, &[4, 7], &[1, 2]), BatchCause::LeftOver, None, left_over.into()),
         (of(&CORNERS, &RINGS, &[1, 1]), BatchCause::LeftOver, None, left_over.into()),
         (
             whole.colors(&COLORS[..1]),
             BatchCause::TooFewColors,
             None,
-            "there are fewer colors than polygons: 2, and not 1".into(),
+            "there are fewer colors than polygons, got 1 for 2 polygons".into(),
         ),
         (
             whole.depths(&[1]),
             BatchCause::TooFewDepths,
             None,
-            "there are fewer depths than polygons: 2, and not 1".into(),
+            "there are fewer depths than polygons, got 1 for 2 polygons".into(),
         ),
     ];
     let mut canvas = cleared();
@@ -118,7 +123,7 @@ fn refuses_by_ring_polygon_and_corner() {
     let mut window = Canvas::builder(4, 4).origin(28_673, 0).build().unwrap();
     let error = window.draw_polygons(&whole, State::new()).unwrap_err();
     assert_eq!(error.kind(), ErrorKind::BadPosition);
-    assert!(error.to_string().ends_with(": an origin of -32768 to 28672 pixels, and not 28673 and 0"), "{error}");
+    assert!(error.to_string().ends_with(": expected an origin of -32768 to 28672 pixels, got 28673 and 0"), "{error}");
 }
 
 // ---- Tiles
@@ -162,7 +167,7 @@ fn refuses_tiles_that_there_are_not() {
         let error = canvas.tile_store(column, row, &entries).unwrap_err();
         assert_eq!(
             error.to_string(),
-            format!("no such tile: column 0 to 0 and row 0 to 3, and not {column} and {row}")
+            format!("no such tile: expected column 0 to 0 and row 0 to 3, got {column} and {row}")
         );
     }
     let mut part = canvas.rows(1, 2).unwrap();

@@ -1,13 +1,13 @@
-"""A backend of matplotlib: Agg, whose faces and Gouraud triangles a canvas draws, so that there is no
-seam between them.
+"""A matplotlib backend: Agg, except that a canvas draws filled areas and Gouraud triangles, without seams.
 
     import matplotlib
     matplotlib.use("module://trirast.matplotlib")
 
-Then all draws as ever, to files and buffers of pixels; "module://trirast.matplotlib.tkagg" and
-"module://trirast.matplotlib.qtagg" have windows. docs/matplotlib.md says what differs. It needs numpy and matplotlib
-3.6 or later. If the library is missing, its import fails. A Figure() of your own, without pyplot, needs
-FigureCanvasTrirast(figure).
+All other code stays as it is, for files and buffers of pixels. "module://trirast.matplotlib.tkagg" and
+"module://trirast.matplotlib.qtagg" open windows. docs/reference/matplotlib.md says what differs from Agg.
+The backend needs numpy and matplotlib 3.6 or later. Its import fails if the library is missing. A Figure() of
+your own, without pyplot, needs FigureCanvasTrirast(figure). Where Agg draws areas whose seams may show, a warning says
+so once for each figure; report(figure) lists who draws what, and why.
 
 Settings hold for all figures, from their next draw on:
 
@@ -21,10 +21,10 @@ Any other value is an error when a face is drawn.
 """
 
 from .._ffi import library
-from ._canvas import FigureCanvasTrirast
+from ._canvas import FigureCanvasTrirast, report
 from ._renderer import RendererTrirast
 
-__all__ = ["FigureCanvas", "FigureCanvasTrirast", "RendererTrirast"]
+__all__ = ["FigureCanvas", "FigureCanvasTrirast", "RendererTrirast", "report"]
 
 library()
 

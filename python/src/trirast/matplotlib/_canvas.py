@@ -3,12 +3,13 @@
 from __future__ import annotations
 
 from contextlib import contextmanager
-from typing import Any, Iterator, Optional, Tuple
+from typing import Any, Iterator, List, Optional, Tuple
 
 from matplotlib.backends.backend_agg import FigureCanvasAgg
 
 from ._inside import rasterized_by
 from ._renderer import RendererTrirast
+from ._report import Drawn
 
 
 class DrawsByTrirast:
@@ -23,6 +24,7 @@ class DrawsByTrirast:
         wanted = (width, height, self.figure.dpi)
         if self._drawn_for != wanted:
             self.renderer = RendererTrirast(*wanted)
+            self.renderer.log.figure = self.figure
             self._drawn_for = wanted
         elif cleared:
             self.renderer.clear()
@@ -38,3 +40,13 @@ class DrawsByTrirast:
 
 class FigureCanvasTrirast(DrawsByTrirast, FigureCanvasAgg):
     """A figure's canvas with that renderer."""
+
+
+def report(figure: Any) -> List[Drawn]:
+    """Draws a figure into memory, and returns who draws the areas of its artists, and why: by trirast, by Agg, or by
+    both. Lines, text and images, which Agg draws, are not listed."""
+    width, height = figure.bbox.size
+    renderer = RendererTrirast(width, height, figure.dpi)
+    renderer.log.is_quiet = True
+    figure.draw(renderer)
+    return renderer.log.drawn()

@@ -36,6 +36,24 @@ class Collection(NamedTuple):
     def by_agg(self, agg: Any, gc: Any) -> None:
         agg.draw_path_collection(gc, *self[:-1], **self.more)
 
+    @property
+    def is_moved(self) -> bool:
+        """Whether items have places of their own, as markers and cells of a honeycomb have."""
+        return len(self.offsets) > 1 or bool(np.any(unmasked(self.offsets)))
+
+    def without_edges(self, which: Any) -> Collection:
+        """The same, whose edges of some items have no width and no colour."""
+        count = self.item_count
+        edges, widths = cycled(rows_of_colors(self.edges), count), cycled(np.asarray(self.widths, np.float64), count)
+        edges[which], widths[which] = 0, 0
+        return self._replace(edges=edges, widths=widths)
+
+    def without_faces(self, which: Any) -> Collection:
+        """The same, whose faces of some items are hidden."""
+        faces = cycled(rows_of_colors(self.faces), self.item_count)
+        faces[which] = HIDDEN
+        return self._replace(faces=faces)
+
     def spread(self) -> Collection:
         """The same with an entry for each item."""
         count = self.item_count
@@ -65,6 +83,13 @@ class Collection(NamedTuple):
 
 def taken(values: Any, items: Any) -> Any:
     return values[items] if len(values) else values
+
+
+class Shares(NamedTuple):
+    """Which items have a face that is drawn into samples, and of which Agg draws something."""
+
+    ours: Any
+    by_agg: Any
 
 
 class Part(NamedTuple):

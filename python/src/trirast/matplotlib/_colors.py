@@ -2,7 +2,7 @@
 
 from __future__ import annotations
 
-from typing import Any, Tuple
+from typing import Any, NamedTuple
 
 import numpy as np
 
@@ -10,6 +10,8 @@ from ._inside import face_alpha
 from ._transforms import cycled
 
 OPAQUE = 255
+# The width in points that matplotlib gives edges by default, and at most which those in a face's colour are left out.
+OWN = 1.0
 
 
 def face_bytes(gc: Any, color: Any) -> Any:
@@ -25,6 +27,13 @@ def edge_alpha(gc: Any) -> float:
     color = gc.get_rgb()
     alpha: float = color[3] if len(color) > 3 else 1.0
     return alpha
+
+
+def is_own_edge(gc: Any, face: Any) -> bool:
+    """Whether a thin edge has the colour of a translucent face, in bytes: it would show as a darker line."""
+    if face[3] == OPAQUE or gc.get_linewidth() > OWN:
+        return False
+    return [byte_of(value) for value in (*gc.get_rgb()[:3], edge_alpha(gc))] == list(face)
 
 
 def color_bytes(colors: Any) -> Any:
@@ -69,9 +78,22 @@ def rows_of_colors(colors: Any) -> Any:
     return np.asarray(colors, np.float64).reshape(-1, 4)
 
 
-def edges_of(edgecolors: Any, linewidths: Any, count: int) -> Tuple[Any, Any]:
-    """The width of each item's edge in points, and which items have an edge that is seen."""
+class Edges(NamedTuple):
+    """The edge of each item: its width in points, its colour in bytes, and whether it is seen."""
+
+    widths: Any
+    colors: Any
+    seen: Any
+
+    def are_own(self, faces: Any) -> Any:
+        """Which items have a thin translucent edge in the colour of their face: it would show as a darker line."""
+        return self.seen & (self.widths <= OWN) & (faces[:, 3] < OPAQUE) & (self.colors == faces).all(1)
+
+
+def edges_of(edgecolors: Any, linewidths: Any, count: int) -> Edges:
+    """The edges of as many items, of colours and widths that are taken again and again."""
     if not len(edgecolors):
-        return np.zeros(count), np.zeros(count, bool)
+        return Edges(np.zeros(count), np.zeros((count, 4), np.uint8), np.zeros(count, bool))
     widths = cycled(np.asarray(linewidths, np.float64) if len(linewidths) else np.ones(1), count)
-    return widths, (widths != 0) & (cycled(color_bytes(edgecolors)[:, 3], count) > 0)
+    colors = cycled(color_bytes(edgecolors), count)
+    return Edges(widths, colors, (widths != 0) & (colors[:, 3] > 0))

@@ -9,11 +9,12 @@ import numpy as np
 from matplotlib.path import Path
 
 from .._polygons import Polygons, ranges, with_zero
+from .._ring_cuts import within
 from ._inside import MAX_SNAPPED, STRAIGHT, all_codes, all_vertices, are_one, cleaned, stacked, stacked_codes
 from ._paths import range_any, rectilinear
 from ._polygons import (
     CLOSEPOLY, LINETO, MOVETO, NOTHING, REACH, Rings, as_corners, as_numbers, equal_rings, in_units, is_near, joined,
-    of_arrays, rings, rings_of_one_length,
+    of_arrays, polygons, rings, rings_of_one_length,
 )
 from ._transforms import applied, matrix_of
 
@@ -321,18 +322,39 @@ def spread_flags(flags: Any, places: Any) -> Any:
 # ---- Meshes
 
 
-def quad_faces(coordinates: Any, transform: Any, snap: Optional[bool], stroke: float = 0) -> Optional[Faces]:
-    """The quads of a grid of points, row after row, by one transform; None if one is too far or no number. All are
-    snapped or none."""
+def quad_faces(coordinates: Any, transform: Any, snap: Optional[bool], stroke: float = 0) -> Faces:
+    """The quads of a grid of points, row after row, by one transform. All are snapped or none. As in Agg, a quad with
+    one corner that is no number is a triangle, and with more of them it is empty."""
     grid = applied(transform, np.asarray(coordinates, np.float64))
-    if not is_near(grid):
-        return None
+    near = is_near(grid)
+    if not near:
+        grid = np.where(np.isfinite(grid).all(-1, keepdims=True), grid, np.nan)
     across, down = np.abs(grid[:, 1:] - grid[:, :-1]), np.abs(grid[1:] - grid[:-1])
-    upright = bool((across < STRAIGHT).any(-1).all() and (down < STRAIGHT).any(-1).all())
+    # Where an end is no number, there is no line.
+    upright = not ((across >= STRAIGHT).all(-1).any() or (down >= STRAIGHT).all(-1).any())
     if snap or (snap is None and upright):
         grid = np.floor(grid + 0.5) + half_of_odd(np.float64(stroke))
+    found = near_quads(grid) if near else far_quads(grid)
+    return Faces(found, np.full(found.count, upright and snap is not False))
+
+
+def near_quads(grid: Any) -> Polygons:
+    """The quads of a grid of numbers in the guard band."""
     # Corners are rounded before they are put together, of which each is four times there.
     whole = as_numbers(in_units(grid).reshape(-1, 2).astype(np.int32)).reshape(grid.shape[:2])
-    corners = as_corners(np.stack((whole[:-1, :-1], whole[:-1, 1:], whole[1:, 1:], whole[1:, :-1]), 2).reshape(-1))
-    found = rings_of_one_length(corners.reshape(-1, 4, 2))
-    return Faces(found, np.full(found.count, upright and snap is not False))
+    return rings_of_one_length(as_corners(quads_of(whole).reshape(-1)).reshape(-1, 4, 2))
+
+
+def far_quads(grid: Any) -> Polygons:
+    """The quads of any grid, without corners that are no numbers, cut to the guard band."""
+    corners = quads_of(grid).reshape(-1, 4, 2)
+    kept = ~np.isnan(corners[..., 0])
+    kept[kept.sum(1) < 3] = False
+    counts = kept.sum(1)
+    whole = within(corners[kept], np.cumsum(counts), (-REACH, -REACH), (REACH, REACH))
+    return polygons(*whole, np.arange(1, len(counts) + 1))
+
+
+def quads_of(grid: Any) -> Any:
+    """The four corners of each quad of a grid, in their order around it."""
+    return np.stack((grid[:-1, :-1], grid[:-1, 1:], grid[1:, 1:], grid[1:, :-1]), 2)

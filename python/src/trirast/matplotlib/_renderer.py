@@ -11,14 +11,20 @@ from .._arguments import flag, integer, thread_count
 from .._box import Box
 from .._patterns import COUNTS, PATTERNS
 from .._polygons import Polygons
+from ._cells import Cells
 from ._clips import Clips, clip_box
-from ._collection import Collection, rounds_in_order
-from ._colors import OPAQUE, byte_of, color_bytes, edge_alpha, edges_of, face_bytes
+from ._collection import Collection, Shares, rounds_in_order
+from ._colors import OPAQUE, Edges, byte_of, color_bytes, edge_alpha, edges_of, face_bytes, is_own_edge
 from ._drawing import Pixels, draw_triangles
 from ._inside import HIDDEN, face_alpha, faces_have_their_alpha, take_grids
 from ._items import Faces, Items, faces_of, quad_faces
 from ._mesh import Gouraud, Mesh, mesh_of
+from ._overlaps import is_order_hidden
 from ._paths import has_curve, is_odd, is_snapped, is_snapped_rectangle, path_polygon
+from ._report import (
+    AGG, BOTH, DOTS, EDGES, MOVED_MESH, NO_SIDES, NOT_SMOOTH, NOTHING_ELSE, OVERLAPPING, SKETCHED, TOO_LARGE, TRIRAST,
+    WHOLE_PIXELS, Log, Reason,
+)
 from ._rounds import have_common_sides, reach_of, rounds_of
 from ._samples import Samples
 from ._transforms import cycled, placed, unmasked
@@ -45,12 +51,12 @@ class RendererTrirast(RendererAgg):
     smooth = True
 
     _samples: Optional[Samples] = None
-    _depth = 0
 
     # ---- Agg, and when what waits is drawn
 
     def __init__(self, width: float, height: float, dpi: float) -> None:
         self._kept: List[Optional[Samples]] = []
+        self.log = Log()
         super().__init__(width, height, dpi)
         self._clips = Clips(int(height))
 
@@ -69,19 +75,21 @@ class RendererTrirast(RendererAgg):
         """Agg puts its calls into the instance here. Those of this class go by the property."""
 
     def open_group(self, s: str, gid: Optional[str] = None) -> None:
-        self._depth += 1
+        self.log.open(s)
 
     def close_group(self, s: str) -> None:
-        self._depth -= 1
+        self.log.close()
         self._flush_at_end()
+        if not self.log.depth:
+            self.log.warn()
 
     def _flush_at_end(self) -> None:
         """What waits is drawn at the end of the outermost artist: who has the picture's memory sees it then."""
-        if self._depth <= 0 and self._samples is not None:
+        if not self.log.depth and self._samples is not None:
             self._samples.flush()
 
     def clear(self) -> None:
-        self._depth = 0
+        self.log.clear()
         if self._samples is not None:
             self._samples.forget()
         super().clear()
@@ -109,10 +117,14 @@ class RendererTrirast(RendererAgg):
     # ---- One path
 
     def draw_path(self, gc: Any, path: Any, transform: Any, rgbFace: Any = None) -> None:
-        alpha = byte_of(face_alpha(gc, rgbFace)) if rgbFace is not None and gc.get_antialiased() else 0
-        if not alpha or self._is_whole(gc, path, transform, alpha) or not self._all_samples().can_draw:
+        alpha = byte_of(face_alpha(gc, rgbFace)) if rgbFace is not None else 0
+        reason = self._why_agg_draws(gc, path, transform, alpha) if alpha else NOTHING_ELSE
+        if reason is not None:
+            if alpha:
+                self.log.add(AGG, reason)
             super().draw_path(gc, path, transform, rgbFace)
             return
+        self.log.add(TRIRAST)
         has_edge = edge_alpha(gc) != 0
         stroke = self.points_to_pixels(gc.get_linewidth()) if has_edge else 0.0
         matrix, snap = transform.get_matrix(), gc.get_snap()
@@ -123,6 +135,14 @@ class RendererTrirast(RendererAgg):
         if (has_edge and stroke) or gc.get_hatch() is not None:
             with faces_have_their_alpha(gc):
                 super().draw_path(gc, path, transform, HIDDEN)
+
+    def _why_agg_draws(self, gc: Any, path: Any, transform: Any, alpha: int) -> Optional[Reason]:
+        """Why a path with a face of this alpha is Agg's, or None if its face is not."""
+        if not gc.get_antialiased():
+            return NOT_SMOOTH
+        if self._is_whole(gc, path, transform, alpha):
+            return WHOLE_PIXELS
+        return None if self._all_samples().can_draw else TOO_LARGE
 
     def _is_whole(self, gc: Any, path: Any, transform: Any, alpha: int) -> bool:
         """Whether a path with a face of this alpha is a rectangle of which Agg makes what is made here: of whole
@@ -151,8 +171,9 @@ class RendererTrirast(RendererAgg):
             if not snapped:
                 # Agg puts the origin of such a path at the centre of a pixel.
                 matrix[:2, 2] += (0.5, -0.5)
-            stroke = self.points_to_pixels(gc.get_linewidth())
+            stroke = 0.0 if is_own_edge(gc, color) else self.points_to_pixels(gc.get_linewidth())
             self._draw(gc, path_polygon(marker_path, matrix, int(self.height), snapped, stroke), [color])
+            self.log.add(TRIRAST)
             if not stroke:
                 return
             rgbFace = None
@@ -174,26 +195,57 @@ class RendererTrirast(RendererAgg):
 
     def _draw_collection(self, gc: Any, whole: Collection) -> bool:
         """Draws a collection, or returns False if all of it is Agg's."""
-        has_faces = len(whole.paths) and len(whole.faces) and len(whole.antialiased)
-        if not has_faces or gc.get_sketch_params() is not None:
+        if not (len(whole.paths) and len(whole.faces) and len(whole.antialiased)):
             return False
-        count = whole.item_count
-        colors = cycled(color_bytes(whole.faces), count)
-        ours = (colors[:, 3] > 0) & cycled(self._is_smooth(np.asarray(whole.antialiased, bool)), count)
-        points, edged = edges_of(whole.edges, whole.widths, count)
-        hatched = gc.get_hatch() is not None
-        are_dots = edged.any() and not hatched and all(map(has_curve, whole.paths))
-        if not ours.any() or are_dots or not self._all_samples().can_draw:
+        colors = cycled(color_bytes(whole.faces), whole.item_count)
+        if not colors[:, 3].any():
             return False
-        by_agg = edged | hatched | (~ours & (colors[:, 3] > 0))
-        faces = self._faces(gc, whole, self.points_to_pixels(points), not by_agg.any(), edged.any())
-        if not edged.any() and faces.whole.all() and self._leaves_samples(gc, bool((colors[ours, 3] == OPAQUE).all())):
+        edges = edges_of(whole.edges, whole.widths, whole.item_count)
+        reason = self._why_agg_draws_all(gc, whole, colors, edges)
+        if reason is not None:
+            self.log.add(AGG, reason)
+            return False
+        own = edges.are_own(colors)
+        if own.any() and gc.get_hatch() is None and (not whole.is_moved or self._have_common_sides(gc, whole, edges)):
+            whole = whole.without_edges(own)
+            edges = edges_of(whole.edges, whole.widths, whole.item_count)
+        return self._draw_items(gc, whole, colors, edges)
+
+    def _why_agg_draws_all(self, gc: Any, whole: Collection, colors: Any, edges: Edges) -> Optional[Reason]:
+        """Why all of a collection with faces is Agg's, or None if it may be drawn here."""
+        if gc.get_sketch_params() is not None:
+            return SKETCHED
+        if not (self._are_smooth(whole) & (colors[:, 3] > 0)).any():
+            return NOT_SMOOTH
+        if edges.seen.any() and gc.get_hatch() is None and all(map(has_curve, whole.paths)):
+            return DOTS
+        return None if self._all_samples().can_draw else TOO_LARGE
+
+    def _are_smooth(self, whole: Collection) -> Any:
+        return cycled(self._is_smooth(np.asarray(whole.antialiased, bool)), whole.item_count)
+
+    def _have_common_sides(self, gc: Any, whole: Collection, edges: Edges) -> bool:
+        widths = self.points_to_pixels(edges.widths)
+        return have_common_sides(self._faces(gc, whole, widths, True, bool(edges.seen.any())).polygons)
+
+    def _draw_items(self, gc: Any, whole: Collection, colors: Any, edges: Edges) -> bool:
+        """Draws the items of a collection, or returns False if all of it is Agg's."""
+        ours = self._are_smooth(whole) & (colors[:, 3] > 0)
+        by_agg = edges.seen | (gc.get_hatch() is not None) | (~ours & (colors[:, 3] > 0))
+        has_edges = bool(edges.seen.any())
+        faces = self._faces(gc, whole, self.points_to_pixels(edges.widths), not by_agg.any(), has_edges)
+        if not has_edges and faces.whole.all() and self._leaves_samples(gc, bool((colors[ours, 3] == OPAQUE).all())):
+            self.log.add(AGG, WHOLE_PIXELS)
             return False
         if not by_agg.any():
+            self.log.add(TRIRAST)
             self._draw(gc, faces.polygons, colors)
             return True
         polygons = faces.polygons.colored(np.asarray(colors, np.uint8))
-        return self._draw_with_edges(gc, whole, polygons, ours, by_agg, self.points_to_pixels(points))
+        if gc.get_hatch() is None and not have_common_sides(polygons):
+            self.log.add(AGG, NO_SIDES)
+            return False
+        return self._draw_with_edges(gc, whole, polygons, edges, Shares(ours, by_agg))
 
     def _faces(self, gc: Any, whole: Collection, widths: Any, alone: bool, has_edges: bool) -> Faces:
         count, height = whole.item_count, int(self.height)
@@ -206,53 +258,93 @@ class RendererTrirast(RendererAgg):
         margin = float(reach_of(widths).max()) if has_edges else 1.0
         return faces_of(items, gc.get_snap(), alone, (int(self.width), height), margin)
 
-    def _draw_with_edges(
-        self, gc: Any, whole: Collection, polygons: Polygons, ours: Any, by_agg: Any, widths: Any
-    ) -> bool:
-        """Draws faces and what Agg draws over them, in rounds. With too many of them opaque faces are drawn below
-        Agg's, where they show between these. Hatched faces may have their neighbours in other collections, as
-        contour levels do."""
-        if gc.get_hatch() is None and not have_common_sides(polygons):
-            return False
+    def _draw_with_edges(self, gc: Any, whole: Collection, polygons: Polygons, edges: Edges, shares: Shares) -> bool:
+        """Draws faces and what Agg draws over them: all faces before all edges where this cannot be seen, else in
+        rounds. With too many of these opaque faces are drawn below Agg's, where they show between them. Hatched faces
+        may have their neighbours in other collections, as contour levels do."""
+        ours, by_agg = shares
+        if is_order_hidden(polygons, edges, self._clip_box(gc)):
+            self._add_some(gc, polygons, ours)
+            whole.without_faces(ours).by_agg(self._renderer, gc)
+            self.log.add(TRIRAST, EDGES)
+            return True
+        widths = self.points_to_pixels(edges.widths)
         rounds = rounds_of(polygons, ours, by_agg, widths, int(self.width), int(self.height))
         if rounds is None:
-            if not (polygons.colors[ours, 3] == OPAQUE).all():
-                return False
-            some = np.flatnonzero(ours)
-            self._add(gc, polygons if len(some) == len(ours) else polygons.take(some))
+            is_opaque = bool((polygons.colors[ours, 3] == OPAQUE).all())
+            if is_opaque:
+                self._add_some(gc, polygons, ours)
+            self.log.add(BOTH if is_opaque else AGG, OVERLAPPING)
             return False
         for part in rounds_in_order(whole, polygons, ours, by_agg, rounds):
             self._add(gc, part.polygons)
             if part.by_agg is not None:
                 part.by_agg.by_agg(self._renderer, gc)
+        self.log.add(TRIRAST, EDGES)
         return True
+
+    def _add_some(self, gc: Any, polygons: Polygons, which: Any) -> None:
+        """Draws those polygons that are set."""
+        self._add(gc, polygons if which.all() else polygons.take(np.flatnonzero(which)))
+
+    # ---- Meshes
 
     def draw_quad_mesh(
         self, gc: Any, master_transform: Any, meshWidth: int, meshHeight: int, coordinates: Any, offsets: Any,
         offsetTrans: Any, facecolors: Any, antialiased: Any, edgecolors: Any,
     ) -> None:
-        given = [
-            gc, master_transform, meshWidth, meshHeight, coordinates, offsets, offsetTrans, facecolors, antialiased,
+        whole = Cells(
+            master_transform, meshWidth, meshHeight, coordinates, offsets, offsetTrans, facecolors, antialiased,
             edgecolors,
-        ]
-        smooth = self._is_smooth(bool(antialiased)) and len(facecolors) and len(offsets) <= 1 and gc.get_hatch() is None
-        if smooth and self._all_samples().can_draw:
-            transform = placed(master_transform, (), offsets, offsetTrans, 1, int(self.height))[0]
-            stroke = self.points_to_pixels(gc.get_linewidth()) if len(edgecolors) else 0
-            faces = quad_faces(unmasked(coordinates), transform, gc.get_snap(), stroke)
-            colors = cycled(color_bytes(facecolors), int(meshWidth) * int(meshHeight))
-            opaque = bool((colors[:, 3] == OPAQUE).all())
-            if faces is not None and not len(edgecolors):
-                if not faces.whole.all() or not self._leaves_samples(gc, opaque):
-                    self._draw(gc, faces.polygons, colors)
-                    return
-                # To hide seams Agg draws edges of an antialiased mesh in the colours of its faces.
-                # Whole pixels need none.
-                given[8] = False
-            elif faces is not None and opaque:
-                # Below Agg's mesh, where they show between its faces.
-                self._draw(gc, faces.polygons, colors)
-        self._renderer.draw_quad_mesh(*given)
+        )
+        if not self._draw_cells(gc, whole):
+            whole.by_agg(self._renderer, gc)
+
+    def _draw_cells(self, gc: Any, whole: Cells) -> bool:
+        """Draws the cells of a mesh, or returns False if all of it is Agg's."""
+        reason = self._why_agg_draws_cells(gc, whole)
+        if reason is not None:
+            self.log.add(AGG, reason)
+            return False
+        colors = cycled(color_bytes(whole.faces), whole.cell_count)
+        edges = edges_of(whole.edges, [gc.get_linewidth()], whole.cell_count)
+        if edges.are_own(colors).all():
+            edges = edges_of((), (), whole.cell_count)
+        stroke = self.points_to_pixels(float(edges.widths.max(initial=0)))
+        transform = placed(whole.master_transform, (), whole.offsets, whole.offset_transform, 1, int(self.height))[0]
+        faces = quad_faces(unmasked(whole.coordinates), transform, gc.get_snap(), stroke)
+        if edges.seen.any():
+            return self._draw_edged_cells(gc, whole, faces.polygons.colored(colors), edges)
+        if faces.whole.all() and self._leaves_samples(gc, bool((colors[:, 3] == OPAQUE).all())):
+            # To hide seams Agg draws edges of an antialiased mesh in the colours of its faces. Whole pixels need none.
+            whole._replace(antialiased=False, edges=whole.edges[:0]).by_agg(self._renderer, gc)
+            self.log.add(AGG, WHOLE_PIXELS)
+            return True
+        self._draw(gc, faces.polygons, colors)
+        self.log.add(TRIRAST)
+        return True
+
+    def _why_agg_draws_cells(self, gc: Any, whole: Cells) -> Optional[Reason]:
+        """Why all of a mesh is Agg's, or None if it may be drawn here."""
+        if not self._is_smooth(bool(whole.antialiased)) or not len(whole.faces):
+            return NOT_SMOOTH
+        if len(whole.offsets) > 1 or gc.get_hatch() is not None:
+            return MOVED_MESH
+        return None if self._all_samples().can_draw else TOO_LARGE
+
+    def _draw_edged_cells(self, gc: Any, whole: Cells, polygons: Polygons, edges: Edges) -> bool:
+        """Draws cells below their edges; or below Agg's mesh if they are opaque, where they show between its faces; or
+        returns False."""
+        is_hidden = is_order_hidden(polygons, edges, self._clip_box(gc))
+        is_opaque = bool((polygons.colors[:, 3] == OPAQUE).all())
+        if is_hidden or is_opaque:
+            self._add(gc, polygons)
+        if not is_hidden:
+            self.log.add(BOTH if is_opaque else AGG, OVERLAPPING)
+            return False
+        whole._replace(faces=np.array([HIDDEN])).by_agg(self._renderer, gc)
+        self.log.add(TRIRAST, EDGES)
+        return True
 
     # ---- Gouraud triangles
 
@@ -328,7 +420,7 @@ def sample_count(value: Any) -> int:
     a canvas has not."""
     given = integer("RendererTrirast.samples", value)
     if given not in PATTERNS:
-        raise ValueError(f"RendererTrirast.samples: {COUNTS}, and not {given}")
+        raise ValueError(f"RendererTrirast.samples: expected {COUNTS}, got {given}")
     return given
 
 

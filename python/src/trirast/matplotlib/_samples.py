@@ -9,6 +9,7 @@ import numpy as np
 
 from .._box import Box
 from .._polygons import Polygons
+from .._numbers import HIGHEST_ORIGIN
 from .._records import UNIT
 from ._colors import OPAQUE, as_agg_blends
 from ._mesh import Gouraud
@@ -17,8 +18,6 @@ from ._window import Clip, Window
 
 # A canvas of this side takes up to 409 MB with 16 samples, as far as it is drawn upon.
 MAX_SIDE = 2048
-# The farthest corner of a window.
-MAX_ORIGIN = 28672
 # Of so many pixels in both directions one is looked at where the colour of most is asked for.
 STEP = 7
 
@@ -71,7 +70,7 @@ class Samples:
     @property
     def can_draw(self) -> bool:
         """Whether windows reach all of the picture."""
-        return bool(max(self._width, self._height) <= MAX_ORIGIN)
+        return bool(max(self._width, self._height) <= HIGHEST_ORIGIN)
 
     def is_opaque(self, box_of: Callable[[], Box]) -> bool:
         """Whether the pixels of a box are opaque, so that samples need no alpha. The box is asked for if some

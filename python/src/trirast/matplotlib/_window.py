@@ -10,11 +10,10 @@ from .._box import Box
 from .._canvas import Canvas
 from .._numbers import TILE_SIZE
 from .._polygons import Polygons
-from .._records import LOW, UNIT
 from .._tile_rows import TileRows
 from ._colors import OPAQUE
-from ._corners import triangles_of, vertices_of_corners
-from ._polygons import are_simple, rectangles
+from ._polygons import rectangles
+from ._shapes import draw_shapes
 from ._triangles import Batch
 
 # The changed runs of pixels of a tile row that are loaded one by one. More of them are loaded with all of their row.
@@ -119,22 +118,8 @@ class Window:
         tile_rows = self._tile_rows(box)
         TileRows(self._canvas, tile_rows.start, tile_rows.stop, self._threads).resolve(out)
 
-    def _draw(
-        self, polygons: Polygons, blend: Any, scissor: Optional[Box], depth: int = 0, **more: Any
-    ) -> None:
-        state: dict[str, Any] = {"blend": blend, "scissor": scissor, "threads": self._threads, **more}
-        triangles = triangles_of(polygons) if self._reaches(polygons.corners) else None
-        if triangles is not None:
-            vertices = vertices_of_corners(polygons.corners, polygons.colors, depth)
-            self._canvas.draw(vertices, triangles.tobytes(), **state)
-            return
-        rule: Any = "even-odd" if are_simple(polygons) else "nonzero"
-        self._canvas.draw_polygons(polygons, rule=rule, depth=depth, **state)
-
-    def _reaches(self, corners: Any) -> bool:
-        """Whether corners lie in the guard band as seen from the window, as those of triangles have to."""
-        farthest = UNIT * max(self.box.left, self.box.top)
-        return not farthest or bool(len(corners)) and int(corners.min()) - farthest >= LOW
+    def _draw(self, polygons: Polygons, blend: Any, scissor: Optional[Box], **more: Any) -> None:
+        draw_shapes(self._canvas, polygons, blend=blend, scissor=scissor, threads=self._threads, **more)
 
     # ---- Clip paths
 

@@ -29,13 +29,15 @@ from numpy.lib import format as numpy_format
 from numpy.typing import NDArray
 
 from .._errors import DrawListError, LimitError
+from .._numbers import MAX_LIST_BYTES
 from .._polygons import NONE, Polygons, own_corners
-from ._draw_list import MAX_LIST, check_states, scene_of_list, sheet_of
+from ._draw_list import check_states, scene_of_list, sheet_of
 from ._errors import ArraysError, MapError, of_arrays
 from ._files import naming
-from ._geojson import GEOJSON, JSON, interruptible, scene_of_geojson
+from ._geojson import scene_of_geojson
 from ._places import Path, check_file
 from ._scene import CHUNK, NO_TRIANGLES, PosterDraw, Scene, own_polygons, own_triangles, own_vertices, owned
+from ._sources import GEOJSON, JSON, interruptible, is_map
 
 # Members begin at multiples of this in files that `save_arrays` writes, so that others can map them as integers.
 ALIGNMENT = 64
@@ -45,7 +47,7 @@ LARGE = "/var/tmp"
 # Bytes that are copied together, and that numpy reads of a header.
 BLOCK, MAX_HEADER = 1 << 20, 10_000 + 12
 # The member that has the list, and its bytes at most: as many characters of 4 bytes as a draw list has bytes.
-DRAWS, MAX_DRAWS = "draws", 4 * MAX_LIST
+DRAWS, MAX_DRAWS = "draws", 4 * MAX_LIST_BYTES
 # How a name ends that is of arrays, in small or capital letters.
 NPZ = ".npz"
 # What a text of GeoJSON has, and no draw list.
@@ -98,7 +100,7 @@ def draw_of(draw: Mapping[str, Any]) -> PosterDraw:
     counts = {key: draw[key] for key in ("triangles", "polygons") if key in draw}
     if [type(count) for count in counts.values()] != [int] or not set(draw).isdisjoint(("vertices", "strip", "quads")):
         raise ArraysError(
-            "a draw of arrays has the number of its triangles or of its polygons, and no vertices, strip or quads"
+            f"draws: expected the number of triangles or of polygons, got {', '.join(draw)}"
         )
     return PosterDraw(**counts, state={key: value for key, value in draw.items() if key not in counts})
 
@@ -133,7 +135,7 @@ def read_file(path: str, file: IO[bytes]) -> tuple[dict[str, NDArray[Any]], Any]
         if isinstance(error, MemoryError) or isinstance(error, OSError) and error.errno != errno.EINVAL:
             raise
         # A file may have any bytes. These modules raise errors of ten classes for them, of which they document few.
-        raise ArraysError(f"{path}: no arrays of a poster: {type(error).__name__}: {error}") from error
+        raise ArraysError(f"{path}: expected the arrays of a poster, got {type(error).__name__}: {error}") from error
 
 
 def member(archive: zipfile.ZipFile, name: str) -> NDArray[Any]:
@@ -141,16 +143,16 @@ def member(archive: zipfile.ZipFile, name: str) -> NDArray[Any]:
     CRC-32, where it is read to its end. No more of it is inflated than its header says."""
     info = archive.getinfo(name + ".npy")
     if info.compress_type not in (zipfile.ZIP_STORED, zipfile.ZIP_DEFLATED):
-        raise ValueError(f"{name}: stored or deflated, and not packed by the method {info.compress_type}")
+        raise ValueError(f"{name}: expected a stored or a deflated one, got method {info.compress_type} of zip")
     with archive.open(info) as opened:
         head = io.BytesIO(opened.read(MAX_HEADER))
         shape, fortran, dtype = header_of(head)
         size = math.prod(shape) * dtype.itemsize
         order: Literal["C", "F"] = "F" if fortran else "C"
         if min(shape, default=0) < 0 or head.tell() + size != info.file_size:
-            raise ValueError(f"{name} has {info.file_size - head.tell()} bytes, and not {size}")
+            raise ValueError(f"{name}: expected {size} bytes, got {info.file_size - head.tell()}")
         if name == DRAWS and size > MAX_DRAWS:
-            raise ValueError(f"{name}: at most {MAX_DRAWS} bytes, and not {size}")
+            raise ValueError(f"{name}: expected at most {MAX_DRAWS} bytes, got {size}")
         if name == DRAWS:
             return np.ndarray(shape, dtype, head.read() + opened.read(), order=order)
         if not is_mapped(dtype) or not size:
@@ -249,24 +251,26 @@ def write_members(file: IO[bytes], arrays: Mapping[str, NDArray[Any]]) -> None:
 
 
 def scene_of(path: Path, style: Optional[Path] = None) -> Scene:
-    """The scene of a file, by the end of its name in small or capital letters: arrays (.npz), polygons of GeoJSON in a
-    style, which is a file too (.geojson; with a style also .json, since no draw list has one), else a draw list."""
+    """The scene of a file, by the end of its name in small or capital letters: arrays (.npz), a map in a style, which
+    is a file too (.geojson, .gpkg and others; with a style also .json, since no draw list has one), else a draw
+    list."""
     name = os.fsdecode(path)
-    if style is not None and not name.lower().endswith((GEOJSON, JSON)):
-        raise MapError(f"a style is for GeoJSON, a file whose name ends in {GEOJSON} or {JSON}, and not for {name}")
-    if style is not None or name.lower().endswith(GEOJSON):
+    is_known = is_map(name)
+    if style is not None and not is_known and not name.lower().endswith(JSON):
+        raise MapError(f"style: expected a map whose name ends in {GEOJSON} or {JSON}, got {name}; leave it out")
+    if style is not None or is_known:
         return scene_of_geojson(name, None if style is None else os.fsdecode(style))
     if name.lower().endswith(NPZ):
         return scene_of_file(name)
     with open(name, "rb") as file:
         # The library refuses a longer one, of which no more is read.
-        data = file.read(MAX_LIST + 1)
+        data = file.read(MAX_LIST_BYTES + 1)
     try:
         return scene_of_list(data, name)
     except (DrawListError, LimitError) as error:
         if GEOJSON_TYPE.search(data):
             raise MapError(
-                f"{name}: it looks like GeoJSON, and is no draw list: "
-                f"its name has to end in {GEOJSON}, or it needs a style"
+                f"{name}: expected a draw list, got what looks like GeoJSON; "
+                f"let its name end in {GEOJSON}, or give a style"
             ) from error
         raise

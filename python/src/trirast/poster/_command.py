@@ -3,19 +3,27 @@
 from __future__ import annotations
 
 import argparse
+import os
+import shutil
 import sys
-from typing import List, Optional
+import tempfile
+from contextlib import contextmanager
+from typing import Iterator, List, Optional
 
 from .._errors import Error
+from .._png import PNG
 from ._arrays import scene_of
 from ._dask import quiet_for_good
-from ._errors import PosterError
+from ._errors import OutputError, PosterError
+from ._georeference import write_world_file
 from ._poster import SIDE, draw_poster
-from ._scene import SAMPLES
+from ._scene import SAMPLES, Scene
 from ._tiff_writer import TIFF
 
 # The status of a program that Ctrl-C ended, as shells give it.
 INTERRUPTED = 130
+# The name of standard output.
+STANDARD = "-"
 
 
 def side(text: str) -> int:
@@ -24,7 +32,7 @@ def side(text: str) -> int:
         return int(text)
     except ValueError:
         raise argparse.ArgumentTypeError(
-            f"pixels of a window's side, as 512, and not {text!r}; a map's window is a key of its style"
+            f"expected the pixels of a side, as 512, got {text!r}; a map's window is a key of its style"
         ) from None
 
 
@@ -33,20 +41,25 @@ def arguments(words: Optional[List[str]] = None) -> argparse.Namespace:
         prog="python3 -m trirast.poster",
         description="Draws a draw list or a map of up to 32,768 pixels a side, by windows.",
     )
-    parser.add_argument("list", metavar="LIST", help="a draw list, arrays of numpy (.npz), or polygons (.geojson)")
+    parser.add_argument(
+        "list", metavar="LIST", help="a draw list, arrays of numpy (.npz), or a map (.geojson, .gpkg, .shp ..)"
+    )
     parser.add_argument(
         "-o", dest="out", metavar="OUT",
         help="the picture: PNG if the name ends in .png, TIFF if in .tif or .tiff, PPM (of depths "
-        "PGM) if in .ppm, .pgm or nothing",
+        "PGM) if in .ppm, .pgm or nothing; - writes a PNG file to standard output",
     )
     parser.add_argument(
-        "--style", metavar="STYLE.json", help="how a map of GeoJSON is drawn: window, projection, colours"
+        "--style", metavar="STYLE.json", help="how a map is drawn: window, projection, colours"
     )
     parser.add_argument(
         "--tiles", metavar="FOLDER", help="a new folder of PNG tiles z/x/y.png with a page that shows them"
     )
     parser.add_argument(
         "--samples", type=int, choices=sorted(SAMPLES), help="samples of a pixel, in place of the list's"
+    )
+    parser.add_argument(
+        "--world-file", action="store_true", help="write where a map lies beside OUT: a world file and a .prj"
     )
     parser.add_argument("--dpi", type=float, help="pixels per inch, which a PNG or a TIFF file has")
     parser.add_argument(
@@ -63,6 +76,8 @@ def arguments(words: Optional[List[str]] = None) -> argparse.Namespace:
         parser.error("one of -o and --tiles is needed")
     if options.workers is not None and options.workers < 1:
         parser.error("--workers: at least 1")
+    if options.out == STANDARD and (options.resume or options.tiles or options.world_file):
+        parser.error("-o -: standard output has no --resume, --tiles or --world-file")
     return options
 
 
@@ -74,10 +89,13 @@ def main(words: Optional[List[str]] = None) -> int:
         scene = scene_of(options.list, options.style)
         if options.scheduler is not None:
             quiet_for_good()
-        draw_poster(
-            scene, options.out, tiles=options.tiles, samples=options.samples, dpi=options.dpi, window=options.window,
-            workers=options.workers, scheduler=options.scheduler, resume=options.resume, show_progress=True,
-        )
+        with place_of(options.out) as out:
+            draw_poster(
+                scene, out, tiles=options.tiles, samples=options.samples, dpi=options.dpi, window=options.window,
+                workers=options.workers, scheduler=options.scheduler, resume=options.resume, show_progress=True,
+            )
+        if options.world_file:
+            write_where(options.out, scene)
     except Exception as error:
         # Also one that nobody thought of: a user reads one line. python3 -X dev shows where it came from.
         if sys.flags.dev_mode and not isinstance(error, (Error, PosterError, OSError, ValueError, MemoryError)):
@@ -91,6 +109,28 @@ def main(words: Optional[List[str]] = None) -> int:
     drawn = " and ".join(filter(None, (options.out, options.tiles)))
     say(f"{drawn}: {scene.sheet.width} by {scene.sheet.height} pixels{scene.summary}")
     return 0
+
+
+@contextmanager
+def place_of(out: Optional[str]) -> Iterator[Optional[str]]:
+    """The file to draw to. What goes to standard output is a file of its own until it is whole."""
+    if out != STANDARD:
+        yield out
+        return
+    with tempfile.TemporaryDirectory() as folder:
+        path = os.path.join(folder, f"poster{PNG}")
+        yield path
+        with open(path, "rb") as file:
+            shutil.copyfileobj(file, sys.stdout.buffer)
+            sys.stdout.buffer.flush()
+
+
+def write_where(out: Optional[str], scene: Scene) -> None:
+    """Writes where a map lies. Raises OutputError if there is no file or no map."""
+    if out is None or scene.place is None:
+        missing = "no file" if out is None else "no map"
+        raise OutputError(f"--world-file: expected a map, and a file by -o, got {missing}")
+    write_world_file(out, scene.place)
 
 
 def say(line: str) -> None:

@@ -16,17 +16,16 @@ import time
 import warnings
 from collections import deque
 from concurrent.futures import CancelledError
-from typing import Any, Callable, Deque, Iterable, Iterator, NamedTuple, Optional
+from typing import Any, Callable, Deque, Dict, Iterable, Iterator, NamedTuple, Optional
 
 import numpy as np
 
 from .._errors import OutOfMemoryError
-from .._version import VERSION
 from ._errors import EngineMissingError, PosterError, SchedulerLostError, WorkerLostError
 from ._local_workers import LocalWorkers, local_workers
 from ._part import Part, compact
 from ._scene import Pixels
-from ._window_pixels import sent_pixels
+from ._window_pixels import releases, sent_pixels
 from ._windows import Span, Window
 
 LOCAL = "local"
@@ -38,7 +37,7 @@ SENT = 10
 # Seconds after the last window that came back: as many without a worker of a cluster are an error, and
 # so are as many in all.
 WITHOUT_WORKERS = 60
-WITHOUT_WINDOW = 600
+WITHOUT_WINDOW = 900
 # Seconds from one look at the workers to the next. What takes longer than STOOD_STILL counts as this: then the
 # machine stood still.
 LOOK, STOOD_STILL = 1, 15
@@ -46,6 +45,8 @@ LOOK, STOOD_STILL = 1, 15
 COME_BACK = 10
 ANSWER = 60
 CONNECT = "10s"
+# How long a worker of this run's own may be silent. Then Dask gives its windows to others.
+SILENT = "60s"
 # Loggers that write traces where a scheduler goes away. The error that is raised says it.
 LOGGERS = (
     "distributed", "distributed.client", "distributed.utils", "distributed.core", "tornado.application", "asyncio"
@@ -75,7 +76,7 @@ def dask() -> Any:
     try:
         import distributed
     except ImportError as error:
-        raise EngineMissingError(f"--scheduler needs Dask, python3-distributed in Debian: {error}") from error
+        raise EngineMissingError(f"--scheduler: expected Dask, got {error}; install python3-distributed") from error
     return distributed
 
 
@@ -84,8 +85,7 @@ def connected(distributed: Any, scheduler: str) -> Iterator[Any]:
     """A client of a scheduler, which is started and ended here if it is local. It has no workers then."""
     with contextlib.ExitStack() as stack:
         stack.enter_context(quiet_loggers())
-        # So that a run ends whose scheduler is gone.
-        stack.enter_context(importlib.import_module("dask").config.set({"distributed.comm.timeouts.connect": CONNECT}))
+        stack.enter_context(importlib.import_module("dask").config.set(settings(scheduler)))
         try:
             if scheduler == LOCAL:
                 # Any free port: without a number Dask asks for 8787, and warns if another run has it.
@@ -97,10 +97,21 @@ def connected(distributed: Any, scheduler: str) -> Iterator[Any]:
                 client = stack.enter_context(distributed.Client(scheduler))
         except Exception as error:
             # For an address that is none, or of a kind that needs more, Dask raises errors of many classes.
-            raise SchedulerLostError(f"the scheduler {scheduler} cannot be reached: {error}") from error
+            raise SchedulerLostError(f"scheduler: expected one at {scheduler}, got {reason(error)}") from error
         if has_dashboard() and client.dashboard_link:
             print(f"dashboard: {client.dashboard_link}", file=sys.stderr)
         yield client
+
+
+def settings(scheduler: str) -> Dict[str, str]:
+    """Dask's settings: a run ends whose scheduler is gone, and does not wait long for a worker that hangs."""
+    connect = {"distributed.comm.timeouts.connect": CONNECT}
+    return {**connect, "distributed.scheduler.worker-ttl": SILENT} if scheduler == LOCAL else connect
+
+
+def reason(error: BaseException) -> str:
+    """An error in words. Some of Dask's have no text but their class."""
+    return f"{type(error).__name__}: {error}" if str(error) else type(error).__name__
 
 
 def quiet_for_good() -> None:
@@ -158,8 +169,8 @@ def checked(window: Window, pixels: Any, blank: Pixels) -> Pixels:
     shape = (window.height, window.width, *blank.shape[2:])
     if not isinstance(pixels, np.ndarray) or pixels.dtype != blank.dtype or pixels.shape != shape:
         raise WorkerLostError(
-            f"a worker sent no pixels of window {window.column}, {window.row}: {blank.dtype} of the shape {shape}, and "
-            f"not {type(pixels).__name__} {getattr(pixels, 'dtype', '')} {getattr(pixels, 'shape', '')}".rstrip()
+            f"window[{window.column}, {window.row}]: expected {blank.dtype} of the shape {shape} from a worker, got "
+            f"{type(pixels).__name__} {getattr(pixels, 'dtype', '')} {getattr(pixels, 'shape', '')}".rstrip()
         )
     return pixels
 
@@ -174,6 +185,7 @@ class Sending:
         self._client = client
         self._part = part
         self._local = local
+        self._releases = releases()
         self._under_way: Deque[Sent] = deque()
         # The threads of workers at the last look, and when that was.
         self._threads, self._looked = 0, time.monotonic() - LOOK
@@ -198,10 +210,10 @@ class Sending:
             # Dask proposes to scatter large arguments. Scattered data dies with the worker that holds it.
             warnings.filterwarnings("ignore", "Large object", UserWarning)
             try:
-                future = self._client.submit(sent_pixels, part, VERSION, pure=False)
+                future = self._client.submit(sent_pixels, part, self._releases, pure=False)
                 return Sent(window, future, times, part.sheet.blank(0, 0))
             except Exception as error:
-                raise self._lost(error) from error
+                raise lost(error) from error
 
     def _first(self) -> Drawn:
         """The first window that is under way, once it is drawn. It is sent again if it was lost with its worker."""
@@ -211,15 +223,19 @@ class Sending:
                 return Drawn(window, checked(window, self._wait(future), blank))
             except (self._distributed.scheduler.KilledWorker, MemoryError, OutOfMemoryError) as error:
                 if times == SENT:
+                    where = f"window[{window.column}, {window.row}]"
                     raise WorkerLostError(
-                        f"window {window.column}, {window.row} was lost {times} times: {error}"
+                        f"{where}: expected its pixels, got {times} failures: {reason(error)}"
                     ) from error
                 self._under_way.appendleft(self._send(window, times + 1))
-            except (CancelledError, OSError) as error:
+            except PosterError:
+                raise
+            except (CancelledError, OSError, ImportError) as error:
                 if future.status == "error":
-                    # The worker's own, as of one that has no library.
-                    raise
-                raise self._lost(error) from error
+                    raise EngineMissingError(
+                        f"worker: expected {self._releases}, got {reason(error)}; install it there"
+                    ) from error
+                raise lost(error) from error
 
     def _wait(self, future: Any) -> Any:
         """A task's result. Looks after the workers while it waits."""
@@ -257,18 +273,18 @@ class Sending:
         self._without_window += passed
         self._without_workers += 0 if self._threads else passed
         if self._local is not None and self._local.are_lost():
-            raise WorkerLostError(f"no window was drawn: {self._local}")
+            raise WorkerLostError(f"worker: expected a window, got {self._local}")
         if self._local is None and self._without_workers > WITHOUT_WORKERS:
-            raise WorkerLostError(f"there was no worker for {WITHOUT_WORKERS} seconds")
+            raise WorkerLostError(f"workers: expected at least 1, got none for {WITHOUT_WORKERS} seconds; start some")
         if self._without_window > WITHOUT_WINDOW:
-            raise WorkerLostError(f"no window was drawn for {WITHOUT_WINDOW} seconds")
+            raise WorkerLostError(f"workers: expected a window, got none in {WITHOUT_WINDOW} seconds; see their logs")
 
     def _threads_now(self) -> int:
         """How many threads the workers have."""
         try:
             return sum(self._client.sync(self._client.scheduler.ncores, callback_timeout=ANSWER).values())
         except (OSError, self._distributed.TimeoutError) as error:
-            raise self._lost(error) from error
+            raise lost(error) from error
 
-    def _lost(self, error: BaseException) -> PosterError:
-        return SchedulerLostError(f"the scheduler went away: {type(error).__name__} {error}".rstrip())
+def lost(error: BaseException) -> PosterError:
+    return SchedulerLostError(f"scheduler: expected an answer, got {reason(error)}")

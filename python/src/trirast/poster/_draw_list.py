@@ -13,16 +13,15 @@ from numpy.typing import NDArray
 from .._draw import EVERY_SAMPLE
 from .._draw_list import DrawList, as_bytes, image_info
 from .._errors import DrawListError, adding
+from .._numbers import MAX_SIDE as LIST_SIDE
 from .._vertices import VERTEX, records_of
 from ._list_keys import fault_of
 from ._scene import MAX_SIDE, SAMPLES, PosterDraw, Scene, Sheet, owned
 
-# The library reads lists of at most this many pixels a side, this many draws, and this many bytes.
-LIST_SIDE = 4096
+# The library reads lists of at most this many draws.
 LIST_DRAWS = 1024
 # The greatest sample mask of a list.
 LIST_MASK = 15
-MAX_LIST = 67_108_864
 PRIMITIVES = ("triangles", "strip", "quads")
 # Keys that draws of polygons have and lists do not.
 OF_POLYGONS = ("polygons", "rule")
@@ -109,7 +108,7 @@ def check_states(value: Any) -> None:
     draws. Its pixels may have as many samples as those of a canvas, and its sample masks 16 bits. The text names the
     key, its value, and what it may be."""
     draws = value.get("draws") if isinstance(value, dict) else None
-    with adding(DrawListError, lambda _error: fault_of(value)):
+    with adding(DrawListError, lambda _error: fault_of(value) and f": {fault_of(value)}"):
         if not isinstance(draws, list):
             image_info(json.dumps(value).encode())
             return

@@ -6,6 +6,12 @@ from contextlib import contextmanager
 from typing import Iterator
 
 
+# What to do about a name that is taken, and about a file that is there.
+OTHER_NAME = "choose another name"
+NOT_OURS = f"expected what a poster left, got another file; {OTHER_NAME}"
+NOT_REGULAR = f"expected a regular file, got another kind; {OTHER_NAME}"
+
+
 class PosterError(Exception):
     """Why a poster was not drawn, or not to its end."""
 
@@ -39,7 +45,8 @@ class GuardBandError(PosterError, ValueError):
 
     def __init__(self, triangle: int, axis: str, kind: str = "triangle") -> None:
         super().__init__(
-            f"{kind} {triangle} cannot be moved into a window that it meets: its {axis} leaves the guard band"
+            f"{kind}s[{triangle}].{axis}: expected at most 32768 pixels to each window that it meets, got more; "
+            f"split the {kind}"
         )
         self.triangle = triangle
 
@@ -53,7 +60,8 @@ class SchedulerLostError(PosterError):
 
 
 class EngineMissingError(PosterError, ImportError):
-    """Dask or tifffile is asked for and is not installed, or a worker has another release of this package."""
+    """Dask or tifffile is asked for and is not installed, or a worker has no or another release of this package or of
+    its library."""
 
 
 class ResumeError(PosterError, ValueError):

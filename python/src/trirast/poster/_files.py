@@ -10,11 +10,11 @@ import stat
 from contextlib import contextmanager, suppress
 from typing import Any, Callable, Iterator, Optional
 
-from ._errors import OutputError
+from ._errors import NOT_REGULAR, OTHER_NAME, OutputError
 
 FLAGS = os.O_NOFOLLOW | os.O_NONBLOCK | os.O_NOCTTY | os.O_CLOEXEC
 # What the system says of a link, and of a FIFO or a socket.
-NOT_REGULAR = (errno.ELOOP, errno.ENXIO)
+ODD_KINDS = (errno.ELOOP, errno.ENXIO)
 
 
 def open_regular(path: str, flags: int, folder: Optional[int] = None) -> int:
@@ -23,7 +23,7 @@ def open_regular(path: str, flags: int, folder: Optional[int] = None) -> int:
     try:
         opened = os.open(path, flags | FLAGS, 0o666, dir_fd=folder)
     except OSError as error:
-        if error.errno in NOT_REGULAR:
+        if error.errno in ODD_KINDS:
             raise not_regular(path) from error
         raise
     try:
@@ -32,7 +32,7 @@ def open_regular(path: str, flags: int, folder: Optional[int] = None) -> int:
         if not is_wanted(found.st_mode):
             raise not_regular(path)
         if flags & os.O_ACCMODE != os.O_RDONLY and found.st_nlink > 1:
-            raise OutputError(f"{path}: has a second name, which would be written to as well")
+            raise OutputError(f"{path}: expected a file with one name, got one with a second; {OTHER_NAME}")
     except BaseException:
         os.close(opened)
         raise
@@ -40,7 +40,7 @@ def open_regular(path: str, flags: int, folder: Optional[int] = None) -> int:
 
 
 def not_regular(path: str) -> OutputError:
-    return OutputError(f"{path}: is there and is no regular file")
+    return OutputError(f"{path}: {NOT_REGULAR}")
 
 
 def read_regular(path: str, most: int, folder: Optional[int] = None) -> bytes:

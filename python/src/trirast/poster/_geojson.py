@@ -8,6 +8,8 @@ and rounded by itself.
 from __future__ import annotations
 
 import json
+import re
+from collections import Counter
 from contextlib import contextmanager
 from itertools import chain
 from typing import Any, Iterator, Mapping, NamedTuple, Optional, Sequence
@@ -16,23 +18,22 @@ import numpy as np
 from numpy.typing import NDArray
 
 from .._polygons import Polygons, with_zero
-from .._records import HIGH, LOW, UNIT
-from .._ring_cuts import within
-from .._snap import snap
+from ._crs import in_degrees, named_crs
 from ._errors import ArraysError, MapError
-from ._map_style import FAR, PLANE, STEEPEST, Places, Style, is_of_data, mercator, of_data, shown, style_of
+from ._georeference import georeference_of
+from ._layers import is_layered, scene_of_layers
+from ._map_style import FAR, PLANE, Places, Style, is_of_data, of_data, shown, style_of
+from ._projecting import projected, within_band
 from ._scene import NO_TRIANGLES, PosterDraw, Scene, Sheet, own_polygons, owned
+from ._sources import read_map
 
-# How a name ends that is of GeoJSON, in small or capital letters.
-GEOJSON = ".geojson"
-# And of other texts in JSON: of GeoJSON with a style, or of a draw list without one.
-JSON = ".json"
-# Pixels around a map at which polygons are cut that reach too far.
-MARGIN = 64
-# The greatest longitude and latitude of a position, with room for rounding. Some data has longitudes up to 360.
-FARTHEST = 360 + 1e-6, 90 + 1e-6
+# The greatest longitude and latitude of a position, with room for rounding. Some data has longitudes up to 360, and
+# some latitudes a little beyond the poles, where they are cut.
+FARTHEST = 360 + 1e-6, 91.0
+# Geometries that have no area.
+WITHOUT_AREA = ("Point", "MultiPoint", "LineString", "MultiLineString")
 # How a line begins that says what is wrong with a style.
-OF_STYLE = "style: "
+OF_STYLE = re.compile(r"^style[.:] ?")
 # The fewest different positions of a ring: the fourth one of RFC 7946 (3.1.6) is the first again.
 FEWEST = 3
 
@@ -60,15 +61,18 @@ def scene_of_geojson(path: str, style: Optional[str] = None) -> Scene:
     one of the files is none, or if nothing of the map would be seen, or nothing in the colours of a property: such
     files are a slip."""
     with of_file(style):
-        given = {} if style is None else read_json(style)
+        given = {} if style is None else read_style(style)
+        if is_layered(given):
+            return scene_of_layers(path, given)
         drawn = style_of(given)
-    features = list(features_of(read_json(path), path))
+    value, skipped = read_map(path, given.get("layer")), Skipped()
+    features = list(features_of(value, path, skipped))
     with of_file(style):
         drawn.check_values([feature.properties for feature in features], path)
     rings = [ring for feature in features for ring in feature.rings]
     if not rings:
-        raise MapError(f"{path}: no feature has a polygon")
-    degrees = np.concatenate(rings)
+        raise MapError(f"{path}: expected a feature with a polygon, got none{skipped.said}")
+    degrees = degrees_of(np.concatenate(rings), given, value, drawn, path)
     ring_ends = np.cumsum([len(ring) for ring in rings], dtype=np.uint32)
     polygon_ends = np.cumsum([len(feature.rings) for feature in features], dtype=np.uint32)
     check_places(degrees, with_zero(ring_ends)[polygon_ends], features, drawn, path)
@@ -77,7 +81,7 @@ def scene_of_geojson(path: str, style: Optional[str] = None) -> Scene:
     is_seen = seen(places, ring_ends, polygon_ends, drawn.sheet)
     if not is_seen.any():
         raise MapError(
-            f"{path}: no feature meets the style's window, {list(drawn.window)}; "
+            f"{path}: expected a feature in the style's window {list(drawn.window)}, got none; "
             f"{reach_of(degrees, drawn)}: {hint(degrees, drawn)}"
         )
     found = [drawn.color_of(feature.properties) for feature in features]
@@ -88,8 +92,11 @@ def scene_of_geojson(path: str, style: Optional[str] = None) -> Scene:
     draws = [PosterDraw(polygons=len(features), state=blend)]
     plain = drawn.count_plain([feature.properties for feature, is_drawn in zip(features, is_seen) if is_drawn])
     window = f"; window {list(drawn.window)}" if is_of_data(given) else ""
-    summary = f"; {is_seen.sum()} of {len(features)} features drawn, {plain}{window}"
-    return owned(Scene(drawn.sheet, *NO_TRIANGLES, draws, path, copy=False, polygons=polygons, summary=summary))
+    summary = f"; {is_seen.sum()} of {len(features)} features drawn, {plain}{window}{skipped.said}"
+    place = georeference_of(drawn, given.get("crs"))
+    return owned(
+        Scene(drawn.sheet, *NO_TRIANGLES, draws, path, copy=False, polygons=polygons, summary=summary, place=place)
+    )
 
 
 @contextmanager
@@ -101,40 +108,55 @@ def of_file(style: Optional[str]) -> Iterator[None]:
         line = str(error)
         if style is None or line.startswith(style):
             raise
-        raise MapError(f"{style}: {line[len(OF_STYLE):] if line.startswith(OF_STYLE) else line}") from error
+        raise MapError(f"{style}: {OF_STYLE.sub('', line)}") from error
 
 
-def read_json(path: str) -> Any:
+def read_style(path: str) -> Any:
     with open(path, "rb") as file:
         try:
-            return json.load(file, object_hook=interruptible)
+            return json.load(file)
         except (ValueError, RecursionError) as error:
-            several = (
-                "; of several texts, as one feature a line, make one FeatureCollection"
-                * str(error).startswith("Extra data")
-            )
-            raise MapError(f"{path}: no JSON text: {error}{several}") from error
+            raise MapError(f"{path}: expected JSON, got {error}") from error
 
 
-def interruptible(found: Any) -> Any:
-    """An object of JSON as it is. While Python calls this, it notices an interrupt."""
-    return found
+def degrees_of(places: Places, given: Any, value: Any, style: Style, path: str) -> Places:
+    """Positions of a file in the units of a style: those of a plane stay, and others become longitudes and
+    latitudes."""
+    if style.projection == PLANE:
+        return places
+    member = given.get("crs", value.get("crs") if isinstance(value, dict) else None)
+    return in_degrees(places, named_crs(member, path), path)
+
+
+class Skipped:
+    """Geometries that are not drawn, by their types."""
+
+    def __init__(self) -> None:
+        self._counts: Counter[str] = Counter()
+
+    def add(self, kind: str) -> None:
+        self._counts[kind] += 1
+
+    @property
+    def said(self) -> str:
+        """What a line says of them, nothing if there are none."""
+        each = ", ".join(f"{count} {kind}" for kind, count in sorted(self._counts.items()))
+        return f"; skipped, without an area: {each}" if each else ""
 
 
 # ---- GeoJSON
 
 
-def features_of(value: Any, path: str) -> Iterator[Feature]:
-    """The features of a GeoJSON text. Raises MapError if it is none, or has another geometry than polygons."""
+def features_of(value: Any, path: str, skipped: Skipped) -> Iterator[Feature]:
+    """The features of a GeoJSON text. Raises MapError if it is none."""
     for number, feature in enumerate(listed_features(value, path)):
         key = f", id {shown(feature['id'])}" if isinstance(feature, dict) and "id" in feature else ""
         where = name_of_feature(path, number, key)
         if not isinstance(feature, dict):
-            raise MapError(f"{where}: an object, and not {shown(feature)}")
+            raise MapError(f"{where}: expected an object, got {shown(feature)}")
         properties = feature.get("properties")
-        yield Feature(
-            list(rings_of(feature.get("geometry"), where)), properties if isinstance(properties, dict) else {}, key
-        )
+        rings = list(rings_of(feature.get("geometry"), where, skipped))
+        yield Feature(rings, properties if isinstance(properties, dict) else {}, key)
 
 
 def name_of_feature(path: str, number: int, key: str) -> str:
@@ -146,30 +168,33 @@ def listed_features(value: Any, path: str) -> Sequence[Any]:
     """The features of a text as they stand there, of which a Feature or a geometry alone is one."""
     kind = value.get("type") if isinstance(value, dict) else None
     if kind == "Topology":
-        raise MapError(f"{path}: it is TopoJSON: convert it to GeoJSON first")
+        raise MapError(f"{path}: expected GeoJSON, got TopoJSON; convert it first")
     if not isinstance(kind, str):
         raise MapError(
-            f"{path}: a FeatureCollection, a Feature or a geometry, which has a type, and not {shown(value)}"
+            f"{path}: expected a FeatureCollection, a Feature or a geometry, which has a type, got {shown(value)}"
         )
     features = (
         value.get("features") if kind == "FeatureCollection" else [value if kind == "Feature" else {"geometry": value}]
     )
     if not isinstance(features, list):
-        raise MapError(f"{path}: features: an array, and not {shown(features)}")
+        raise MapError(f"{path}[features]: expected an array, got {shown(features)}")
     return features
 
 
-def rings_of(geometry: Any, where: str) -> Iterator[Places]:
-    """The rings of a geometry. Raises MapError if it is none of polygons."""
+def rings_of(geometry: Any, where: str, skipped: Skipped) -> Iterator[Places]:
+    """The rings of a geometry. Raises MapError if it is none."""
     if geometry is None:
         return
     kind = geometry.get("type") if isinstance(geometry, dict) else None
     if kind == "GeometryCollection":
         for number, each in enumerate(array_of(geometry.get("geometries"), where)):
-            yield from rings_of(each, f"{where}, geometry {number}")
+            yield from rings_of(each, f"{where}, geometry {number}", skipped)
+        return
+    if kind in WITHOUT_AREA:
+        skipped.add(kind)
         return
     if kind not in ("Polygon", "MultiPolygon"):
-        raise MapError(f"{where}: Polygon, MultiPolygon or a collection of them, and not {shown(kind)}")
+        raise MapError(f"{where}: expected a geometry, as Polygon or MultiPolygon, got {shown(kind)}")
     coordinates = array_of(geometry.get("coordinates"), where)
     for polygon, rings in enumerate([coordinates] if kind == "Polygon" else coordinates):
         for ring, places in enumerate(array_of(rings, where)):
@@ -178,7 +203,7 @@ def rings_of(geometry: Any, where: str) -> Iterator[Places]:
 
 def array_of(value: Any, where: str) -> Sequence[Any]:
     if not isinstance(value, list):
-        raise MapError(f"{where}: an array, and not {shown(value)}")
+        raise MapError(f"{where}: expected an array, got {shown(value)}")
     return value
 
 
@@ -191,11 +216,11 @@ def ring_of(ring: Any, where: str, levels: str) -> Places:
         level = "one level of brackets is missing" if depth < OF_RING else "there is one level of brackets too many"
         odd = odd_in(ring) if depth == OF_RING else ring
         raise MapError(
-            f"{where}: positions of a longitude and a latitude, and not {shown(odd)}"
+            f"{where}: expected positions of a longitude and a latitude, got {shown(odd)}"
             + f"; {levels}: {level}" * (depth != OF_RING)
         )
     if not has_different(ring, FEWEST):
-        raise MapError(f"{where}: {FEWEST} different positions or more, and not {shown(ring)}")
+        raise MapError(f"{where}: expected {FEWEST} different positions or more, got {shown(ring)}")
     return found.reshape(-1, 2)
 
 
@@ -250,9 +275,9 @@ def check_places(places: Places, ends: NDArray[Any], features: Sequence[Feature]
     number = int(np.searchsorted(ends, first, "right"))
     where, place = name_of_feature(path, number, features[number].key), places[first].tolist()
     if odd.any():
-        raise MapError(f"{where}: positions of finite numbers, and not {place}")
+        raise MapError(f"{where}: expected positions of finite numbers, got {place}")
     wanted = f"x and y of {-FAR:g} to {FAR:g}" if is_plane else "a longitude of -360 to 360 and a latitude of -90 to 90"
-    raise MapError(f"{where}: {wanted}, and not {place}; {reach_of(places, style)}: {hint(places, style)}")
+    raise MapError(f"{where}: expected {wanted}, got {place}; {reach_of(places, style)}: {hint(places, style)}")
 
 
 def hint(places: Places, style: Style) -> str:
@@ -273,17 +298,6 @@ def reach_of(places: Places, style: Style) -> str:
     return f"its {across} {west:.10g} to {east:.10g}, and its {down} {south:.10g} to {north:.10g}"
 
 
-def projected(degrees: Places, style: Style) -> Places:
-    """Positions in pixels from the upper left corner of the window."""
-    west, south, east, north = style.window
-    across, latitude = (degrees[:, 0] - west) / (east - west), degrees[:, 1]
-    if style.projection == "web mercator":
-        latitude = mercator(np.clip(latitude, -STEEPEST, STEEPEST))
-        south, north = mercator(south), mercator(north)
-    down = (north - latitude) / (north - south)
-    return np.stack((across * style.sheet.width, down * style.sheet.height), 1)
-
-
 def seen(places: Places, ring_ends: NDArray[Any], polygon_ends: NDArray[Any], sheet: Sheet) -> NDArray[np.bool_]:
     """Of each polygon whether the bounds of one of its rings meet the sheet. No ring is empty."""
     begins = with_zero(ring_ends)[:-1]
@@ -291,12 +305,3 @@ def seen(places: Places, ring_ends: NDArray[Any], polygon_ends: NDArray[Any], sh
     meets = ((low < (sheet.width, sheet.height)) & (high > 0)).all(1)
     is_seen: NDArray[np.bool_] = np.diff(with_zero(np.cumsum(meets))[with_zero(polygon_ends)]) > 0
     return is_seen
-
-
-def within_band(places: Places, ends: NDArray[Any], sheet: Sheet) -> tuple[NDArray[Any], NDArray[Any]]:
-    """Corners in 1/256 pixel and the ends of their rings. If one lies outside of the guard band, all rings are cut
-    around the sheet."""
-    if len(places) and not (LOW <= UNIT * places.min() and UNIT * places.max() <= HIGH):
-        places, ends = within(places, ends, (-MARGIN, -MARGIN), (sheet.width + MARGIN, sheet.height + MARGIN))
-    # The right border of the widest sheet is no position: the last samples lie before it.
-    return snap(np.minimum(places, HIGH / UNIT)), ends

@@ -14,8 +14,8 @@ import numpy as np
 from numpy.typing import NDArray
 
 from .._box import Box
+from .._numbers import MAX_SIDE as LIST_SIDE
 from .._records import LOW, UNIT
-from ._draw_list import LIST_SIDE
 from ._errors import GuardBandError
 from ._pool import Pool
 from ._scene import AXES, SAMPLES, Boxes, Indices, Run, Scene, Triangles, Vertices

@@ -36,8 +36,8 @@ class Journal:
         if resume and self._lines:
             if self._lines[0] != dict(run):
                 raise ResumeError(
-                    f"{self._own.path}: the stopped run had another list or map, style, samples, --window or output; "
-                    "without --resume it begins anew"
+                    f"{self._own.path}: expected the list or map, style, samples, --window and output of the stopped "
+                    "run, got others; without --resume it begins anew"
                 )
             self.rows = rows_of(self._lines[1:])
         self._own.keep()

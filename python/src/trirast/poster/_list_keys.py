@@ -66,11 +66,11 @@ OF_DRAW: Mapping[str, Key] = {
 
 
 def fault_of(value: Any) -> str:
-    """What is wrong with a list without arrays, as `blend: one of 'none', 'over', and not 'alpha'`; nothing if it is
-    found to be right."""
+    """What is wrong with a list without arrays, as `blend: expected one of 'none', 'over', got 'alpha'`; nothing if it
+    is found to be right."""
     if not isinstance(value, dict):
-        return f"a dict with the keys {', '.join(OF_LIST)}, and not {shown(value)}"
-    missing = [f"{key}: {OF_LIST[key].allowed}, and it is missing" for key in NEEDED if key not in value]
+        return f"expected a dict with the keys {', '.join(OF_LIST)}, got {shown(value)}"
+    missing = [f"{key}: expected {OF_LIST[key].allowed}, got none" for key in NEEDED if key not in value]
     draws = value.get("draws", ())
     listed = draws if isinstance(draws, (list, tuple)) else ()
     of_draws = (text for draw in listed for text in faults(OF_DRAW, draw))
@@ -80,9 +80,9 @@ def fault_of(value: Any) -> str:
 def faults(keys: Mapping[str, Key], value: Any) -> list[str]:
     """What is wrong with an object of these keys, key by key."""
     if not isinstance(value, dict):
-        return [f"a dict with some of the keys {', '.join(keys)}, and not {shown(value)}"]
-    unknown = [f"some of the keys {', '.join(keys)}, and not {shown(key)}" for key in value if key not in keys]
+        return [f"expected a dict with some of the keys {', '.join(keys)}, got {shown(value)}"]
+    unknown = [f"expected some of the keys {', '.join(keys)}, got {shown(key)}" for key in value if key not in keys]
     known = [(key, keys[key], each) for key, each in value.items() if key in keys]
     return unknown + [
-        f"{name}: {key.allowed}, and not {shown(each)}" for name, key, each in known if not key.is_one(each)
+        f"{name}: expected {key.allowed}, got {shown(each)}" for name, key, each in known if not key.is_one(each)
     ]

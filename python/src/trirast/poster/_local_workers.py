@@ -8,6 +8,7 @@ waits for a worker: the scheduler says which are there.
 
 from __future__ import annotations
 
+import fcntl
 import os
 import shutil
 import subprocess
@@ -26,6 +27,8 @@ ENDED = 25
 # worker for its memory.
 WORDS = ("-m", "distributed.cli.dask_worker", "--no-nanny", "--nthreads", "1", "--no-dashboard", "--memory-limit", "0")
 PLACE = ("--host", "127.0.0.1", "--death-timeout", str(LOOKS))
+# What the names of the workers' folders begin with, and those of folders that are not yet locked.
+NAMED, UNLOCKED = "trirast-workers-", "trirast-begun-"
 
 
 class LocalWorkers:
@@ -83,14 +86,50 @@ class LocalWorkers:
 @contextmanager
 def local_workers(count: int) -> Iterator[LocalWorkers]:
     """Processes that end with what is within, and a folder of theirs alone: Dask's own are where others may put
-    something."""
-    folder = tempfile.mkdtemp(prefix="trirast-")
-    workers = LocalWorkers(count, folder)
+    something. Removes the folders that killed runs left."""
+    for path in left_folders():
+        shutil.rmtree(path, ignore_errors=True)
+    with own_folder() as folder:
+        workers = LocalWorkers(count, folder)
+        try:
+            yield workers
+        finally:
+            workers.close()
+
+
+@contextmanager
+def own_folder() -> Iterator[str]:
+    """A new folder, which is locked while this process lives, and removed at the end."""
+    begun = tempfile.mkdtemp(prefix=UNLOCKED)
+    folder = os.path.join(os.path.dirname(begun), NAMED + os.path.basename(begun)[len(UNLOCKED):])
+    lock = os.open(begun, os.O_RDONLY | os.O_DIRECTORY)
     try:
-        yield workers
+        fcntl.flock(lock, fcntl.LOCK_EX)
+        os.rename(begun, folder)
+        yield folder
     finally:
-        workers.close()
         shutil.rmtree(folder, ignore_errors=True)
+        os.close(lock)
+
+
+def left_folders() -> Iterator[str]:
+    """The folders of workers, this user's own, that no process has locked."""
+    with os.scandir(tempfile.gettempdir()) as entries:
+        named = [entry.path for entry in entries if entry.name.startswith(NAMED)]
+    for path in named:
+        try:
+            found = os.open(path, os.O_RDONLY | os.O_DIRECTORY | os.O_NOFOLLOW)
+        except OSError:
+            # Another user's, a link, or gone.
+            continue
+        try:
+            fcntl.flock(found, fcntl.LOCK_EX | fcntl.LOCK_NB)
+            if os.fstat(found).st_uid == os.geteuid():
+                yield path
+        except BlockingIOError:
+            pass
+        finally:
+            os.close(found)
 
 
 def started(command: List[str]) -> subprocess.Popen[bytes]:

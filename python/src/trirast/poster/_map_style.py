@@ -4,12 +4,13 @@ from __future__ import annotations
 
 import json
 import math
-import re
 from typing import Any, Iterator, Mapping, NamedTuple, Optional, Sequence
 
 import numpy as np
 from numpy.typing import NDArray
 
+from .._arguments import OF_FLOATS
+from .._color_names import channels_of
 from ._errors import MapError
 from ._scene import MAX_SIDE, Sheet
 
@@ -23,13 +24,15 @@ WORLD = {
 }
 # The window that is as wide and high as what is drawn.
 DATA = "data"
-KEYS = ("projection", "window", "width", "samples", "background", "color", "property", "colors", "steps", "opacity")
+KEYS = (
+    "projection", "crs", "layer", "window", "width", "samples", "background", "color", "property", "colors", "steps",
+    "opacity",
+)
 
 # What JSON calls its values.
 TYPES = {
     str: "string", int: "number", float: "number", bool: "boolean", type(None): "null", list: "array", dict: "object"
 }
-HEX_COLOR = re.compile("#[0-9A-Fa-f]{6}(?:[0-9A-Fa-f]{2})?")
 # How many of a property's values an error lists.
 FEW = 4
 
@@ -76,62 +79,65 @@ class Style(NamedTuple):
             return
         names = {name for properties in features for name in properties}
         if self.property not in names:
-            raise MapError(f"style: property: one of {shown(sorted(names))} of {path}, and not {shown(self.property)}")
+            found = f"{shown(sorted(names))} of {path}"
+            raise MapError(f"style.property: expected one of {found}, got {shown(self.property)}")
         values = [properties[self.property] for properties in features if self.property in properties]
         if self.steps is not None and not any(map(is_number, values)):
             raise MapError(
-                f"style: steps: no feature of {path} has a number as {shown(self.property)}, but {some_of(values)}"
+                f"style.steps: expected a number as {shown(self.property)} of {path}, got {some_of(values)}"
             )
         if self.steps is not None and not any(is_number(value) and value >= self.steps[0][0] for value in values):
-            wanted = f"a number from the first step, {shown(self.steps[0][0])}, on"
+            least = shown(self.steps[0][0])
             raise MapError(
-                f"style: steps: no feature of {path} has {wanted} as {shown(self.property)}, but {some_of(values)}"
+                f"style.steps: expected {shown(self.property)} of at least {least} in {path}, got {some_of(values)}"
             )
         if self.steps is None and not any(name_of(value) in self.colors for value in values):
             wanted = shown(list(self.colors))
             raise MapError(
-                f"style: colors: no feature of {path} has one of {wanted} as "
-                f"{shown(self.property)}, but {some_of(values)}"
+                f"style.colors: expected one of {wanted} as {shown(self.property)} of {path}, got {some_of(values)}"
             )
 
 
 def style_of(value: Any) -> Style:
     if not isinstance(value, dict):
-        raise MapError(f"style: an object with some of the keys {', '.join(KEYS)}, and not {shown(value)}")
+        raise MapError(f"style: expected an object with some of the keys {', '.join(KEYS)}, got {shown(value)}")
     for key in value:
         if key not in KEYS:
-            raise MapError(f"style: some of the keys {', '.join(KEYS)}, and not {shown(key)}")
+            raise MapError(f"style: expected some of the keys {', '.join(KEYS)}, got {shown(key)}")
     projection = value.get("projection", "plate carree")
     if not isinstance(projection, str) or projection not in WORLD:
         raise MapError(
-            f"style: projection: {', '.join(WORLD)}, and not {shown(projection)}; a file that is projected "
+            f"style.projection: expected {', '.join(WORLD)}, got {shown(projection)}; a file that is projected "
             f"already, as in metres, is a {PLANE}"
         )
     window = window_of(given_window(value, projection), WORLD[projection])
     opacity = value.get("opacity", 1)
     if not is_number(opacity) or not 0 <= opacity <= 1:
-        raise MapError(f"style: opacity: 0 to 1, and not {shown(opacity)}")
+        raise MapError(f"style.opacity: expected 0 to 1, got {shown(opacity)}")
     if ("property" in value) != ("colors" in value or "steps" in value):
-        raise MapError("style: a property and colors or steps, or neither")
+        raise MapError("style: expected a property with colors or steps, or neither, got one alone")
     if "colors" in value and "steps" in value:
-        raise MapError("style: colors or steps, and not both")
+        raise MapError("style: expected colors or steps, got both")
+    for key in ("crs", "layer"):
+        if not isinstance(value.get(key, ""), str):
+            raise MapError(f"style.{key}: expected a name, got {shown(value[key])}")
     if not isinstance(value.get("property", ""), str):
-        raise MapError(f"style: property: a name, and not {shown(value['property'])}")
+        raise MapError(f"style.property: expected a name, got {shown(value['property'])}")
 
     def color(name: str, given: Any) -> Color:
         red, green, blue, *alpha = color_of(name, given)
         return red, green, blue, *(alpha or [round(255 * opacity)])
 
     if value.get("steps") == []:
-        raise MapError("style: steps: one step or more, and not []")
+        raise MapError("style.steps: expected one step or more, got []")
     steps = [(least, color("steps", given)) for least, given in pairs_of(value.get("steps", []))]
     numbers = [least for least, _ in steps]
     if numbers != sorted(numbers):
-        raise MapError(f"style: steps: numbers that rise, and not {shown(numbers)}")
+        raise MapError(f"style.steps: expected numbers that rise, got {shown(numbers)}")
     colors = value.get("colors", {})
     if not isinstance(colors, dict):
-        raise MapError(f"style: colors: an object of values and their colours, and not {shown(colors)}")
-    named = {name: color(f"colors: {name}", given) for name, given in colors.items()}
+        raise MapError(f"style.colors: expected an object of values and their colours, got {shown(colors)}")
+    named = {name: color(f"colors[{name}]", given) for name, given in colors.items()}
     sheet = sheet_of(value, projection, window)
     plain = color("color", value.get("color", "#d0c8b0"))
     return Style(projection, window, sheet, plain, value.get("property"), named, steps if "steps" in value else None)
@@ -156,12 +162,13 @@ def of_data(value: Mapping[str, Any], places: Places) -> Style:
 
 def window_of(given: Any, world: Sequence[float]) -> tuple[float, float, float, float]:
     if not isinstance(given, (list, tuple)) or len(given) != 4 or not all(map(is_number, given)):
-        raise MapError(f"style: window: west, south, east and north in degrees, or {DATA!r}, and not {shown(given)}")
+        wanted = f"west, south, east and north in degrees, or {DATA!r}"
+        raise MapError(f"style.window: expected {wanted}, got {shown(given)}")
     west, south, east, north = map(float, given)
     if not (west < east and world[1] <= south < north <= world[3] and east - west <= max(360, world[2] - world[0])):
         raise MapError(
-            f"style: window: west below east, and south below north within {world[1]:.10g} to "
-            f"{world[3]:.10g}, and not {shown(given)}"
+            f"style.window: expected west below east, and south below north within {world[1]:.10g} to "
+            f"{world[3]:.10g}, got {shown(given)}"
         )
     return west, south, east, north
 
@@ -171,32 +178,39 @@ def sheet_of(value: Mapping[str, Any], projection: str, window: tuple[float, flo
     width = value.get("width", 4096)
     rise = math.degrees(mercator(north) - mercator(south)) if projection == "web mercator" else north - south
     if type(width) is not int or not 1 <= width <= MAX_SIDE:
-        raise MapError(f"style: width: 1 to {MAX_SIDE} pixels, and not {shown(width)}")
+        raise MapError(f"style.width: expected 1 to {MAX_SIDE} pixels, got {shown(width)}")
     red, green, blue, *_ = color_of("background", value.get("background", "#ffffff"))
     height = width * rise / (east - west)
     if not height < MAX_SIDE + 0.5:
         raise MapError(
-            f"style: width: {width} by this window makes the height {height:.0f}, which is at most {MAX_SIDE}"
+            f"style.width: expected a height of at most {MAX_SIDE} by this window, got {height:.0f} from {width}"
         )
     return Sheet(width, max(1, round(height)), value.get("samples", 4), (red, green, blue))
 
 
 def color_of(name: str, given: Any) -> Color:
-    """A colour of 3 or 4 numbers, or a text as #rrggbb or #rrggbbaa."""
-    if isinstance(given, str) and HEX_COLOR.fullmatch(given):
-        return list(bytes.fromhex(given[1:]))
-    is_list = isinstance(given, list) and len(given) in (3, 4)
+    """A colour of 3 or 4 numbers, or a text as channels_of has them."""
+    found = channels_of(given) if isinstance(given, str) else None
+    if found is not None:
+        return found
+    is_list = isinstance(given, (list, tuple)) and len(given) in (3, 4)
     if is_list and all(type(each) is int and 0 <= each <= 255 for each in given):
         return tuple(given)
     raise MapError(
-        f"style: {name}: a colour as #rrggbb, #rrggbbaa or three or four numbers up to 255, and not {shown(given)}"
+        f"style.{name}: expected a colour as #rrggbb, #rrggbbaa, a name or three or four numbers up to 255, "
+        f"got {shown(given)}{OF_FLOATS * is_float_color(given)}"
     )
+
+
+def is_float_color(given: Any) -> bool:
+    """Whether a colour has channels of 0 to 1, as those of matplotlib have."""
+    return isinstance(given, (list, tuple)) and any(isinstance(each, float) for each in given)
 
 
 def pairs_of(steps: Any) -> Iterator[tuple[float, Any]]:
     for step in steps if isinstance(steps, list) else [steps]:
         if not isinstance(step, list) or len(step) != 2 or not is_number(step[0]):
-            raise MapError(f"style: steps: pairs of a number and a colour, and not {shown(step)}")
+            raise MapError(f"style.steps: expected pairs of a number and a colour, got {shown(step)}")
         yield step[0], step[1]
 
 

@@ -10,7 +10,7 @@ import io
 import os
 from typing import IO, Sequence, cast
 
-from ._errors import BusyError, OutputError
+from ._errors import NOT_OURS, BusyError, OutputError
 from ._files import NamedFile, open_regular
 
 
@@ -27,7 +27,7 @@ class OwnFile:
         self.head = self.file.read(max(map(len, marks)))
         if not (self.head == b"" or any(self.head.startswith(mark) for mark in marks)):
             self.file.close()
-            raise OutputError(f"{path}: is there, and no poster left it")
+            raise OutputError(f"{path}: {NOT_OURS}")
         self._is_kept = self.head != b""
 
     def keep(self) -> None:
@@ -80,7 +80,7 @@ def lock(opened: int, path: str) -> None:
     try:
         fcntl.flock(opened, fcntl.LOCK_EX | fcntl.LOCK_NB)
     except BlockingIOError:
-        raise BusyError(f"{path}: another run is drawing this poster") from None
+        raise BusyError(f"{path}: expected no other run, got one that draws this poster; wait for its end") from None
 
 
 def is_at(opened: int, path: str) -> bool:
@@ -94,4 +94,4 @@ def is_at(opened: int, path: str) -> bool:
 def check_place(opened: int, path: str) -> None:
     """Raises OutputError unless an open file of a run is still the one under its name."""
     if not is_at(opened, path):
-        raise OutputError(f"{path}: was replaced or removed while the poster was drawn")
+        raise OutputError(f"{path}: expected the file of this run, got it replaced or removed; run again")

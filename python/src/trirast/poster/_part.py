@@ -71,7 +71,7 @@ def part_of(scene: Scene, index: Index, span: Span) -> Part:
     members = members_of(scene, chosen)
     triangles = np.asarray(scene.triangles).take(members.triangles, 0)
     if not scene.is_own:
-        check_range("an index", triangles, 0, len(scene.vertices) - 1)
+        check_range("triangles", triangles, 0, len(scene.vertices) - 1)
     x, y = shift = shift_of(span.area)
     polygons = scene.polygons.take(members.polygons)
     if x or y:

@@ -6,7 +6,7 @@ import os
 import stat
 from typing import Any, NamedTuple, Optional, Union
 
-from ._errors import OutputError
+from ._errors import NOT_REGULAR, OTHER_NAME, OutputError
 
 Path = Union[str, bytes, "os.PathLike[Any]"]
 # What a picture or a folder of tiles is before it is whole, and the journal of its run.
@@ -34,21 +34,22 @@ def places_of(out: Optional[Path], tiles: Optional[Path], source: Optional[str])
     or is in the way."""
     places = Places(*(None if path is None else without_slash(os.fsdecode(path)) for path in (out, tiles)))
     if places.file is None and places.folder is None:
-        raise ValueError("a poster goes to a file, to a folder of tiles, or to both")
+        raise ValueError("out, tiles: expected a file, a folder of tiles, or both, got neither")
     if "" in places:
-        raise OutputError("a file or a folder without a name")
+        raise OutputError("out, tiles: expected a name, got an empty one")
     check_names(places)
     # The error names the folder, and not the first file that the run would make.
     os.stat(os.path.dirname(places.journal) or ".")
     if places.file is not None:
         check_file(places.file)
         if source is not None and is_same(places.file, source):
-            raise OutputError(f"{places.file}: the list itself, which stays")
+            raise OutputError(f"{places.file}: expected another file than the list, got the list; {OTHER_NAME}")
     for path in (places.journal, *([places.file + PART] if places.file else ())):
         check_file(path)
     if places.file is not None and os.path.splitext(places.file)[1].lower() not in ENDS:
         raise OutputError(
-            f"{places.file}: a name that ends in .png, .tif, .tiff, .ppm or of depths in .pgm, or without an end"
+            f"{places.file}: expected a name that ends in .png, .tif, .tiff, .ppm or of depths in .pgm, or has no end, "
+            "got another"
         )
     return places
 
@@ -64,12 +65,12 @@ def check_names(places: Places) -> None:
     real = [os.path.join(os.path.realpath(os.path.dirname(path)), os.path.basename(path)) for path in used]
     for number, name in enumerate(real):
         if name in real[:number]:
-            raise OutputError(f"{used[number]}: two files of the run would have this name")
+            raise OutputError(f"{used[number]}: expected one file of the run, got two; {OTHER_NAME}")
     if places.file and places.folder:
         folder = os.path.realpath(os.path.dirname(places.file))
         for name in (places.folder, places.folder + PART):
             if os.path.commonpath([folder, os.path.realpath(name)]) == os.path.realpath(name):
-                raise OutputError(f"{places.file}: lies in the folder of tiles {name}")
+                raise OutputError(f"{places.file}: expected a file outside of {name}, got one in it; {OTHER_NAME}")
 
 
 def check_file(path: str) -> None:
@@ -79,7 +80,7 @@ def check_file(path: str) -> None:
     except FileNotFoundError:
         return
     if not stat.S_ISREG(mode):
-        raise OutputError(f"{path}: is there and is no regular file")
+        raise OutputError(f"{path}: {NOT_REGULAR}")
 
 
 def is_same(path: str, other: str) -> bool:

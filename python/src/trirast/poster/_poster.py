@@ -9,7 +9,7 @@ import threading
 import zlib
 from concurrent.futures import Future
 from functools import partial
-from typing import Callable, Iterable, Iterator, List, Optional, SupportsFloat
+from typing import Any, Callable, Iterable, Iterator, List, Optional, Sequence, SupportsFloat
 
 import numpy as np
 
@@ -18,6 +18,7 @@ from ._dask import Drawn, draw_by_dask
 from ._errors import ThreadError
 from ._index import Index
 from ._journal import Journal
+from ._marks import marked
 from ._part import part_of
 from ._places import Path, Places, places_of
 from ._png_writer import PIECE, PngWriter
@@ -70,7 +71,7 @@ def draw_poster(
         scene = with_samples(scene, samples)
     count = os.cpu_count() or 1 if workers is None else operator.index(workers)
     if count < 1:
-        raise ValueError(f"workers: at least 1, and not {count}")
+        raise ValueError(f"workers: expected at least 1, got {count}")
     windows = Windows(scene.sheet, operator.index(window))
     with contextlib.ExitStack() as stack, thread_errors():
         digests = stack.enter_context(Pool(count)).map(digest_of, scene.parts())
@@ -79,7 +80,8 @@ def draw_poster(
         checksum = given.checksum_of(digests)
         journal = Journal(places.journal)
         stack.callback(journal.close)
-        writers = list(writers_of(scene.sheet, checksum, places, dots, journal.is_whole, resume, count, stack))
+        tags = () if given.place is None else given.place.tags
+        writers = list(writers_of(scene.sheet, checksum, places, dots, journal.is_whole, resume, count, stack, tags))
         run = {
             "list": checksum, "window": windows.side, "out": places.file is not None, "tiles": places.folder is not None
         }
@@ -102,7 +104,7 @@ def draw_poster(
                 scene.sheet, step,
             )
         stack.callback(rows.close)  # type: ignore[attr-defined]
-        write_rows(rows, journal, writers)
+        write_rows(marked(rows, given.marks, first * windows.side), journal, writers)
         finish(journal, writers)
 
 
@@ -115,13 +117,13 @@ def thread_errors() -> Iterator[None]:
         if "start new thread" not in str(error):
             raise
         raise ThreadError(
-            f"a thread cannot be started; --workers with a smaller number needs fewer: {error}"
+            f"workers: expected a thread to start, got {error}; a smaller number needs fewer"
         ) from error
 
 
 def writers_of(
     sheet: Sheet, checksum: str, places: Places, dpi: Optional[float], is_whole: bool, resume: bool, threads: int,
-    stack: contextlib.ExitStack,
+    stack: contextlib.ExitStack, tags: Sequence[Any] = (),
 ) -> Iterator[Writer]:
     """The writers of a poster, which the stack closes. There is none of tiles that a resumed run left whole."""
     makers: List[Callable[[], Writer]] = []
@@ -130,7 +132,7 @@ def writers_of(
     if places.file is not None and places.file.lower().endswith(PNG):
         makers.append(partial(PngWriter, places.file, sheet, dpi, is_whole, threads))
     elif places.file is not None and places.file.lower().endswith(TIFF):
-        makers.append(partial(TiffWriter, places.file, sheet, dpi, is_whole, threads))
+        makers.append(partial(TiffWriter, places.file, sheet, dpi, is_whole, threads, tags))
     elif places.file is not None:
         makers.append(partial(PpmWriter, places.file, sheet, is_whole))
     for maker in makers:

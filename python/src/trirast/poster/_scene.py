@@ -21,6 +21,7 @@ from .._records import HIGH, LOW
 from .._rings import RULES
 from .._vertices import VERTEX, is_own_layout, records_of
 from ._errors import ArraysError, of_arrays
+from ._marks import Mark
 from ._pool import Pool
 
 if TYPE_CHECKING:
@@ -75,9 +76,9 @@ class Sheet:
             "clear_depth": integer("clear_depth", self.clear_depth, 0, 65535),
         }
         if checked["samples"] not in SAMPLES:
-            raise ArraysError(f"samples: one of {', '.join(map(str, SAMPLES))}, and not {self.samples!r}")
+            raise ArraysError(f"samples: expected one of {', '.join(map(str, SAMPLES))}, got {self.samples!r}")
         if self.output not in OUTPUTS:
-            raise ArraysError(f"output: one of {', '.join(OUTPUTS)}, and not {self.output!r}")
+            raise ArraysError(f"output: expected one of {', '.join(OUTPUTS)}, got {self.output!r}")
         for name, value in checked.items():
             object.__setattr__(self, name, value)
 
@@ -121,24 +122,24 @@ class PosterDraw:
         for name in ("triangles", "polygons"):
             object.__setattr__(self, name, integer(name, getattr(self, name), 0, MAX_TRIANGLES))
         if self.triangles and self.polygons:
-            raise ArraysError(f"a draw has triangles or polygons, and not {self.triangles} and {self.polygons}")
+            raise ArraysError(f"draw: expected triangles or polygons, got {self.triangles} and {self.polygons}")
         if not isinstance(self.state, Mapping) or not set(self.state).isdisjoint(CONTENTS):
             raise ArraysError(
-                f"state: keys of a draw and their values, without {', '.join(CONTENTS)}, and not {self.state!r}"
+                f"state: expected keys of a draw and their values, without {', '.join(CONTENTS)}, got {self.state!r}"
             )
         if (
             CULL in self.state and self.polygons or self.state.get(RULE, RULES[0]) not in RULES
             or RULE in self.state and self.triangles
         ):
             raise ArraysError(
-                f"state: of polygons a rule, {' or '.join(RULES)}, and no cull; of triangles "
-                f"no rule; and not {self.state!r}"
+                f"state: expected of polygons a rule, {' or '.join(RULES)}, and no cull, and of triangles no rule, "
+                f"got {self.state!r}"
             )
         try:
             # A copy of its own, which nobody else changes.
             object.__setattr__(self, "state", json.loads(text_of(dict(self.state))))
         except (TypeError, ValueError, RecursionError) as error:
-            raise ArraysError(f"state: values of a draw list, and not {self.state!r}: {error}") from error
+            raise ArraysError(f"state: expected values of a draw list, got {self.state!r}: {error}") from error
 
     @property
     def count(self) -> int:
@@ -168,13 +169,17 @@ class Scene:
     polygons: Polygons = NONE
     # What the command says of it when it is drawn.
     summary: str = field(default="", repr=False, compare=False)
+    # Where a map lies: a Georeference.
+    place: Any = field(default=None, repr=False, compare=False)
+    # Images that lie over the finished picture, as labels do.
+    marks: Sequence[Mark] = ()
     # Whether nobody else can change the arrays.
     is_own: bool = field(init=False, repr=False, compare=False, default=True)
 
     def __post_init__(self, copy: bool) -> None:
         object.__setattr__(self, "is_own", bool(copy))
         if not isinstance(self.sheet, Sheet) or not all(isinstance(draw, PosterDraw) for draw in self.draws):
-            raise ArraysError("a scene has a Sheet, and a sequence of PosterDraw")
+            raise ArraysError("scene: expected a Sheet and a sequence of PosterDraw, got others")
         object.__setattr__(self, "draws", tuple(self.draws))
         object.__setattr__(self, "vertices", own_vertices(self.vertices, copy))
         object.__setattr__(self, "triangles", own_triangles(self.triangles, copy))
@@ -238,6 +243,8 @@ class Scene:
         found = hashlib.blake2b(json.dumps(head, sort_keys=True, default=list).encode(), digest_size=16)
         for each in digests:
             found.update(each)
+        for mark in self.marks:
+            found.update(f"{mark.left} {mark.top}".encode() + digest_of(mark.image))
         return found.hexdigest()
 
 
@@ -270,7 +277,7 @@ def with_samples(scene: Scene, samples: int) -> Scene:
     and another mask stays as it is. Raises ValueError if no pixel has as many samples, and TypeError at no integer."""
     samples = exact("samples", samples)
     if samples not in SAMPLES:
-        raise ValueError(f"samples: {COUNTS}, and not {samples}")
+        raise ValueError(f"samples: expected {COUNTS}, got {samples}")
     if samples == scene.sheet.samples:
         return scene
     every = (1 << scene.sheet.samples) - 1
@@ -298,7 +305,7 @@ def own_vertices(array: Any, copy: bool) -> Vertices:
     if array.dtype.names and is_own_layout(array):
         found: Vertices = (np.array(array, order="C") if copy else array).view(VERTEX)
     elif array.ndim == 2 and array.shape[1] != len(VERTEX) - 1:
-        raise ArraysError(f"vertices: rows of 7 integers, and not {array.dtype} of the shape {array.shape}")
+        raise ArraysError(f"vertices: expected rows of 7 integers, got {array.dtype} of the shape {array.shape}")
     else:
         with of_arrays():
             found = np.frombuffer(records_of(array), VERTEX)
@@ -311,7 +318,7 @@ def own_triangles(array: Any, copy: bool) -> Triangles:
     three."""
     array = exact_array("triangles", array)
     if array.ndim != 2 or array.shape[1] != 3 or array.dtype.kind not in "iu":
-        raise ArraysError(f"triangles: rows of 3 integers, and not {array.dtype} of the shape {array.shape}")
+        raise ArraysError(f"triangles: expected rows of 3 integers, got {array.dtype} of the shape {array.shape}")
     if array.dtype == np.int32 and array.dtype.isnative:
         found: Triangles = np.array(array, order="C") if copy else np.require(array, None, ("C", "A")).view()
     else:
@@ -327,7 +334,7 @@ def own_triangles(array: Any, copy: bool) -> Triangles:
 def own_polygons(given: Any, copy: bool = True) -> Polygons:
     """Returns polygons in arrays of their own, as `Polygons.owned` does. Raises ArraysError if they are none."""
     if not isinstance(given, Polygons):
-        raise ArraysError(f"polygons: of the class Polygons, and not {type(given).__name__}")
+        raise ArraysError(f"polygons: expected a Polygons, got {type(given).__name__}")
     with of_arrays():
         return given.owned(copy)
 
@@ -338,14 +345,14 @@ def check_arrays(vertices: Vertices, triangles: Triangles, draws: Sequence[Poste
     check_count("triangles", sum(draw.triangles for draw in draws), len(triangles))
     for first in range(0, len(vertices), CHUNK):
         for axis in AXES:
-            check_range(axis, vertices[axis][first : first + CHUNK], LOW, HIGH)
+            check_range(f"vertices.{axis}", vertices[axis][first : first + CHUNK], LOW, HIGH)
     for first in range(0, len(triangles), CHUNK):
-        check_range("an index", triangles[first : first + CHUNK], 0, len(vertices) - 1)
+        check_range("triangles", triangles[first : first + CHUNK], 0, len(vertices) - 1)
 
 
 def check_count(name: str, counted: int, count: int) -> None:
     if counted != count:
-        raise ArraysError(f"the draws have {counted} {name}, and the arrays have {count}")
+        raise ArraysError(f"draws: expected the {count} {name} of the arrays, got {counted}")
 
 
 def check_states(draws: Sequence[PosterDraw]) -> None:
@@ -361,13 +368,13 @@ def exact_array(name: str, array: Any) -> NDArray[Any]:
     """An array of numpy's own class, since another class may say what it likes of its size. Raises ArraysError if it is
     none."""
     if not isinstance(array, np.ndarray) or isinstance(array, np.ma.MaskedArray):
-        raise ArraysError(f"{name}: an array of numpy, without a mask, and not {type(array).__name__}")
+        raise ArraysError(f"{name}: expected an array of numpy, without a mask, got {type(array).__name__}")
     return np.asarray(array)
 
 
 def check_range(name: str, numbers: NDArray[Any], least: int, most: int) -> None:
     if numbers.size and not (least <= int(numbers.min()) and int(numbers.max()) <= most):
-        raise ArraysError(f"{name}: {least} to {most}, and not {numbers.min()} to {numbers.max()}")
+        raise ArraysError(f"{name}: expected {least} to {most}, got {numbers.min()} to {numbers.max()}")
 
 
 def integer(name: str, value: Any, least: int, most: int) -> int:
@@ -377,7 +384,7 @@ def integer(name: str, value: Any, least: int, most: int) -> int:
     except TypeError:
         found = None
     if found is None or not least <= found <= most:
-        raise ArraysError(f"{name}: an integer from {least} to {most}, and not {value!r}")
+        raise ArraysError(f"{name}: expected an integer from {least} to {most}, got {value!r}")
     return found
 
 
@@ -386,5 +393,5 @@ def three(name: str, values: Any) -> tuple[Any, Any, Any]:
     try:
         first, second, third = values
     except (TypeError, ValueError, NotImplementedError):
-        raise ArraysError(f"{name}: three integers, and not {values!r}") from None
+        raise ArraysError(f"{name}: expected three integers, got {values!r}") from None
     return first, second, third

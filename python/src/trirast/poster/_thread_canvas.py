@@ -117,7 +117,8 @@ class ThreadCanvas:
         """Draws as many triangles from the triangle `first` of the arrays on. Raises BatchError, and ArraysError if
         there are not as many; then nothing was drawn."""
         if not 0 <= first <= first + triangles <= self._arrays.triangle_count:
-            raise ArraysError(f"a draw: {self._arrays.triangle_count} triangles, and not {first} and {triangles} more")
+            count = self._arrays.triangle_count
+            raise ArraysError(f"draw: expected at most {count} triangles, got {first} + {triangles}")
         _, draw, address = self._states.get(id(state)) or self._keep(state)
         batch, arrays = self._batch, self._arrays
         draw.vertex_count, draw.index_count = arrays.vertex_count, 3 * triangles

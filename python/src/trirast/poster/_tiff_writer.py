@@ -5,7 +5,7 @@ from __future__ import annotations
 from concurrent.futures import Future
 from contextlib import suppress
 from queue import Empty, Full, Queue
-from typing import IO, Any, Iterator, Optional
+from typing import IO, Any, Iterator, Optional, Sequence
 
 import numpy as np
 
@@ -42,14 +42,17 @@ class Beginning:
 
 
 class TiffWriter:
-    """A TIFF file of colours, or of depths with 16 bits, with dots per inch if they are not `None`."""
+    """A TIFF file of colours, or of depths with 16 bits, with dots per inch if they are not `None`, and with tags that
+    say where it lies."""
 
-    def __init__(self, path: str, sheet: Sheet, dpi: Optional[float], is_whole: bool, threads: int) -> None:
+    def __init__(
+        self, path: str, sheet: Sheet, dpi: Optional[float], is_whole: bool, threads: int, tags: Sequence[Any] = ()
+    ) -> None:
         try:
             import tifffile
         except ImportError as error:
-            raise EngineMissingError(f"a TIFF file needs tifffile, python3-tifffile in Debian: {error}") from error
-        self._module, self._sheet, self._dpi, self._threads = tifffile, sheet, dpi, threads
+            raise EngineMissingError(f"TIFF: expected tifffile, got {error}; install python3-tifffile") from error
+        self._module, self._sheet, self._dpi, self._threads, self._tags = tifffile, sheet, dpi, threads, tags
         self._part = PartFile(path, b"", is_whole)
         self._file = Beginning(self._part.file, path)
         # The next rows of a run, and `None` behind the last ones or where the run is stopped.
@@ -106,7 +109,7 @@ class TiffWriter:
             tiff.write(
                 self._tiles(), shape=shape, dtype="uint16" if sheet.is_depth else "uint8", tile=(SIDE, SIDE),
                 photometric=kind, compression="zlib", predictor=not sheet.is_depth, maxworkers=self._threads,
-                metadata=None, software="trirast", **dots,
+                metadata=None, software="trirast", extratags=self._tags, **dots,
             )
 
     def _tiles(self) -> Iterator[Any]:

@@ -8,7 +8,7 @@ import stat
 from contextlib import contextmanager, suppress
 from typing import Iterator, Optional
 
-from ._errors import OutputError
+from ._errors import NOT_OURS, OTHER_NAME, OutputError
 from ._files import naming, not_regular, open_regular, read_regular, write_new
 from ._own_file import check_place, open_alone
 from ._places import PART
@@ -45,7 +45,7 @@ class TileFolder:
             os.mkdir(self._part)
         except FileExistsError:
             if not stat.S_ISDIR(os.lstat(self._part).st_mode):
-                raise OutputError(f"{self._part}: is there and is no folder") from None
+                raise OutputError(f"{self._part}: expected a folder, got a file; {OTHER_NAME}") from None
             return True
         return False
 
@@ -55,7 +55,7 @@ class TileFolder:
         for name, mode in files_of(self._opened):
             path = os.path.join(self._part, name)
             if not (NEW.fullmatch(name) or is_own and (name == PAGE or TILE_NAME.fullmatch(name))):
-                raise OutputError(f"{path}: is there, and no poster left it")
+                raise OutputError(f"{path}: {NOT_OURS}")
             if not stat.S_ISREG(mode):
                 raise not_regular(path)
 
@@ -112,7 +112,7 @@ class TileFolder:
 def check_new(path: str) -> None:
     """Raises OutputError if there is something under a name. A link is something, also one that leads nowhere."""
     if os.path.lexists(path):
-        raise OutputError(f"{path}: is there, and tiles go to a new folder")
+        raise OutputError(f"{path}: expected a new folder for tiles, got one that exists; {OTHER_NAME}")
 
 
 def page_in(path: str, folder: Optional[int] = None) -> bytes:

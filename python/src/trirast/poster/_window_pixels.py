@@ -8,6 +8,7 @@ from __future__ import annotations
 
 from typing import Callable, Iterator, Sequence
 
+from .._ffi import library
 from .._version import VERSION
 from ._errors import ArraysError, EngineMissingError
 from ._part import Part, PartDraw, begin_of
@@ -18,11 +19,16 @@ from ._thread_canvas import Arrays, Target, own_canvas
 MOST = 1 << 29
 
 
-def sent_pixels(part: Part, release: str) -> Pixels:
-    """The pixels of a part that another process sent, which has this release. Raises EngineMissingError if it is not
-    this one's: that may draw otherwise."""
-    if release != VERSION:
-        raise EngineMissingError(f"a worker has release {VERSION} of trirast, and not {release}; install the same")
+def releases() -> str:
+    """The releases of this package and of the library, which draw the same wherever they are the same."""
+    return f"trirast {VERSION} with library {library().trirast_version_string().decode()}"
+
+
+def sent_pixels(part: Part, wanted: str) -> Pixels:
+    """The pixels of a part that another process sent, which has these releases. Raises EngineMissingError if they are
+    not this one's: those may draw otherwise."""
+    if wanted != releases():
+        raise EngineMissingError(f"worker: expected {wanted}, got {releases()}; install the same there")
     return window_pixels(part)
 
 
@@ -41,7 +47,7 @@ def put_pixels(part: Part, pixels: Pixels, is_stopped: Callable[[], bool] = lamb
     canvas.begin(part.sheet, begin_of(part), Arrays(part.vertices, part.triangles))
     for area, draws in part.pieces:
         if not area.is_within(part.area):
-            raise ArraysError(f"a piece of a part: pixels within {part.area}, and not {area}")
+            raise ArraysError(f"part: expected a piece within {part.area}, got {area}")
         canvas.place(area)
         canvas.clear()
         for first, end, state, is_polygons in calls_of(draws, area.pixels):

@@ -8,17 +8,18 @@ from typing import Iterator, NamedTuple
 import numpy as np
 
 from .._box import Box
+from .._numbers import HIGHEST_ORIGIN, TILE_SIZE
+from .._numbers import MAX_SIDE as LIST_SIDE
 from .._records import UNIT
-from ._draw_list import LIST_SIDE
 from ._scene import Indices, Sheet
 
-# The pixels of a tile's side (docs/canvas.md). A window's tile rows are drawn one after another, since the samples of
-# one fit into a processor's second cache, where they are cleared, drawn and resolved.
-TILE = 64
+# A window's tile rows are drawn one after another, since the samples of one fit into a processor's second cache, where
+# they are cleared, drawn and resolved.
+TILE = TILE_SIZE
 # The last pixel at which a canvas may begin on which polygons are drawn, and by how many pixels these are moved
 # left or up, and the canvas with them, where it begins behind that: what is inside moves with the corners by whole
 # pixels (docs/polygons.md).
-FARTHEST, SHIFT = 28672, 4096
+FARTHEST, SHIFT = HIGHEST_ORIGIN, LIST_SIDE
 
 
 class Window(NamedTuple):
@@ -60,7 +61,7 @@ class Windows:
 
     def __init__(self, sheet: Sheet, side: int) -> None:
         if not TILE <= side <= LIST_SIDE:
-            raise ValueError(f"window: {TILE} to {LIST_SIDE} pixels, and not {side}")
+            raise ValueError(f"window: expected {TILE} to {LIST_SIDE} pixels, got {side}")
         self.width, self.height, self.side = sheet.width, sheet.height, side
         self.columns, self.rows = -(-sheet.width // side), -(-sheet.height // side)
         # The tile rows of a window, and the last one of the sheet.

@@ -1,7 +1,8 @@
 use Rattle.std.proofs.Common.{sym, subst, ap, arith, ◌+◌, ◌*◌}
 use Rattle.lanes.specs.Fragment.{FlatFragment}
 use Rattle.polygons.specs.Cells.{flags_by}
-use Rattle.fills.specs.Parts.{MeetsHere, RowsPaint}
+use Rattle.block_fills.specs.Parts.{RowsPaint}
+use Rattle.fills.specs.Parts.{MeetsHere}
 use Rattle.fills.proofs.RowMasks.{all_met}
 use Rattle.fills.proofs.row.paint_row.Goals as goal
 

@@ -8,8 +8,9 @@ use Rattle.polygons.specs.declared.rule.Rule.TheVariants.{EvenOdd, NonZero}
 use Rattle.polygons.specs.Cells.{flags_by}
 use Rattle.canvas.specs.Layout.{columns_of, planes_of_row}
 use Rattle.blocks.proofs.Places.{part_within}
-use Rattle.fills.specs.Parts.{MeetsHere, RowsPaint}
-use Rattle.fills.proofs.Joined.{rows_none, rows_same}
+use Rattle.block_fills.specs.Parts.{RowsPaint}
+use Rattle.fills.specs.Parts.{MeetsHere}
+use Rattle.block_fills.proofs.Joined.{rows_none, rows_same}
 use Rattle.fills.proofs.TileRows.{one_row_more, in_window, polygon_painted, zeros_of_part, zeros_put}
 use Rattle.fills.proofs.rows.paint_rows.Goals as goal
 

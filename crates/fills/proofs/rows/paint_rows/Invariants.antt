@@ -1,6 +1,7 @@
 use Rattle.std.proofs.Common.{◌/◌, ◌<◌}
 use Rattle.polygons.specs.Cells.{AreZeros}
-use Rattle.fills.specs.Parts.{MeetsHere, RowsPaint}
+use Rattle.block_fills.specs.Parts.{RowsPaint}
+use Rattle.fills.specs.Parts.{MeetsHere}
 use Rattle.fills.proofs.rows.paint_rows.Given as goal
 
 abbrev pub invariant-loop-row : goal.invariant-loop-row

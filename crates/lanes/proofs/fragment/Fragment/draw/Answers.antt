@@ -7,4 +7,4 @@ use Rattle.lanes.proofs.fragment.Fragment.draw.Goals as goal
 pub returns-clause-drawn : goal.returns-clause-drawn
 returns-clause-drawn c =
     subst (λ (f : FlatFragment). IsBlockMerged f c.args.mask.now c.args.samples.now c.draw_by_mode.new.samples) c.self.view_is
-    (made_otherwise _ _ c.args.mask.now _ _ (λ s k few low set x y takes. takes _ (c.depth_source.ensures _) (record { red = λ w. refl; green = λ w. refl; blue = λ w. refl; alpha = λ w. refl })) c.draw_by_mode.ensures.drawn)
+    (made_otherwise _ _ c.args.mask.now _ _ (λ s k few low set x y takes. takes _ refl) c.draw_by_mode.ensures.drawn)

@@ -1,0 +1,13 @@
+pub mod Joined
+pub mod Merged
+pub mod SampleParts
+pub mod BlockParts
+pub mod Tiles
+pub mod BlocksAlike
+pub mod OnePlane
+pub mod PairBlocks
+pub mod FlatBlocks
+pub mod FewSamples
+pub mod Columns
+pub mod Strips
+pub mod WholeTiles

@@ -1,6 +1,0 @@
-use Rattle.std.proofs.Common.{◌≡◌, ℕ, ◌*◌, ◌<◌}
-use Rattle.fills.specs.Parts.{block_mask}
-use Rattle.fills.proofs.masks.Masks.has_some.Given as goal
-
-abbrev pub invariant-loop-part : goal.invariant-loop-part
-invariant-loop-part l = (s : ℕ) → s < 4 * l.part → block_mask l.self l.column l.row s ≡ 0

@@ -1,0 +1,36 @@
+# Takes the library that the release has for the platform. Nothing is compiled.
+set(system linux)
+set(kind tar.gz)
+if(VCPKG_TARGET_IS_WINDOWS)
+  set(system windows)
+  set(kind zip)
+elseif(VCPKG_TARGET_IS_OSX)
+  set(system macos)
+endif()
+string(REGEX REPLACE "^x64$" "x86_64" processor "${VCPKG_TARGET_ARCHITECTURE}")
+set(platform "${system}-${processor}")
+
+set(sum_linux-x86_64 @SHA512:linux-x86_64@)
+set(sum_linux-arm64 @SHA512:linux-arm64@)
+set(sum_linux-riscv64 @SHA512:linux-riscv64@)
+set(sum_windows-x86_64 @SHA512:windows-x86_64@)
+set(sum_windows-arm64 @SHA512:windows-arm64@)
+set(sum_macos-x86_64 @SHA512:macos-x86_64@)
+set(sum_macos-arm64 @SHA512:macos-arm64@)
+if(NOT DEFINED sum_${platform})
+  message(FATAL_ERROR "trirast: expected a platform of the release, got ${platform}")
+endif()
+
+set(name "trirast-@VERSION@-${platform}.${kind}")
+vcpkg_download_distfile(archive URLS "@URL@/${name}" FILENAME "${name}" SHA512 "${sum_${platform}}")
+vcpkg_extract_source_archive(source ARCHIVE "${archive}")
+file(COPY "${source}/include" "${source}/lib" DESTINATION "${CURRENT_PACKAGES_DIR}")
+vcpkg_install_copyright(FILE_LIST "${source}/LICENSE" "${source}/LICENSE-MIT" "${source}/LICENSE-APACHE")
+
+# One build serves programs of both types. The tree of the release stays as it is: trirast-config.cmake finds the
+# library from its own folder, lib/cmake/trirast.
+set(VCPKG_BUILD_TYPE release)
+set(VCPKG_POLICY_ALLOW_DLLS_IN_LIB enabled)
+set(VCPKG_POLICY_DLLS_IN_STATIC_LIBRARY enabled)
+set(VCPKG_POLICY_SKIP_MISPLACED_CMAKE_FILES_CHECK enabled)
+set(VCPKG_POLICY_SKIP_LIB_CMAKE_MERGE_CHECK enabled)
