@@ -84,13 +84,10 @@ def sentences(page: str) -> Iterator[str]:
 
 
 def found_in(page: str) -> Found:
-    """What is too long in a page. A row of a table cannot be wrapped, so its cells have a limit instead of it."""
+    """What is too long in a page. A row of a table cannot be wrapped, so its sentences belong in a list."""
     prose = prose_of(page)
     return Found(
-        [
-            line for line in prose.split("\n")
-            if len(line) > MOST_COLUMNS and not is_row(line) and " " in line.strip()
-        ],
+        [line for line in prose.split("\n") if len(line) > MOST_COLUMNS and " " in line.strip()],
         [cell for row in rows(prose) for cell in row if words(cell) > MOST_CELL_WORDS],
         [sentence for sentence in sentences(page) if words(sentence) > MOST_SENTENCE_WORDS],
     )

@@ -170,10 +170,11 @@ class Names(unittest.TestCase):
 
     def test_sample_patterns(self) -> None:
         table = text_of("docs/rules.md").split("## Sample positions")[1].split("\n\n")[2]
-        listed = {
-            int(count): re.findall(r"\((-?\d),(-?\d)\)", positions) for count, positions in list(rows(table))[1:]
-        }
-        found = {count: tuple((int(x), int(y)) for x, y in positions) for count, positions in listed.items()}
+        found: dict[int, tuple[tuple[int, int], ...]] = {}
+        for samples, positions in list(rows(table))[1:]:
+            count = int(samples.split(",")[0])
+            pairs = re.findall(r"\((-?\d),(-?\d)\)", positions)
+            found[count] = found.get(count, ()) + tuple((int(x), int(y)) for x, y in pairs)
         self.assertEqual(found, renderer.PATTERNS)
         self.assertEqual(text_of("docs/samples.svg"), sample_patterns.svg())
 

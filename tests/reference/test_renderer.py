@@ -469,17 +469,20 @@ class Documents(unittest.TestCase):
     def setUp(self) -> None:
         self.page = text_of("docs", "draw-list.md")
 
+        # In the blocks of text, a list goes on in lines that are indented more.
+        self.in_lines = re.sub(r"\n {5,}", "", self.page)
+
     def test_refused_examples(self) -> None:
-        rows = re.findall(r"^\| `(.*?)` \| `trirast: list fault (.*?)` \|", self.page, re.MULTILINE)
-        self.assertEqual(len(rows), 25)
-        for text, error in rows:
+        found = re.findall(r"^(\d+ \w+(?: in draw \d+)?) {2,}(.+)$", self.in_lines, re.MULTILINE)
+        self.assertEqual(len(found), 25)
+        for error, text in found:
             self.assertEqual(error_of(text), error, text)
 
     def test_accepted_examples(self) -> None:
-        rows = re.findall(r"^\| `({.*?})` \| (?!`trirast)", self.page, re.MULTILINE)
-        rows += re.findall(r"^```json\n(.*?)\n```$", self.page, re.MULTILINE | re.DOTALL)
-        self.assertEqual(len(rows), 11)
-        for text in rows:
+        texts = re.findall(r"^an? .*\n {4}({.*})$", self.in_lines, re.MULTILINE)
+        texts += re.findall(r"^```json\n(.*?)\n```$", self.page, re.MULTILINE | re.DOTALL)
+        self.assertEqual(len(texts), 11)
+        for text in texts:
             self.assertIsNone(error_of(text), text)
 
 
