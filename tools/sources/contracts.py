@@ -20,26 +20,26 @@ HEAD = """\
 
 [crates/README.md](../../crates/README.md) has a line for each crate, and [architecture.md](../architecture.md) the
 flow of data. The tables have the crates in the order of `crates.txt`, lowest first.
-`python3 -m tools.sources.contracts` writes this page of `crates/contracts.txt`.
+`python3 -m tools.sources.contracts` writes this page from `crates/contracts.txt`.
 
 ## The contract of each crate
 
-The one contract that each crate is for. The tools and the crates of tests have none.
+The one contract that each crate is made for. The tools and the crates of tests have none.
 """
 DEFINITIONS = """
 ## Where each rule lives
 
 A definition is in the lowest crate that can state it, in a file named for what it defines. Each crate's
-`specs/Lib.antt` begins with a line for each definition. These are the files, each behind those that it uses. Those in
-bold define the picture, and so what the guarantee means: [statement.md](../statement.md) has them on one page. `Seam`
+`specs/Lib.antt` begins with a line for each definition. These are the files, each after those that it uses. Those in
+bold define the image, and so what the guarantee means: [statement.md](../statement.md) has them on one page. `Seam`
 and `Quad` of `grid`, `Pair` and `Quad` of `cover` and all of `canvas_picture` are laws, carried by calls of their own.
-The others state what the parts in between and the other calls promise. The definition of the picture names none of
+The others state what the parts in between and the other calls promise. The definition of the image names none of
 them. The contract of `reference` is that definition.
 """
 CALLS = """
 ## What each crate relies on
 
-The calls of lower crates by which a crate's own contract is proved, each behind its crate. A call without a type is
+The calls of lower crates with which a crate's own contract is proved, each after its crate. A call without a type is
 that of the type before it, or a free function. [promises.md](promises.md) says what the calls promise. Most calls that
 only hand out what a struct holds are left out.
 """

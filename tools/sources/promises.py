@@ -3,7 +3,7 @@
     python3 -m tools.sources.promises
 
 The lines of promises.txt are those of the page, but for its promises. Each of them is a paragraph there, and its last
-line begins with `= `: calls, and behind a colon the names of their clauses, or of a record's parts. "The same" are the
+line begins with `= `: calls, and after a colon the names of their clauses, or of a record's parts. "The same" are the
 calls of the promise before.
 """
 
@@ -19,9 +19,9 @@ SOURCE, PAGE = os.path.join("crates", "promises.txt"), os.path.join("docs", "gen
 HEAD = """\
 # Every promise
 
-Each promise supposes that the call's `requires` hold. What a call makes that can fail is promised after `Ok` alone.
+Each promise supposes that the call's `requires` hold. If a call can fail, its results are promised after `Ok` only.
 "Its clause" marks a call whose only clause has no name. [proofs.md](../proofs.md) says what is trusted, and what no
-clause promises. `python3 -m tools.sources.promises` writes this page of `crates/promises.txt`.
+clause promises. `python3 -m tools.sources.promises` writes this page from `crates/promises.txt`.
 """
 
 
