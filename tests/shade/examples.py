@@ -126,6 +126,41 @@ int main() {{
 """
 
 
+# Draws two squares of different materials, each with its lower half behind a pane.
+OBJECTS = """
+#include <trirast_frame.hpp>
+#include <trirast_texture.hpp>
+struct Thing {{
+    std::vector<trirast::ClipPosition> positions;
+    std::uint32_t material;
+    std::vector<std::uint32_t> indices = {{0, 1, 2, 0, 2, 3}};
+    std::vector<trirast::Attributes<2>::Values> values = {{{{0, 0}}, {{1, 0}}, {{1, 1}}, {{0, 1}}}};
+}};
+Thing square(float left, float right, float bottom, float top, float z, std::uint32_t material) {{
+    return {{{{{{left, bottom, z, 1}}, {{right, bottom, z, 1}}, {{right, top, z, 1}}, {{left, top, z, 1}}}}, material}};
+}}
+int main() {{
+    const std::uint32_t width = 128, height = 64;
+    trirast::Clip clip{{}};
+    clip.width = width, clip.height = height;
+    trirast::State nearest;
+    nearest.depth_test = TRIRAST_DEPTH_LESS, nearest.depth_write = true;
+    const trirast::Pool pool(2);
+    trirast::Frame drawn({{width, height, 4}}, pool.threads());
+    std::vector<std::uint8_t> image(3 * width * height);
+    const std::vector<std::uint8_t> wood(4 * 64 * 64, 200), stone(4 * 64 * 64, 90);
+    const std::vector<Thing> things = {{square(-0.9f, -0.1f, -0.9f, 0.9f, 0.5f, 0),
+                                       square(0.1f, 0.9f, -0.9f, 0.9f, 0.5f, 1)}};
+    const Thing pane = square(-1, 1, -1, 0, 0.25f, 0);
+    {}
+    const auto red = [&](std::uint32_t x, std::uint32_t y) {{ return int{{image[3 * (width * y + x)]}}; }};
+    const auto behind = [](int stored) {{ return (160 * 96 + stored * 159 + 127) / 255; }};
+    return red(32, 16) == 200 && red(96, 16) == 90 && red(64, 16) == 24 && red(32, 48) == behind(200) &&
+           red(96, 48) == behind(90) && red(64, 48) == behind(24) ? 0 : 1;
+}}
+"""
+
+
 def built(name: str, text: str) -> str:
     """Builds a program in C++ over the library. Returns its path."""
     program, source = os.path.join(OUT, name), os.path.join(OUT, f"{name}.cpp")
@@ -150,11 +185,12 @@ def by_tiles(program: str, lines: str) -> str:
 def check_page() -> str:
     """examples/cpp/cube.cpp, of which the page has parts, draws the cube: other pictures from other sides, each with
     the checks of its faces, and the same bytes tile by tile. Returns how many pixels."""
-    shader, frame, texel, levels, tiles = examples_in("cpp")
+    shader, frame, texel, levels, tiles, objects = examples_in("cpp")
     text = places.text_of(PROGRAMS, "cube.cpp")
     must(shader in text and frame in text, "the page shows other parts than those of cube.cpp")
     run([built("texel", TEXEL.format(texel))])
     run([built("levels", LEVELS.format(levels))])
+    run([built("objects", OBJECTS.format(objects))])
     program, tiled = built("page", text), built("page-tiles", by_tiles(text, tiles))
     shown = []
     for turn in ("0.6", "1.4"):
