@@ -1,4 +1,4 @@
-"""Writes crates/README.md and the diagram at the head of docs/architecture.md, both made of crates.txt.
+"""Writes crates/README.md and the diagram at the head of docs/architecture.md, both from crates.txt.
 
     python3 -m tools.sources.layers
 
@@ -18,9 +18,9 @@ LIST, DIAGRAM = os.path.join("crates", "README.md"), os.path.join("docs", "archi
 HEAD = """\
 # The crates
 
-By layers, lowest first. A crate stands on crates of earlier lines alone, and on the toolchain's. A library has \
+Crates by layers, lowest first. A crate uses only crates of earlier lines, and the toolchain's. A library has \
 `src/lib.rt`, a program
-`src/main.rt`. `python3 -m tools.sources.layers` writes this page; the words are those of `crates.txt`.
+`src/main.rt`. `python3 -m tools.sources.layers` writes this page from `crates.txt`.
 """
 
 
@@ -64,7 +64,7 @@ def product() -> list[str]:
 
 
 def reached(name: str) -> set[str]:
-    """All crates, the toolchain's too, that a crate stands on, directly or by others."""
+    """All crates, the toolchain's too, that a crate uses, directly or through others."""
     uses = {one.name: one.uses for layer in layers() for one in layer.crates}
     found: set[str] = set()
     waiting = [name]

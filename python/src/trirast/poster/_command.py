@@ -39,15 +39,15 @@ def side(text: str) -> int:
 def arguments(words: Optional[List[str]] = None) -> argparse.Namespace:
     parser = argparse.ArgumentParser(
         prog="python3 -m trirast.poster",
-        description="Draws a draw list or a map of up to 32,768 pixels a side, by windows.",
+        description="Draws a draw list or a map of up to 32,768 pixels a side, in chunks.",
     )
     parser.add_argument(
         "list", metavar="LIST", help="a draw list, arrays of numpy (.npz), or a map (.geojson, .gpkg, .shp ..)"
     )
     parser.add_argument(
         "-o", dest="out", metavar="OUT",
-        help="the picture: PNG if the name ends in .png, TIFF if in .tif or .tiff, PPM (of depths "
-        "PGM) if in .ppm, .pgm or nothing; - writes a PNG file to standard output",
+        help="the image: PNG if the name ends in .png, TIFF if in .tif or .tiff, PPM (PGM of "
+        "depths) if in .ppm, .pgm or nothing; - writes a PNG file to standard output",
     )
     parser.add_argument(
         "--style", metavar="STYLE.json", help="how a map is drawn: window, projection, colours"
@@ -56,21 +56,21 @@ def arguments(words: Optional[List[str]] = None) -> argparse.Namespace:
         "--tiles", metavar="FOLDER", help="a new folder of PNG tiles z/x/y.png with a page that shows them"
     )
     parser.add_argument(
-        "--samples", type=int, choices=sorted(SAMPLES), help="samples of a pixel, in place of the list's"
+        "--samples", type=int, choices=sorted(SAMPLES), help="samples per pixel, instead of the list's"
     )
     parser.add_argument(
-        "--world-file", action="store_true", help="write where a map lies beside OUT: a world file and a .prj"
+        "--world-file", action="store_true", help="also write a map's georeference: a world file and a .prj"
     )
-    parser.add_argument("--dpi", type=float, help="pixels per inch, which a PNG or a TIFF file has")
+    parser.add_argument("--dpi", type=float, help="pixels per inch, stored in PNG and TIFF files")
     parser.add_argument(
         "--window", type=side, default=SIDE, metavar="SIDE",
-        help=f"pixels of a window's side (default {SIDE}); a map's window is a key of its style",
+        help=f"a chunk's side in pixels (default {SIDE}); a map's window is a key of its style",
     )
-    parser.add_argument("--workers", type=int, metavar="N", help="how many draw at once (default one a core)")
+    parser.add_argument("--workers", type=int, metavar="N", help="chunks drawn at once (default: one per core)")
     parser.add_argument(
-        "--scheduler", metavar="local|ADDRESS", help="draw by Dask: its processes here, or a cluster's scheduler"
+        "--scheduler", metavar="local|ADDRESS", help="draw with Dask: processes here, or a cluster's scheduler"
     )
-    parser.add_argument("--resume", action="store_true", help="go on with what a stopped run left")
+    parser.add_argument("--resume", action="store_true", help="resume an interrupted run")
     options = parser.parse_args(words)
     if options.out is None and options.tiles is None:
         parser.error("one of -o and --tiles is needed")
