@@ -1,4 +1,4 @@
-"""What docs/statement.md says by hand: its beginning, what stands before each group of definitions, and
+"""What docs/statement.md says by hand: its beginning, what comes before each group of definitions, and
 the glossary."""
 
 from __future__ import annotations
@@ -22,22 +22,21 @@ COUNTING = tuple(("crates/picture_file/src/counted.rt", call) for call in ("new"
 BEGINNING = """\
 # What is proved
 
-This page has the theorem about `trirast::run`, the call that reads a draw list and writes its picture. It has every
-definition of this repository that the theorem rests on, in reading order. So its reader needs neither the code nor the
-proofs of that call.
+This page has the theorem about `trirast::run`, the call that reads a draw list and writes its image. The sources call
+an image a picture. The page has every definition of this repository on which the theorem rests, in reading order. So
+you need neither the code nor the proofs of that call.
 
-The page covers `trirast::run` only. [Every promise](generated/promises.md) has those of all other calls, each with the
-clauses that carry it: [the program](generated/promises.md#the-program), [the library for
-C](generated/promises.md#the-library), [a canvas](generated/promises.md#a-canvas). Their definitions
-are in `crates/*/specs`.
+[Every promise](generated/promises.md) has the promises of all other calls, each with the clauses that carry it: [the
+program](generated/promises.md#the-program), [the library for C](generated/promises.md#the-library), [a
+canvas](generated/promises.md#a-canvas). Their definitions are in `crates/*/specs`.
 
-The [Glossary](#glossary) explains each symbol and each name of the toolchain, as `negsuc` and `R.remaining`. The
-[Index](#index) says which section defines a name of this repository, as `Counted`.
+The [Glossary](#glossary) explains each symbol and each name of the toolchain, such as `negsuc` and `R.remaining`. The
+[Index](#index) says which section defines a name of this repository, such as `Counted`.
 
-All of it takes an afternoon. Ten definitions carry the picture, and half an hour reads them: `PassesEdge` and `Covers`
-(which samples a triangle has), `IsValueAt` (depth and colour there), `Passes` and `IsMerged` (depth test and new
-colour), `Draws` (one triangle at one sample), `Ends` (all of them), `IsResolved` (a pixel), `IsPicture` (the bytes) and
-`Denotes` (which list the input is). The rest is what these are made of.
+You can read all of it in an afternoon, and in half an hour the ten definitions that fix the image. These are
+`PassesEdge` and `Covers` (which samples a triangle covers), `IsValueAt` (depth and colour there), `Passes` and
+`IsMerged` (depth test and new colour), `Draws` (one triangle at one sample), `Ends` (all of them), `IsResolved` (a
+pixel), `IsPicture` (the bytes) and `Denotes` (which list the input is). The others are parts of these.
 
 `python3 -m tools.sources.statement` makes the page from the sources, and CI compares the two.
 """
@@ -46,24 +45,24 @@ HOW_TO_READ = """\
 - `requires` is what the caller promises. `ensures` is what holds when the call returns. `x.old` is the value behind a
   reference as the call begins, `x.new` the value at the return, and `result` what is returned.
 - `f a b` is `f` of `a` and `b`. A definition with arguments that ends in `Type 0` is a statement, and one without them,
-  as `KindChecks`, is a type. A definition by cases has a line for each case.
-- A record of values, as `Covers` of four positions, is a statement too: all its fields hold. A field that is a
-  value, as `pub file : List ℕ`, says that there is one, and later fields speak of it. Any other record, as
-  `Position`, is data.
+  such as `KindChecks`, is a type. A definition by cases has a line for each case.
+- A record with values as arguments, such as `Covers` of four positions, is a statement too: all its fields hold. A
+  field that is a value, such as `pub file : List ℕ`, says that there is one, and later fields use it. Any other
+  record, such as `Position`, is data.
 - `P × Q` is both, `P ⊎ Q` at least one, `P → Q` if P then Q, and `¬ P` not P. `⊥` never holds, and
   `Unit {0}` always does.
 - `(x : T) → P` is P for each x, `(x : T) × P` is P for some x, and `λ x. e` is the function that takes x to e. A
-  parameter in braces, as `{X : Type 0}`, is left out where the definition is used.
+  parameter in braces, such as `{X : Type 0}`, is left out where the definition is used.
 - Numbers have no bound. An unsigned integer of Rust is an `ℕ` in its range, a signed one a `ℤ`, and an array or a `Vec`
-  a list. A struct with an `impl Model` is in clauses what its `view` says, and its `invariant` always holds.
+  a list. In clauses, a struct with an `impl Model` is what its `view` says, and its `invariant` always holds.
 - `∷` binds tighter than `++`, and `×` tighter than `⊎`. `abbrev` and `unfoldable` tell the prover when to unfold a
-  definition, and change nothing in its meaning.
+  definition, and do not change its meaning.
 """
 
 THEOREM_TEXT = """\
-If a run returns `Ok`, the input's bytes denote a draw list, and what was written is the file of that list's picture. If
-it returns an error, `Explains` says what was read and written by then. `EndsAs`, the last definition of this page, is
-both. Its arguments are these:
+If a run returns `Ok`, the input's bytes denote a draw list, and what was written is the file of that list's image. If
+it returns an error, `Explains` says what was read and written by then. `EndsAs`, the last definition of this page,
+states both. Its arguments are these:
 
 | Argument | In the theorem | Meaning |
 |---|---|---|
@@ -76,17 +75,17 @@ both. Its arguments are these:
 | `ReadHasFailed` | `input.old.failures < input.new.failures` | a call of the reader failed in the run |
 | `WriteHasFailed` | `output.old.failures < output.new.failures` | a call of the writer failed in the run |
 
-`left` and `held` are known of readers and writers that make their bytes known, as those over memory do. Of others, as
-standard input and output, they are `None`, and the theorem then leaves their bytes open. That those report their bytes
-as memory does is the first of the [premises](proofs.md#premises). What is trusted stands in
-[proofs.md](proofs.md#trusted) too. That a run ever ends is not proved.
+`left` and `held` are known for readers and writers that make their bytes known, such as those over memory. For others,
+such as standard input and output, they are `None`, and the theorem leaves their bytes open. The first of the
+[premises](proofs.md#premises) is that these report their bytes as memory does. Another section lists what is
+[trusted](proofs.md#trusted). It is not proved that a run ever ends.
 
-The rest of the page begins with what a sample is and ends with `EndsAs`. Each definition uses only what
-stands before it.
+The rest of the page begins with what a sample is and ends with `EndsAs`. Each definition uses only what comes before
+it.
 """
 
 GLOSSARY_TEXT = """\
-What the page uses of the toolchain's crates, in one line each. What counts is their own definitions, which are trusted.
+This is what the page uses from the toolchain's crates, in one line each. Their own definitions count, and are trusted.
 """
 
 GROUPS = (
@@ -94,7 +93,7 @@ GROUPS = (
         "Positions and samples",
         "x runs to the right and y downwards, in 1/256 pixel. A pixel has one sample in its "
         "centre, or several in a standard "
-        "pattern; a draw list has one or four. Each coordinate of a vertex lies in the guard band.",
+        "pattern; a draw list has one or four. Each coordinate of a vertex is in the guard band.",
         "Direct3D 11, positions with 8 fractional bits, pixel centres and the standard patterns; "
         "the guard band is this project's "
         "limit.",
@@ -116,8 +115,7 @@ GROUPS = (
     Group(
         "Coverage",
         "A triangle covers a point if its area is not zero and the point passes the top-left rule "
-        "at all three edges. The rule is "
-        "one for both orientations.",
+        "at all three edges, in either orientation.",
         "Direct3D 11, triangle rasterization rules.",
         ("crates/grid/specs/Triangle.antt", "crates/grid/src/triangle.rt"),
     ),
@@ -138,7 +136,7 @@ GROUPS = (
         "Values at a covered sample",
         "A depth or a channel at a sample is the mean of the three vertices' values, weighted by the "
         "edge functions of the opposite "
-        "edges. The exact mean is rounded down, which two bounds say.",
+        "edges. Two bounds say that the exact mean is rounded down.",
         "the weights are the barycentric coordinates that the edge functions of Pineda 1988 give; "
         "rounding down is this project's rule.",
         ("crates/shade/specs/Quotient.antt", "crates/shade/specs/Value.antt"),
@@ -151,7 +149,7 @@ GROUPS = (
     ),
     Group(
         "New colour",
-        "A channel that is written is blended by an equation of two factors and an operation, rounded "
+        "A channel that is written is blended with an equation of two factors and an operation, rounded "
         "once to the nearest integer and "
         "clamped. A draw list has two. With `none_blend` the channel becomes the source's. With "
         "`over_blend` it becomes the source over "
@@ -188,7 +186,7 @@ GROUPS = (
     ),
     Group(
         "A sample after all triangles",
-        "Triangles take effect one after another in draw order. Nothing here knows of tiles, lanes or threads.",
+        "Triangles take effect one after another in draw order. No tiles, lanes or threads are mentioned here.",
         "Direct3D 11 asks that results be as though primitives were drawn in order.",
         ("crates/shade/specs/Ending.antt",),
     ),
@@ -199,16 +197,16 @@ GROUPS = (
         ("crates/shade/specs/Resolve.antt",),
     ),
     Group(
-        "The picture",
-        "A scene is what a picture is drawn of. The picture has the bytes of its pixels, row by "
+        "The image",
+        "A scene is what an image is drawn from. The image has the bytes of its pixels, row by "
         "row from the top. A pixel is the "
         "resolved colour, or the depth of the pixel's sample 0.",
         "the order of a depth's two bytes is that of Netpbm's pgm(5); that sample 0 is shown is this project's rule.",
         ("crates/draw_list/src/output.rt", "crates/draw_list/specs/Scene.antt", "crates/draw_list/specs/Picture.antt"),
     ),
     Group(
-        "The picture's file",
-        "A picture of colours is a binary PPM file, and a picture of depths is a binary PGM file. Each "
+        "The image's file",
+        "An image of colours is a binary PPM file, and an image of depths is a binary PGM file. Each "
         "has one spelling: the header, "
         "and then the rows.",
         "Netpbm's ppm(5) and pgm(5), one spelling of each.",
@@ -216,9 +214,9 @@ GROUPS = (
     ),
     Group(
         "Parts of a JSON value",
-        "These look into a JSON value: what stands under a key or at an index, and the integer, "
+        "These look into a JSON value: the value under a key or at an index, and the integer, "
         "string, boolean or array that it is. "
-        "Which bytes are JSON, and of which value, is what `serde_json` says.",
+        "`serde_json` says which bytes are JSON, and of which value.",
         "RFC 8259 for JSON; the keys and words are this project's format.",
         ("crates/list_json/specs/Json.antt", "crates/list_json/specs/Keys.antt"),
     ),
@@ -239,13 +237,13 @@ GROUPS = (
         "Which bytes denote a draw list",
         "These say, key by key, which JSON value is which part of a draw list. They have its ranges, "
         "its limits and the defaults of "
-        "absent keys. `Denotes` says which scene the bytes stand for.",
+        "absent keys. `Denotes` says which scene the bytes denote.",
         "this project's format, in words in `docs/draw-list.md`.",
         ("crates/list_json/specs/Denotes.antt",),
     ),
     Group(
         "The first error",
-        "All checks of an input stand in one list, in a fixed order. An input that fails one has the "
+        "All checks of an input are in one list, in a fixed order. An input that fails one has the "
         "error of the first that fails.",
         "this project's format, in words in `docs/draw-list.md`.",
         (
@@ -260,7 +258,7 @@ GROUPS = (
         "Readers and writers",
         "A run reads and writes through `Counted`, which counts the calls that failed. Its `read`, "
         "`write` and `flush` are all that "
-        "raise the count, so their contracts stand here too.",
+        "raise the count, so their contracts are here too.",
         "`Read` and `Write` of Rust's standard library; counting is this project's own.",
         (
             "crates/picture_file/specs/Device.antt", "crates/picture_file/specs/Counted.antt",
@@ -406,7 +404,7 @@ GLOSSARY: dict[str, tuple[tuple[str, str, str], ...]] = {
         ("no_members", "no_members", "no members"),
         ("member", "member k d ms", "the key k with the value d, and then ms"),
         ("read", "read bytes", "the value of a JSON text in UTF-8, and `None` if it is none; nesting over 127 is none"),
-        ("get", "get key d", "what stands under the key, if d is an object that has it"),
+        ("get", "get key d", "the value under the key, if d is an object that has it"),
         ("at", "at i d", "element i, from 0, if d is an array that has it"),
         ("as_bool", "as_bool d", "the boolean that d is, if it is one"),
         ("as_number", "as_number d", "the number that d is, if it is one"),
