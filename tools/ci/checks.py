@@ -31,7 +31,7 @@ PAGE = "docs/generated/checks.md"
 HEAD = """\
 # The checks of `make test`
 
-`make test` runs these side by side, one on each processor. Each is a goal of make, and `LONG=1` takes its longer form.
+`make test` runs one of these per processor at a time. Each is a goal of make, and `LONG=1` takes its longer form.
 `python3 -m tools.ci.checks --write` writes this page from the list in `tools/ci/checks.py`. Seconds are CPU seconds.
 
 """
@@ -41,7 +41,7 @@ HEAD = """\
 class Check:
     # The goal of make.
     name: str
-    # What it looks at, as a part of a sentence.
+    # What it checks, as a part of a sentence.
     about: str
     # What it runs: a command of the system, or a module that Python runs, with its words.
     command: str
@@ -232,7 +232,7 @@ CHECKS = (
     Check(
         name="check-library",
         about="the library, the header, the packages for Python and Rust, and the examples, against the program, also "
-        "by Wine and qemu",
+        "with Wine and qemu",
         command="pytest tests/library", seconds=460,
         long="-m 'long or not long'", long_seconds=1100,
         runs=(*INSTALLATION, "platforms"), needs=COMPILER,
@@ -281,7 +281,7 @@ CHECKS = (
     ),
     Check(
         name="guarded",
-        about="random calls on canvases between guard pages, against a plain renderer; clipping and shading under "
+        about="random calls on canvases between guard pages, against a simple renderer; clipping and shading under "
         "sanitizers; what TRIRAST_CHECKS reports",
         command="pytest tests/guarded", seconds=80,
         long="-m 'long or not long'", long_seconds=1300,
@@ -289,7 +289,7 @@ CHECKS = (
     ),
     Check(
         name="fuzz-package",
-        about="fuzzed calls of the Python package, each image against a plain one",
+        about="fuzzed calls of the Python package, each image against a simple renderer",
         command="tests.python.fuzz_package --calls 400", seconds=4,
         long="--calls 10000", long_seconds=200,
         runs=EVERYTHING, needs=COMPILER,
@@ -323,7 +323,7 @@ def by_name(name: str) -> Check:
 
 def page() -> str:
     """The page of the checks."""
-    rows = ["| `make ..` | What it looks at | Seconds | Long form | Needs |", "|---|---|---|---|---|"]
+    rows = ["| `make ..` | What it checks | Seconds | Long form | Needs |", "|---|---|---|---|---|"]
     for check in CHECKS:
         long = f"{check.long_seconds}, `{check.long}`" if check.long else ""
         needs = ", ".join(f"`{name.rpartition(':')[2]}`" for name in check.needs)

@@ -82,7 +82,7 @@ def listing() -> str:
         rows = [
             f"| `{one.name}` | {one.does} | {', '.join(f'`{use}`' for use in one.uses)} |\n" for one in layer.crates
         ]
-        table = "| Crate | What it does | Stands on |\n|---|---|---|\n" + "".join(rows)
+        table = "| Crate | What it does | Uses |\n|---|---|---|\n" + "".join(rows)
         parts.append(f"## {layer.name}\n\n{layer.about[0].upper()}{layer.about[1:]}\n\n{table}")
     return "\n".join(parts)
 
