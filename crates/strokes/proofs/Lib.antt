@@ -7,3 +7,8 @@ mod Wide
 mod Wider
 mod Lines
 mod Rows
+mod Bits
+mod Marked
+mod MarkedPieces
+mod Traced
+mod StrokeMasks

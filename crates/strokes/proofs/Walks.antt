@@ -6,7 +6,7 @@ use Rattle.strokes.specs.declared.style.Style.{Style}
 use Rattle.strokes.specs.declared.pen.Pen.{Pen}
 use Rattle.strokes.specs.Path.{is_same, moves, walk}
 use Rattle.strokes.specs.Stroke.{StrokeCovers}
-use Rattle.strokes.specs.Walking.{again, StepCovers, OnwardsCover, PenCovers}
+use Rattle.strokes.specs.Walking.{again, StepCovers, LastCovers, OnwardsCover, PenCovers}
 use Rattle.strokes.proofs.Roots.{not_true}
 
 first : (style : Style) (before : Option Position) (a b : Position) (ds : List Position) (p : Position)
@@ -38,24 +38,34 @@ back style (Some x) a b ds p (inr (inr (inr k))) = inr (inr k)
 moved : (a b : Position) (rest : List Position) → is_same a b ≡ false → moves a (b ∷ rest) ≡ b ∷ moves b rest
 moved a b rest e = rw e
 
+-- what is covered by going on to it, and from there on
+pub onwards : (style : Style) (before : Option Position) (a b : Position) (rest : List Position) (p : Position) → is_same a b ≡ false
+    → OnwardsCover style before a (moves a (b ∷ rest)) p ↔ (StepCovers style before a b p ⊎ OnwardsCover style (Some a) b (moves b rest) p)
+onwards style before a b rest p e = (
+  λ ahead. first style before a b (moves b rest) p (rw (moved a b rest e) at ahead),
+  λ k. rw (moved a b rest e) (back style before a b (moves b rest) p k),
+)
+
 pub stepped : (style : Style) (pen : Pen) (b : Position) (covered : Bool) (p : Position) → is_same pen.at b ≡ false
     → IsTrue covered ↔ (IsTrue pen.has_covered ⊎ StepCovers style pen.before pen.at b p)
     → (rest : List Position) → PenCovers style pen (b ∷ rest) p ↔ PenCovers style (record { before = Some pen.at; at = b; has_covered = covered }) rest p
-stepped style pen b covered p e h rest = (
+stepped style pen b covered p e h rest = let on = onwards style pen.before pen.at b rest p e in (
   λ k. elim k [
     | inl done ↦ inl (h.1 (inl done))
-    | inr ahead ↦ elim (first style pen.before pen.at b (moves b rest) p (rw (moved pen.at b rest e) at ahead)) [
-      | inl step ↦ inl (h.1 (inr step))
-      | inr more ↦ inr more
-    ]
+    | inr ahead ↦ elim (on.0 ahead) [ inl step ↦ inl (h.1 (inr step)) | inr more ↦ inr more ]
   ],
   λ k. elim k [
-    | inl done ↦ elim (h.0 done) [
-      | inl before ↦ inl before
-      | inr step ↦ inr (rw (moved pen.at b rest e) (back style pen.before pen.at b (moves b rest) p (inl step)))
-    ]
-    | inr more ↦ inr (rw (moved pen.at b rest e) (back style pen.before pen.at b (moves b rest) p (inr more)))
+    | inl done ↦ elim (h.0 done) [ inl before ↦ inl before | inr step ↦ inr (on.1 (inl step)) ]
+    | inr more ↦ inr (on.1 (inr more))
   ],
+)
+
+-- where the pen ends
+pub ended : (style : Style) (before : Option Position) (a p : Position) → OnwardsCover style before a [] p ↔ LastCovers style before a p
+ended style None a p = (λ k. k, λ k. k)
+ended style (Some x) a p = (
+  λ k. elim k [ inl none ↦ absurd none | inr more ↦ elim more [ inl none ↦ absurd none | inr last ↦ last ] ],
+  λ last. inr (inr last),
 )
 
 -- ---- the rounds of a path
@@ -88,12 +98,16 @@ round : (is_closed : Bool) (a : Position) (rest : List Position)
 round true a rest = ap (λ (xs : List Position). a ∷ moves a (rest ++ xs)) (sym (append-nil (a ∷ rest)))
 round false a rest = ap (λ (xs : List Position). a ∷ moves a xs) (sym (append-nil rest))
 
--- what a pen covers from the first point on, once or twice round, is the stroke
+-- what is covered from the first point on, once or twice round, is the stroke
+pub from_start : (style : Style) (path : List Position) (a : Position) (rest : List Position) (p : Position) → path ≡ a ∷ rest
+    → OnwardsCover style None a (moves a (rest ++ (again style path ++ []))) p ↔ StrokeCovers style path p
+from_start style path a rest p e =
+    let r : walk style.is_closed (a ∷ rest) ≡ a ∷ moves a (rest ++ (again style (a ∷ rest) ++ [])) = round style.is_closed a rest in
+    rw e (λ w. rw r w, λ s. rw r at s)
+
 pub started : (style : Style) (path : List Position) (a : Position) (rest : List Position) (p : Position) → path ≡ a ∷ rest
     → PenCovers style (record { before = None; at = a; has_covered = false }) (rest ++ (again style path ++ [])) p ↔ StrokeCovers style path p
-started style path a rest p e =
-    let r : walk style.is_closed (a ∷ rest) ≡ a ∷ moves a (rest ++ (again style (a ∷ rest) ++ [])) = round style.is_closed a rest in
-    rw e (
-      λ k. elim k [ inl f ↦ absurd (not_true false refl f) | inr w ↦ rw r w ],
-      λ s. inr (rw r at s),
-    )
+started style path a rest p e = let from = from_start style path a rest p e in (
+  λ k. elim k [ inl f ↦ absurd (not_true false refl f) | inr w ↦ from.0 w ],
+  λ s. inr (from.1 s),
+)

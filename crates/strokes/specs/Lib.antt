@@ -72,6 +72,17 @@
 --   IsInPair: p is on both sides.
 --   IsRound: p is in the disc, if there is one.
 --   IsInPiece: p is in this part of a stroke: on all of its sides, and in its disc.
+--
+-- Marking.antt
+--   IsMarkedAt: Sample s of the pixel in a row and a column of a strip is marked: its bit in its block's mask is set.
+--   HoldsBlocks: There are columns of words for all parts of a pixel's samples.
+--   Marks: The samples of this part of the blocks were marked, by sample, row and column, and no other.
+--   MarksShape: The samples of the blocks that a shape covers were marked, and no other.
+--   IsStrokeMask: Bit 8 row + column of the mask says whether the stroke covers the sample there, in the block whose first sample is p.
+--
+-- Tracing.antt
+--   TipCovers: What is covered from here on by a pen that goes through these points.
+--   MarksOnwards: A pen marked what it covers on its way through these points.
 
 pub mod Border
 pub mod Segment
@@ -84,3 +95,5 @@ pub mod Walking
 pub mod Laws
 pub mod Lines
 pub mod Pieces
+pub mod Marking
+pub mod Tracing

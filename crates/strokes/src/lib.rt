@@ -6,24 +6,31 @@
 //! by thresholds, which are whole numbers that take one square root for each border and none at a point.
 #![tactic(auto)]
 
+mod blocks;
 mod border;
 mod cap;
 mod disc;
 mod join;
 mod laws;
 mod line;
+mod path_masks;
 mod pen;
 mod piece;
+mod row_marks;
 mod segment;
 mod span;
 mod stroke;
 mod style;
+#[cfg(test)]
+mod tests;
+mod tip;
 
 pub use border::{line_bound, offset_bound, owns};
 pub use cap::{Cap, cap_covers, dot_covers};
 pub use disc::disc_covers;
 pub use join::{Join, join_covers};
 pub use laws::{reverse_covers, widened_covers};
+pub use path_masks::mark_path;
 pub use piece::Piece;
 pub use segment::segment_covers;
 pub use span::Span;

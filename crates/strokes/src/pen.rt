@@ -121,7 +121,7 @@ impl Pen {
 }
 
 /// Whether two points are the same.
-fn is_same(a: Point, b: Point) -> bool
+pub(crate) fn is_same(a: Point, b: Point) -> bool
     ensures { result ≡ path.is_same a b }
 {
     a.x() == b.x() && a.y() == b.y()

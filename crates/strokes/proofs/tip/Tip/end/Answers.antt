@@ -1,0 +1,8 @@
+use Rattle.strokes.proofs.MarkedPieces.{shape_as}
+use Rattle.strokes.proofs.tip.Tip.end.Goals as goal
+
+pub returns-in-None : goal.returns-in-None
+returns-in-None c = rw c.in-None.is (shape_as c.args.blocks.now _ _ _ _ c.mark.ensures c.dot.ensures)
+
+pub returns-in-Some : goal.returns-in-Some
+returns-in-Some c = rw c.in-Some.is c.mark_cap.ensures
