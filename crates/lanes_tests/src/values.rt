@@ -10,7 +10,7 @@ use shade::{Blend, DepthTest, Merge, Placed, floor_at};
 use std::process::Abort;
 
 /// The last coordinates at which a group of two rows of eight pixels is on the screen.
-const LAST: (i32, i32) = (1_046_752, 1_048_288);
+pub(crate) const LAST: (i32, i32) = (1_046_752, 1_048_288);
 
 fn is_column(x: i32) -> bool
     ensures { IsTrue result → (pos 0 ≤ℤ x) × (x <ℤ pos 1046784) }
@@ -31,7 +31,7 @@ fn is_sixteenth(z: i32) -> bool
 }
 
 /// Whether a group whose first sample is at (x, y) is on the screen.
-fn is_on_screen(x: i32, y: i32) -> bool
+pub(crate) fn is_on_screen(x: i32, y: i32) -> bool
     ensures { IsTrue result → IsGroupOnScreen (record { x = x; y = y }) }
 {
     is_column(x) && is_row(y) && is_sixteenth(x) && is_sixteenth(y)
