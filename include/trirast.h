@@ -746,26 +746,24 @@ typedef struct trirast_polygons {
                                      * may run either way round */
 } trirast_polygons;
 
-/* generated: scratch */
-/* Scratch memory of the flags of a part of at most four samples of a pixel in a column of 8 pixels of a canvas, in
- * bytes: one flag of each sample. */
-#define TRIRAST_FLAGS_BYTES 256
+/* What lies where in scratch memory: columns of flags, and after them columns of counters. */
+typedef struct trirast_scratch_layout {
+    size_t flag_columns;
+    size_t counter_columns;
+    size_t counters_at; /* the byte at which the counters begin */
+    size_t size;        /* the bytes of both */
+} trirast_scratch_layout;
 
-/* Scratch memory of the counters of such a part, in bytes, which the nonzero rule has. */
-#define TRIRAST_COUNTERS_BYTES 8192
-/* end of scratch */
+void trirast_proved_polygons_scratch(const trirast_canvas *canvas, uint32_t fill_rule, trirast_scratch_layout *layout);
 
 /* Returns the bytes of scratch memory of a call that draws polygons by this rule on this canvas: for each 8 pixels of
  * its width, rounded up to whole tiles, 256 bytes for each part of at most four samples of a pixel, and by the nonzero
  * rule 2 * 256 + 8,192 more for each part. So for 1,024 pixels that is 32 KB or 1.1 MB, and with 16 samples 128 KB or
  * 4.6 MB. Returns 0 if there is no such canvas. */
 inline size_t trirast_polygons_scratch(const trirast_canvas *canvas, trirast_fill_rule fill_rule) {
-    const size_t columns =
-        ((size_t)canvas->width + TRIRAST_TILE_SIZE - 1) / TRIRAST_TILE_SIZE * (TRIRAST_TILE_SIZE / 8);
-    const size_t of_parts = columns * (canvas->samples > 4 ? canvas->samples / 4 : 1);
-    if (trirast_canvas_size(canvas) == 0) return 0;
-    return of_parts * (fill_rule == TRIRAST_FILL_EVEN_ODD ? TRIRAST_FLAGS_BYTES
-                                                          : 3 * TRIRAST_FLAGS_BYTES + TRIRAST_COUNTERS_BYTES);
+    trirast_scratch_layout layout;
+    trirast_proved_polygons_scratch(canvas, (uint32_t)fill_rule, &layout);
+    return layout.size;
 }
 
 trirast_status trirast_proved_polygons_measure(const trirast_polygons *polygons, trirast_box *boxes, size_t box_count,
@@ -835,16 +833,15 @@ trirast_status trirast_proved_canvas_draw_polygons(trirast_canvas *canvas, const
  * with the first error of the polygons, as listed above. */
 inline trirast_status trirast_canvas_draw_polygons(trirast_canvas *canvas, const trirast_polygons *polygons,
                                                    void *scratch, size_t scratch_size, trirast_error *error) {
-    const size_t each = polygons->fill_rule == TRIRAST_FILL_EVEN_ODD ? 1 : 3;
-    const size_t flags = each * trirast_polygons_scratch(canvas, TRIRAST_FILL_EVEN_ODD);
-    const size_t size = trirast_polygons_scratch(canvas, (trirast_fill_rule)polygons->fill_rule);
-    const int fits = (uintptr_t)scratch % 8 == 0 && scratch_size >= size;
+    const trirast_scratch_layout none = {0, 0, 0, 0};
+    trirast_scratch_layout layout;
+    trirast_proved_polygons_scratch(canvas, polygons->fill_rule, &layout);
+    if ((uintptr_t)scratch % 8 != 0 || scratch_size < layout.size) layout = none;
     /* Scratch memory of no bytes may be NULL, to which nothing is added. */
-    void *behind = fits && flags ? (unsigned char *)scratch + flags : scratch;
+    void *counters = layout.size ? (unsigned char *)scratch + layout.counters_at : scratch;
     trirast_error unread;
     return trirast_proved_canvas_draw_polygons(
-        canvas, polygons, scratch, fits ? flags / TRIRAST_FLAGS_BYTES : 0, behind,
-        fits ? (size - flags) / TRIRAST_COUNTERS_BYTES : 0, error ? error : &unread);
+        canvas, polygons, scratch, layout.flag_columns, counters, layout.counter_columns, error ? error : &unread);
 }
 
 trirast_status trirast_proved_canvas_draw_polygon_ids(trirast_canvas *canvas, const trirast_polygons *polygons,
@@ -862,16 +859,16 @@ trirast_status trirast_proved_canvas_draw_polygon_ids(trirast_canvas *canvas, co
 inline trirast_status trirast_canvas_draw_polygon_ids(trirast_canvas *canvas, const trirast_polygons *polygons,
                                                       uint32_t first_id, void *scratch, size_t scratch_size,
                                                       trirast_error *error) {
-    const size_t each = polygons->fill_rule == TRIRAST_FILL_EVEN_ODD ? 1 : 3;
-    const size_t flags = each * trirast_polygons_scratch(canvas, TRIRAST_FILL_EVEN_ODD);
-    const size_t size = trirast_polygons_scratch(canvas, (trirast_fill_rule)polygons->fill_rule);
-    const int fits = (uintptr_t)scratch % 8 == 0 && scratch_size >= size;
+    const trirast_scratch_layout none = {0, 0, 0, 0};
+    trirast_scratch_layout layout;
+    trirast_proved_polygons_scratch(canvas, polygons->fill_rule, &layout);
+    if ((uintptr_t)scratch % 8 != 0 || scratch_size < layout.size) layout = none;
     /* Scratch memory of no bytes may be NULL, to which nothing is added. */
-    void *behind = fits && flags ? (unsigned char *)scratch + flags : scratch;
+    void *counters = layout.size ? (unsigned char *)scratch + layout.counters_at : scratch;
     trirast_error unread;
     return trirast_proved_canvas_draw_polygon_ids(
-        canvas, polygons, first_id, scratch, fits ? flags / TRIRAST_FLAGS_BYTES : 0, behind,
-        fits ? (size - flags) / TRIRAST_COUNTERS_BYTES : 0, error ? error : &unread);
+        canvas, polygons, first_id, scratch, layout.flag_columns, counters, layout.counter_columns,
+        error ? error : &unread);
 }
 
 /* Writes the colour of each pixel: each channel is the mean of its samples, rounded to the nearest, halves up. Bytes

@@ -56,18 +56,22 @@
 --   AreEdgesOf: The edge functions at a point, each of the edge across from its corner, the doubled area, and whether the point is covered.
 --   AreEdges: The edge functions at a point, of the corners as the caller gives them.
 --
+-- Scratch.antt
+--   rule_of: The rules by their numbers.
+--   columns_of_blocks: How many columns of blocks a canvas of this width has.
+--   flag_columns_listed: How many columns of flags polygons on the canvas need by the rule of this number.
+--   counter_columns_listed: How many columns of counters they need by the nonzero rule.
+--   layout_of: Columns of flags of 256 bytes each, and after them columns of counters of 8,192 bytes each.
+--   layout_listed: What polygons on the canvas need by the rule of this number.
+--
 -- PolygonChecks.antt
 --   origin_of: The origin of the caller's canvas.
---   rule_of: The rules by their numbers.
 --   known_checks: The checks of the rule and of the state, each with the number of its cause.
 --   HasKnownRuleAndState: The rule and the state are known ones.
 --   HasDepths: There is a depth for each polygon, or none at all.
 --   HasPolygons: The arrays are those of polygons.
 --   HasRightBoxes: If there are boxes, they are those of the polygons.
 --   AreGood: The polygons can be drawn, in their colours or by ids.
---   columns_of_blocks: How many columns of blocks a canvas of this width has.
---   flag_columns_listed: How many columns of flags polygons on the canvas need.
---   counter_columns_listed: How many columns of counters they need by the nonzero rule.
 --   HasScratch: The scratch memory has as many columns of flags, and by the nonzero rule of counters.
 --   polygons_checks: The checks of a call that draws polygons.
 --   array_fault: What is wrong with arrays of polygons, by its number and with the index of the ring, the polygon or the corner.
@@ -84,4 +88,5 @@ pub mod Samples
 pub mod Arrays
 pub mod Batches
 pub mod Weights
+pub mod Scratch
 pub mod PolygonChecks

@@ -1,20 +1,16 @@
 -- The checks of a call that draws polygons.
-use Rattle.std.specs.Prelude.{◌≡◌, ◌⊎◌, ℕ, Bool, ◌==◌, ◌+◌, ◌*◌, ◌/◌, ◌≤◌, if◌then◌else◌, List, [], map, length, Option, None, Some}
+use Rattle.std.specs.Prelude.{◌≡◌, ◌⊎◌, ℕ, Bool, ◌≤◌, List, [], map, length, Option, None, Some}
 use Rattle.std.specs.List.{range_with_len}
-use Rattle.grid.specs.Samples.{parts_of, pattern_of}
 use Rattle.batch.specs.Listed.{state_listed}
 use Rattle.batch.specs.Causes.{number_of}
 use Rattle.batch.specs.declared.fault.BatchCause.TheVariants as causes
 use Rattle.batch.specs.States.{state_checks}
 use Rattle.checks.specs.Checking.{Checks, done, check, followed_by, reported_as, Pass, FirstIs}
 use Rattle.polygons.specs.Arrays.{ArePolygons, BoxesFit, IsWrong}
-use Rattle.polygons.specs.Cells.{flags_by}
 use Rattle.polygons.specs.declared.arrays.ArraysError.{ArraysError}
 -- generated: names
 use Rattle.polygons.specs.declared.arrays.ArraysError.TheVariants.{OutOfBand, CornersLeft, RingsLeft, TooManyCorners, Ring, Polygon, TooFewBoxes}
 -- end of names
-use Rattle.polygons.specs.declared.rule.Rule.{Rule}
-use Rattle.polygons.specs.declared.rule.Rule.TheVariants.{EvenOdd, NonZero}
 use Rattle.canvas.specs.declared.window.Origin.{Origin}
 use Rattle.fills.specs.Batches.{shape_by, HasColours}
 use Rattle.fills.specs.Painting.{Shape, IsOriginInBand}
@@ -25,14 +21,11 @@ use Rattle.c_abi.specs.declared.status.Status.TheVariants.{BadBatch, BadPosition
 use Rattle.canvas_c.specs.declared.piece.CanvasHead.{CanvasHead}
 use Rattle.canvas_c.specs.declared.polygon_arrays.PolygonArrays.{PolygonArrays}
 use Rattle.canvas_c.specs.Pieces.{piece_checks}
+use Rattle.canvas_c.specs.Scratch.{rule_of, flag_columns_listed, counter_columns_listed}
 
 -- The origin of the caller's canvas.
 abbrev pub origin_of : CanvasHead → Origin
 origin_of head = record { x = head.origin_x; y = head.origin_y }
-
--- The rules by their numbers.
-abbrev pub rule_of : ℕ → Rule
-rule_of n = if n == 0 then EvenOdd else NonZero
 
 -- The checks of the rule and of the state, each with the number of its cause.
 abbrev pub known_checks : PolygonArrays → Checks ℕ
@@ -61,22 +54,9 @@ pub record AreGood (ids : Option ℕ) (a : PolygonArrays) : Type 0 where
   pub colours : HasColours ids a.colours.now (length a.polygon_ends.now)
   pub depths : HasDepths a
 
--- How many columns of blocks a canvas of this width has.
-abbrev pub columns_of_blocks : ℕ → ℕ
-columns_of_blocks width = 8 * ((width + 63) / 64)
-
--- How many columns of flags polygons on the canvas need. For each part of at most four samples of a pixel there is one for each column of
--- blocks and each flag that a sample has by the rule. 0 samples are one.
-abbrev pub flag_columns_listed : CanvasHead → PolygonArrays → ℕ
-flag_columns_listed head a = parts_of (pattern_of head.samples) * (flags_by (rule_of a.fill_rule) * columns_of_blocks head.width)
-
--- How many columns of counters they need by the nonzero rule. For each part there is one for each column of blocks.
-abbrev pub counter_columns_listed : CanvasHead → ℕ
-counter_columns_listed head = parts_of (pattern_of head.samples) * columns_of_blocks head.width
-
 -- The scratch memory has as many columns of flags, and by the nonzero rule of counters.
 pub record HasScratch (head : CanvasHead) (a : PolygonArrays) (flags counters : ℕ) : Type 0 where
-  pub enough_flags : flag_columns_listed head a ≤ flags
+  pub enough_flags : flag_columns_listed head a.fill_rule ≤ flags
   pub enough_counters : (a.fill_rule ≡ 0) ⊎ (counter_columns_listed head ≤ counters)
 
 -- The checks of a call that draws polygons.

@@ -94,7 +94,7 @@ fn canvas(head: &CanvasHead) -> Option<Canvas>
 }
 
 /// The canvas that the caller names, if its struct has the size that this library knows.
-fn whole(head: &CanvasHead) -> Option<Canvas>
+pub(crate) fn whole(head: &CanvasHead) -> Option<Canvas>
     ensures some { IsSome result ↔ IsWhole head.now }
     ensures value { IfSome result (λ c. (c.width ≡ head.now.width) × (c.height ≡ head.now.height) ×
         (c.count ≡ pattern_of head.now.samples)) }

@@ -5,6 +5,7 @@ ghost use Rattle.fills.specs.Batches.{HasColours};
 ghost use Rattle.fills.specs.Painting.{IsOriginInBand};
 ghost use Rattle.c_abi.specs.Sizes.{IsOwnSize};
 ghost use Rattle.canvas_c.specs.PolygonChecks as said;
+ghost use Rattle.canvas_c.specs.Scratch as scratch;
 
 use batch::{BatchCause, BatchDraw};
 use c_abi::{Fault, is_own_size};
@@ -44,7 +45,7 @@ const ID_COUNT: usize = 16_777_216;
 
 /// The rule of this number.
 pub(crate) fn rule_of(number: u32) -> Rule
-    ensures { result ≡ said.rule_of number }
+    ensures { result ≡ scratch.rule_of number }
 {
     match number {
         0 => Rule::EvenOdd,

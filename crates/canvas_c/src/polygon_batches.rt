@@ -4,7 +4,8 @@ ghost use Rattle.fills.specs.Painting.{ArePainted};
 ghost use Rattle.polygons.specs.Cells.{AreZeros};
 ghost use Rattle.c_abi.specs.Calls.{IsCall, IsReport};
 ghost use Rattle.canvas_c.specs.Pieces.{has_alpha, OnRows};
-ghost use Rattle.canvas_c.specs.PolygonChecks.{origin_of, flag_columns_listed, polygons_checks, shapes_listed, HasRightBoxes, IsFirstOfPolygons};
+ghost use Rattle.canvas_c.specs.Scratch.{flag_columns_listed};
+ghost use Rattle.canvas_c.specs.PolygonChecks.{origin_of, polygons_checks, shapes_listed, HasRightBoxes, IsFirstOfPolygons};
 
 use crate::piece::{CanvasHead, CanvasPiece, rows_of};
 use crate::polygon_arrays::{PolygonArrays, is_in_band, rule_of};
@@ -30,7 +31,7 @@ fn draw_into(
         (origin_of head.now) c first end planes.old planes.new)) }
     ensures kept { OnErr result (planes.new ≡ planes.old) }
     ensures scratch { OnErr result ((flags.new ≡ flags.old) × (counters.new ≡ counters.old)) }
-    ensures zeros { OnOk result (AreZeros (take (flag_columns_listed head.now arrays.now) flags.new)) }
+    ensures zeros { OnOk result (AreZeros (take (flag_columns_listed head.now arrays.now.fill_rule) flags.new)) }
 {
     let rows = rows_of(head, planes)?;
     if !arrays.has_size() {
@@ -87,7 +88,7 @@ pub extern "C" fn trirast_proved_canvas_draw_polygons(
         ArePainted (shapes_listed (has_alpha canvas.old.head) Nothing polygons.now) (origin_of canvas.old.head) c first end canvas.old.planes.now canvas.new.planes.now) }
     ensures kept { result ≢ 0 → canvas.new.planes.now ≡ canvas.old.planes.now }
     ensures scratch { result ≢ 0 → (flags.new ≡ flags.old) × (counters.new ≡ counters.old) }
-    ensures zeros { result ≡ 0 → AreZeros (take (flag_columns_listed canvas.old.head polygons.now) flags.new) }
+    ensures zeros { result ≡ 0 → AreZeros (take (flag_columns_listed canvas.old.head polygons.now.fill_rule) flags.new) }
     ensures head { canvas.new.head ≡ canvas.old.head }
     ensures same { canvas.new.planes.ghost_name ≡ canvas.old.planes.ghost_name }
 {
@@ -115,7 +116,7 @@ pub extern "C" fn trirast_proved_canvas_draw_polygon_ids(
         ArePainted (shapes_listed (has_alpha canvas.old.head) (Just first_id) polygons.now) (origin_of canvas.old.head) c first end canvas.old.planes.now canvas.new.planes.now) }
     ensures kept { result ≢ 0 → canvas.new.planes.now ≡ canvas.old.planes.now }
     ensures scratch { result ≢ 0 → (flags.new ≡ flags.old) × (counters.new ≡ counters.old) }
-    ensures zeros { result ≡ 0 → AreZeros (take (flag_columns_listed canvas.old.head polygons.now) flags.new) }
+    ensures zeros { result ≡ 0 → AreZeros (take (flag_columns_listed canvas.old.head polygons.now.fill_rule) flags.new) }
     ensures head { canvas.new.head ≡ canvas.old.head }
     ensures same { canvas.new.planes.ghost_name ≡ canvas.old.planes.ghost_name }
 {

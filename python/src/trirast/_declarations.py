@@ -97,6 +97,12 @@ class CPolygons(ctypes.Structure):
     ]
 
 
+class CScratchLayout(ctypes.Structure):
+    """trirast_scratch_layout of the header."""
+
+    _fields_ = fields(COUNT, "flag_columns counter_columns counters_at size")
+
+
 class CCorners(ctypes.Structure):
     """trirast_corners of the header."""
 

@@ -27,11 +27,6 @@ pub const TRIRAST_TILE_SIZE: u32 = 64;
 /// Bytes of one sample index over a block of 8 by 8 pixels, 64 samples of 6 bytes: the unit of a canvas's memory. A
 /// canvas without alpha has room for it too, which is 255 once it was cleared or loaded.
 pub const TRIRAST_PLANE_BYTES: usize = 384;
-/// Scratch memory of the flags of a part of at most four samples of a pixel in a column of 8 pixels of a canvas, in
-/// bytes: one flag of each sample.
-pub const TRIRAST_FLAGS_BYTES: usize = 256;
-/// Scratch memory of the counters of such a part, in bytes, which the nonzero rule has.
-pub const TRIRAST_COUNTERS_BYTES: usize = 8192;
 
 // What a call returns.
 pub const TRIRAST_STATUS_OK: u32 = 0;
@@ -345,6 +340,16 @@ impl Default for trirast_polygons {
         // SAFETY: numbers and raw pointers may be zeros.
         unsafe { std::mem::zeroed() }
     }
+}
+
+/// What lies where in scratch memory: columns of flags, and after them columns of counters.
+#[repr(C)]
+#[derive(Clone, Copy, Debug, Default, PartialEq, Eq, Hash)]
+pub struct trirast_scratch_layout {
+    pub flag_columns: usize,
+    pub counter_columns: usize,
+    pub counters_at: usize,
+    pub size: usize,
 }
 
 /// The corners of a triangle, in 1/256 pixel: -8388608 to 8388607 each.

@@ -18,7 +18,8 @@ use Rattle.c_abi.specs.declared.status.Status.{Status}
 use Rattle.c_abi.specs.declared.status.Status.TheVariants.{BadBatch, BadPosition, BadStructSize, BufferTooSmall}
 use Rattle.c_abi.specs.Sizes.{IsOwnSize}
 use Rattle.canvas_c.specs.Pieces.{has_alpha, piece_checks}
-use Rattle.canvas_c.specs.PolygonChecks.{origin_of, rule_of, columns_of_blocks, flag_columns_listed, counter_columns_listed, shapes_listed, AreGood, HasScratch}
+use Rattle.canvas_c.specs.Scratch.{rule_of, columns_of_blocks, flag_columns_listed, counter_columns_listed}
+use Rattle.canvas_c.specs.PolygonChecks.{origin_of, shapes_listed, AreGood, HasScratch}
 use Rattle.canvas_c.specs.declared.polygon_arrays.PolygonArrays.{PolygonArrays}
 use Rattle.canvas_c.specs.declared.piece.CanvasHead.{CanvasHead}
 use Rattle.canvas_c.proofs.Ended.{piece_fault}
@@ -34,7 +35,7 @@ later_checks head ids a flags counters =
 
 -- as many columns of flags, and of counters if they are needed
 abbrev IsEnough : CanvasHead → PolygonArrays → ℕ → ℕ → Type 0
-IsEnough head a flags counters = (flag_columns_listed head a ≤ flags) × ((a.fill_rule ≡ 0) ⊎ (counter_columns_listed head ≤ counters))
+IsEnough head a flags counters = (flag_columns_listed head a.fill_rule ≤ flags) × ((a.fill_rule ≡ 0) ⊎ (counter_columns_listed head ≤ counters))
 
 scratch_of : (head : CanvasHead) (a : PolygonArrays) (flags counters : ℕ) → IsEnough head a flags counters → HasScratch head a flags counters
 scratch_of head a flags counters h = record { enough_flags = h.0; enough_counters = h.1 }
@@ -46,7 +47,7 @@ even_odd : EvenOdd ≡ NonZero → ⊥
 even_odd e = cc
 
 -- the columns of the canvas that the caller names
-same_flags : (canvas : Canvas) (head : CanvasHead) (a : PolygonArrays) (rule : Rule) → {n : ℕ} → canvas.width ≡ head.width → canvas.count ≡ pattern_of head.samples → rule ≡ rule_of a.fill_rule → n ≡ flag_columns_of rule canvas → n ≡ flag_columns_listed head a
+same_flags : (canvas : Canvas) (head : CanvasHead) (a : PolygonArrays) (rule : Rule) → {n : ℕ} → canvas.width ≡ head.width → canvas.count ≡ pattern_of head.samples → rule ≡ rule_of a.fill_rule → n ≡ flag_columns_of rule canvas → n ≡ flag_columns_listed head a.fill_rule
 same_flags canvas head a rule w m r e = e ∙ (λ i. parts_of (m i) * (flags_by (r i) * columns_of_blocks (w i)))
 
 same_counters : (canvas : Canvas) (head : CanvasHead) → {n : ℕ} → canvas.width ≡ head.width → canvas.count ≡ pattern_of head.samples → n ≡ counter_columns_of canvas → n ≡ counter_columns_listed head
@@ -100,7 +101,7 @@ returns-then-not-has_scratch-clause-judged c =
     let band : IsOriginInBand (origin_of head) = sees.0 (search rules) in
     let are = c.in_ok-rows.ensures.judged.1 in
     let counted : c.counter_columns-counted.result ≡ counter_columns_listed head = same_counters c.in_ok-rows.rows.canvas head are.width are.count c.counter_columns-counted.ensures.value in
-    let flagged : c.flag_columns-flagged.result ≡ flag_columns_listed head a = same_flags c.in_ok-rows.rows.canvas head a _ are.width are.count c.rule_of-rule.ensures c.flag_columns-flagged.ensures.value in
+    let flagged : c.flag_columns-flagged.result ≡ flag_columns_listed head a.fill_rule = same_flags c.in_ok-rows.rows.canvas head a _ are.width are.count c.rule_of-rule.ensures c.flag_columns-flagged.ensures.value in
     let enough : IsTrue c.has_scratch.result ↔ IsEnough head a flags counters = rw (flagged, counted) at c.has_scratch.ensures in
     let lacks : ¬ IsEnough head a flags counters = search rules in
     rw c.from-then-not-has_scratch.ensures (record {
@@ -121,7 +122,7 @@ returns-in-Err-clause-judged c =
     let band : IsOriginInBand (origin_of head) = sees.0 (search rules) in
     let are = c.in_ok-rows.ensures.judged.1 in
     let counted : c.counter_columns-counted.result ≡ counter_columns_listed head = same_counters c.in_ok-rows.rows.canvas head are.width are.count c.counter_columns-counted.ensures.value in
-    let flagged : c.flag_columns-flagged.result ≡ flag_columns_listed head a = same_flags c.in_ok-rows.rows.canvas head a _ are.width are.count c.rule_of-rule.ensures c.flag_columns-flagged.ensures.value in
+    let flagged : c.flag_columns-flagged.result ≡ flag_columns_listed head a.fill_rule = same_flags c.in_ok-rows.rows.canvas head a _ are.width are.count c.rule_of-rule.ensures c.flag_columns-flagged.ensures.value in
     let enough : IsTrue c.has_scratch.result ↔ IsEnough head a flags counters = rw (flagged, counted) at c.has_scratch.ensures in
     let scratch = scratch_of head a flags counters (enough.0 (search rules)) in
     let wrong = c.in-Err.ensures.wrong in
@@ -154,7 +155,7 @@ returns-clause-judged c =
     let band : IsOriginInBand (origin_of head) = sees.0 (search rules) in
     let are = c.in_ok-rows.ensures.judged.1 in
     let counted : c.counter_columns-counted.result ≡ counter_columns_listed head = same_counters c.in_ok-rows.rows.canvas head are.width are.count c.counter_columns-counted.ensures.value in
-    let flagged : c.flag_columns-flagged.result ≡ flag_columns_listed head a = same_flags c.in_ok-rows.rows.canvas head a _ are.width are.count c.rule_of-rule.ensures c.flag_columns-flagged.ensures.value in
+    let flagged : c.flag_columns-flagged.result ≡ flag_columns_listed head a.fill_rule = same_flags c.in_ok-rows.rows.canvas head a _ are.width are.count c.rule_of-rule.ensures c.flag_columns-flagged.ensures.value in
     let enough : IsTrue c.has_scratch.result ↔ IsEnough head a flags counters = rw (flagged, counted) at c.has_scratch.ensures in
     let scratch = scratch_of head a flags counters (enough.0 (search rules)) in
     (pass_both (piece_checks head (length c.args.planes.now)) (later_checks head c.args.ids a flags counters) c.in_ok-rows.ensures.judged.0 (size, (band, (scratch, (c.in-Ok.ensures.good.0, record {})))), record {})
@@ -184,12 +185,12 @@ returns-clause-zeros c column i =
     let head = c.args.head.now in
     let a = c.args.arrays.now in
     let are = c.in_ok-rows.ensures.judged.1 in
-    let flagged : c.flag_columns-flagged.result ≡ flag_columns_listed head a = same_flags c.in_ok-rows.rows.canvas head a _ are.width are.count c.rule_of-rule.ensures c.flag_columns-flagged.ensures.value in
+    let flagged : c.flag_columns-flagged.result ≡ flag_columns_listed head a.fill_rule = same_flags c.in_ok-rows.rows.canvas head a _ are.width are.count c.rule_of-rule.ensures c.flag_columns-flagged.ensures.value in
     let enough : (c.flag_columns-flagged.result ≤ length c.args.flags.now) × ((a.fill_rule ≡ 0) ⊎ (c.counter_columns-counted.result ≤ length c.args.counters.now)) = c.has_scratch.ensures.0 (search rules) in
     let taken = length-take c.flag_columns-flagged.result c.args.flags.now in
     let some = enough.0 in
     let long : length c.draw_polygons.new.flags ≡ c.flag_columns-flagged.result = omega (arith, c.draw_polygons.auto.flags, c.clear.ensures.len, taken, some) in
     let rest = drop c.flag_columns-flagged.result c.args.flags.now in
-    let seam : take (flag_columns_listed head a) (c.draw_polygons.new.flags ++ rest) ≡ c.draw_polygons.new.flags =
+    let seam : take (flag_columns_listed head a.fill_rule) (c.draw_polygons.new.flags ++ rest) ≡ c.draw_polygons.new.flags =
     ap (λ n. take n (c.draw_polygons.new.flags ++ rest)) (sym (long ∙ flagged)) ∙ take-append_seam c.draw_polygons.new.flags rest in
     subst (λ (flags : List (List ℕ)). slice_index (row_of flags column) i ≡ 0) (sym seam) (c.draw_polygons.ensures.flags column i)
