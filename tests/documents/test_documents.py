@@ -166,7 +166,7 @@ class Names(unittest.TestCase):
     def test_number_of_mutants(self) -> None:
         page = " ".join(text_of("docs/proofs.md").split())
         self.assertIn(f"each of {len(mutants.MUTANTS)} mutants of the reference renderer", page)
-        self.assertIn(f"its canvases each of {len(canvas_mutants.EVERY)},", page)
+        self.assertIn(f"that of canvases each of {len(canvas_mutants.EVERY)},", page)
 
     def test_sample_patterns(self) -> None:
         table = text_of("docs/rules.md").split("## Sample positions")[1].split("\n\n")[2]
