@@ -914,8 +914,8 @@ trirast_status trirast_canvas_ids(const trirast_canvas *canvas, uint32_t sample,
  * drawn over it, and trirast_canvas_resolve gives the picture. By trirast_canvas_ids and trirast_canvas_store it does
  * so for one sample index of all pixels at a time.
  *
- * trirast_canvas_colors and trirast_canvas_tile_ids only read samples, and the other two change them: what the comment
- * of trirast_canvas says of threads holds for them too. */
+ * trirast_canvas_colors and trirast_canvas_tile_ids only read samples, and the other three change them: what the
+ * comment of trirast_canvas says of threads holds for them too. */
 
 /* Writes the colour of one sample of each pixel. Nothing is resolved. Bytes between the rows of pixels are unchanged.
  *
@@ -985,6 +985,36 @@ trirast_status trirast_canvas_tile_ids(const trirast_canvas *canvas, uint32_t co
  * changed. */
 trirast_status trirast_canvas_tile_store(trirast_canvas *canvas, uint32_t column, uint32_t row, const uint32_t *colors,
                                          size_t count);
+
+/* The masks of a tile of a canvas with so many samples a pixel (1, not 0), one for each 64 entries. Bit k of mask n is
+ * of entry 64 * n + k. */
+#ifdef __cplusplus
+#define TRIRAST_TILE_MASKS(samples) (64 * static_cast<size_t>(samples))
+#else
+#define TRIRAST_TILE_MASKS(samples) (64 * (size_t)(samples))
+#endif
+
+/* Blends a fragment of the caller's with each kept sample of one tile, exactly as drawing does with a sample that a
+ * triangle covers: by the depth test, the depth write, the channels and the blend equations of a draw. So a shaded
+ * layer is blended over the tile, and what the shader discards is not kept. All other samples are unchanged.
+ *
+ * @canvas, @column, @row: as for trirast_canvas_tile_ids.
+ * @state: how; not NULL. depth_test, depth_write, keep and blend have a part. The other numbers have none, but those of
+ *     the state have to be in their range: 0 is right for each.
+ * @colors: red + 256 * green + 65536 * blue + 16777216 * alpha each, 0 to 255, in the order of TRIRAST_TILE_ENTRIES.
+ * @color_count: TRIRAST_TILE_ENTRIES(samples); or 1, and then that is the colour of all fragments.
+ * @depths: 0 to 65535 each, in the same order. With TRIRAST_DEPTH_ALWAYS and without depth_write they have no part.
+ * @depth_count: as color_count.
+ * @kept: the masks: a bit is 1 if the sample is blended. Those of pixels beside the picture are read too.
+ * @kept_count: TRIRAST_TILE_MASKS(samples); or 1, and then that mask is used for each 64 entries.
+ *
+ * Returns TRIRAST_STATUS_OK; or the first check that fails, then TRIRAST_STATUS_BAD_BATCH if a number of the state is
+ * out of its range, then TRIRAST_STATUS_BAD_TILE, then TRIRAST_STATUS_BUFFER_TOO_SMALL if a count is neither of its
+ * two. If the status is not TRIRAST_STATUS_OK, no sample is changed. */
+trirast_status trirast_canvas_tile_blend(trirast_canvas *canvas, uint32_t column, uint32_t row,
+                                         const trirast_draw *state, const uint32_t *colors, size_t color_count,
+                                         const uint16_t *depths, size_t depth_count, const uint64_t *kept,
+                                         size_t kept_count);
 
 /* ---- Edge functions ---- */
 

@@ -256,9 +256,10 @@ public:
     }
 
     /* How many tiles a tile row has, and how many entries a tile: one for each sample of its pixels, in the order of
-     * TRIRAST_TILE_ENTRIES. */
+     * TRIRAST_TILE_ENTRIES. For each 64 of them tile_blend has a mask. */
     std::uint32_t tile_columns() const noexcept { return (rows_.width + TRIRAST_TILE_SIZE - 1) / TRIRAST_TILE_SIZE; }
     std::size_t tile_entries() const noexcept { return TRIRAST_TILE_ENTRIES(samples()); }
+    std::size_t tile_masks() const noexcept { return TRIRAST_TILE_MASKS(samples()); }
 
     /* Writes the ids of all samples of one tile to tile_entries() entries. Returns those that were written: one
      * if all blocks of the tile are stored as cleared and have one id, as after clear. */
@@ -274,6 +275,17 @@ public:
     void tile_store(std::uint32_t column, std::uint32_t row, Span<const std::uint32_t> colors) {
         detail::check(trirast_canvas_tile_store(&rows_, column, row, colors.data(), colors.size()),
                       detail::TileValues{rows_, column, row, colors.size(), "1 or "});
+    }
+
+    /* Blends a fragment with each kept sample of one tile, as drawing does with a sample that a triangle covers: by the
+     * depth test, depth_write, keep and blend of the state. Colours, with alpha in the upper byte, and depths are
+     * ordered as tile_ids writes ids, and bit k of mask n is of entry 64 * n + k. One of them stands for all. */
+    void tile_blend(std::uint32_t column, std::uint32_t row, const State &state, Span<const std::uint32_t> colors,
+                    Span<const std::uint16_t> depths, Span<const std::uint64_t> kept) {
+        const trirast_draw draw = detail::draw_in_c(state);
+        detail::check(trirast_canvas_tile_blend(&rows_, column, row, &draw, colors.data(), colors.size(), depths.data(),
+                                                depths.size(), kept.data(), kept.size()),
+                      detail::BlendValues{rows_, column, row, colors.size(), depths.size(), kept.size()});
     }
 
 protected:

@@ -107,6 +107,21 @@ struct TileValues {
     }
 };
 
+/* Those of a call that blends fragments with a tile: how many colours, depths and masks it got. */
+struct BlendValues {
+    const trirast_canvas &rows;
+    std::uint32_t column, row;
+    std::size_t colors, depths, kept;
+
+    std::string operator()(trirast_status status) const {
+        const std::size_t masks = TRIRAST_TILE_MASKS(rows.samples), entries = TRIRAST_TILE_ENTRIES(rows.samples);
+        const auto fits = [](std::size_t count, std::size_t all) { return count == 1 || count == all; };
+        if (status == TRIRAST_STATUS_BUFFER_TOO_SMALL && fits(colors, entries) && fits(depths, entries))
+            return refused("1 or " + std::to_string(masks) + " masks", kept);
+        return TileValues{rows, column, row, fits(colors, entries) ? depths : colors, "1 or "}(status);
+    }
+};
+
 /* A number of 1/256 pixel in pixels, exactly. */
 inline std::string in_pixels(std::int64_t units) {
     char text[32];

@@ -411,6 +411,7 @@ void compare_canvases(void) {
     compare_alpha();
     compare_samples();
     compare_shading();
+    compare_tile_blends();
     compare_polygons();
     compare_refused_canvases();
 }

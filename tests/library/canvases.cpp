@@ -334,6 +334,37 @@ static void compare_tiles() {
            "a tile that there is not and too few entries are refused");
 }
 
+static void compare_tile_blends() {
+    Canvas canvas = cleared();
+    canvas.tile_store(0, 1, std::vector<std::uint32_t>(1, 0x030201));
+    const std::vector<std::uint32_t> colors(1, 0xFF0A0B0C);
+    const std::vector<std::uint16_t> depths(1, 5);
+    std::vector<std::uint64_t> kept(canvas.tile_masks());
+    trirast::State nearer;
+    nearer.depth_test = TRIRAST_DEPTH_LESS, nearer.depth_write = true, nearer.keep = TRIRAST_KEEP_GREEN;
+    // Sample 3 of the first pixel.
+    kept[3] = 1;
+    canvas.tile_blend(0, 1, nearer, colors, depths, kept);
+    const std::size_t pixel = 64 * 100;
+    report(kept.size() == 4 * 64 && canvas.ids(3)[pixel] == 0x0A020C && canvas.depths(3)[pixel] == 5,
+           "a kept sample of a tile takes the fragment by the state");
+    report(canvas.ids(2)[pixel] == 0x030201 && canvas.ids(3)[pixel + 1] == 0x030201 && canvas.depths(2)[pixel] != 5,
+           "and no other one does");
+    kept.resize(2);
+    report(throws(TRIRAST_STATUS_BAD_TILE, [&] { canvas.tile_blend(2, 0, nearer, colors, depths, kept); },
+                  ": expected column 0 to 1 and row 0 to 3, got 2 and 0") &&
+               throws(TRIRAST_STATUS_BUFFER_TOO_SMALL,
+                      [&] { canvas.tile_blend(0, 0, nearer, {}, std::vector<std::uint16_t>(2), kept); },
+                      ": expected 1 or 16384 entries, got 0") &&
+               throws(TRIRAST_STATUS_BUFFER_TOO_SMALL,
+                      [&] { canvas.tile_blend(0, 0, nearer, colors, std::vector<std::uint16_t>(2), kept); },
+                      ": expected 1 or 16384 entries, got 2") &&
+               throws(TRIRAST_STATUS_BUFFER_TOO_SMALL,
+                      [&] { canvas.tile_blend(0, 0, nearer, colors, depths, kept); },
+                      ": expected 1 or 256 masks, got 2"),
+           "and too few fragments or masks are refused");
+}
+
 // ---- Draw lists
 
 static void compare_lists() {
@@ -591,6 +622,7 @@ int main() {
     compare_polygons();
     compare_refused_polygons();
     compare_tiles();
+    compare_tile_blends();
     compare_lists();
     compare_threads();
     compare_errors();

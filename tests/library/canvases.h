@@ -31,6 +31,9 @@ void compare_samples(void);
 // Colours of one sample index and of one tile, in shading.c.
 void compare_shading(void);
 
+// Fragments that are blended with one tile, in tile_blends.c.
+void compare_tile_blends(void);
+
 // Polygons, in polygons.c.
 void compare_polygons(void);
 

@@ -18,8 +18,8 @@ from tools.places import INCLUDE, LEVEL, LIB, SECOND_LEVEL, SHARED_LIBRARY, STAT
 SOURCES = os.path.join(TOP, "tests", "library")
 # The parts of the test but the way in which allocations fail.
 PARTS = (
-    "main", "cases", "scenes", "canvases", "samples", "shading", "polygons", "refused_canvases", "large_batch",
-    "histories", "stack",
+    "main", "cases", "scenes", "canvases", "samples", "shading", "tile_blends", "polygons", "refused_canvases",
+    "large_batch", "histories", "stack",
 )
 WAYS = (
     "pictures", "rows", "buffers", "refused", "messages", "odd", "canvases", "large", "histories", "threads", "stack",

@@ -4,7 +4,7 @@
 
 #include "canvases.h"
 
-enum { CALLS = 13, BROKEN = 28, BROKEN_PIECES = 8, SHORT = 30, BROKEN_BATCHES = 47, BY_IDS = 3, WRONG_SIZES = 11 };
+enum { CALLS = 14, BROKEN = 28, BROKEN_PIECES = 8, SHORT = 30, BROKEN_BATCHES = 47, BY_IDS = 3, WRONG_SIZES = 11 };
 
 // ---- Canvases -------------------------------------------------------------------------------------------------------
 
@@ -67,13 +67,16 @@ static trirast_status call_on(int call, trirast_canvas *canvas, const quad *all,
     case 8: return trirast_canvas_store(canvas, 3, TRIRAST_FORMAT_RGBA8, bytes, buffer->size, 4 * WIDTH);
     case 9: return trirast_canvas_tile_ids(canvas, 0, 0, bytes, buffer->size / 4, &(uint32_t){9});
     case 10: return trirast_canvas_tile_store(canvas, 0, 0, bytes, buffer->size / 4);
-    case 11: return trirast_canvas_draw_polygons(canvas, &no_polygons, scratch, sizeof scratch, error);
+    case 11:
+        return trirast_canvas_tile_blend(canvas, 0, 0, all->draws, bytes, buffer->size / 4, &(uint16_t){9}, 1,
+                                         &(uint64_t){UINT64_MAX}, 1);
+    case 12: return trirast_canvas_draw_polygons(canvas, &no_polygons, scratch, sizeof scratch, error);
     default: return trirast_canvas_draw_polygon_ids(canvas, &no_polygons, 0, scratch, sizeof scratch, error);
     }
 }
 
 // Whether a call writes an error.
-static int writes_error(int call) { return call == 2 || call == 3 || call >= 11; }
+static int writes_error(int call) { return call == 2 || call == 3 || call >= 12; }
 
 static int is_unchanged(const quad *all, const marked *buffer) {
     return holds_just(&all->made.memory, NULL, 0) && holds_just(buffer, NULL, 0);
@@ -108,7 +111,7 @@ static void compare_no_rows(void) {
             canvas.first = canvas.end = row, canvas.memory = NULL, canvas.plane_count = 0;
             const marked none = {NULL, NULL, 0};
             trirast_status status = call_on(call, &canvas, &all, call ? &none : &buffer, &error);
-            trirast_status due = call == 9 || call == 10 ? TRIRAST_STATUS_BAD_TILE : TRIRAST_STATUS_OK;
+            trirast_status due = call >= 9 && call <= 11 ? TRIRAST_STATUS_BAD_TILE : TRIRAST_STATUS_OK;
             expect(status == due && is_unchanged(&all, &buffer), "row %u, call %d: status %u, or a change", row, call,
                    status);
             free(buffer.all), free(all.made.memory.all);

@@ -7,11 +7,12 @@ use Rattle.canvas.specs.declared.tile_rows.TileRows.{TileRows as Rows}
 use Rattle.canvas.specs.Layout.{HasTile}
 use Rattle.readout.specs.Tiles.{IsTileMisfit, IsIdCount, AreTileIds}
 use Rattle.readout.proofs.TileEntries.{many_entries}
-use Rattle.checks.specs.Checking.{done, check, followed_by, Pass, FirstIs}
+use Rattle.checks.specs.Checking.{Checks, done, check, followed_by, Pass, FirstIs}
 use Rattle.checks.proofs.Checking.{pass_both, fails_later}
+use Rattle.c_abi.specs.declared.status.Status.{Status}
 use Rattle.c_abi.specs.declared.status.Status.TheVariants.{BufferTooSmall, BadTile}
 use Rattle.canvas_c.specs.declared.piece.CanvasHead.{CanvasHead}
-use Rattle.canvas_c.specs.Pieces.{AreRowsOf, piece_checks}
+use Rattle.canvas_c.specs.Pieces.{AreRowsOf}
 use Rattle.canvas_c.specs.Samples.{NamesTile, status_for, AreIdsOfTile}
 
 module _ (head : CanvasHead) (rows : Rows) (are : AreRowsOf head rows) (column row : ℕ) where
@@ -21,15 +22,15 @@ module _ (head : CanvasHead) (rows : Rows) (are : AreRowsOf head rows) (column r
   pub named_tile : NamesTile head column row → HasTile rows.canvas rows.first rows.end column row
   named_tile h = record { wide = rw are.width h.wide; from = rw are.first h.from; below = rw are.end h.below }
 
-  module _ (planes : ℕ) (Room Fit : Type 0) (pass : Pass (piece_checks head planes)) where
-    pub tile_fits : HasTile rows.canvas rows.first rows.end column row → Room → Pass (followed_by (piece_checks head planes) (check (NamesTile head column row) BadTile (check Room BufferTooSmall done)))
-    tile_fits h room = pass_both (piece_checks head planes) (check (NamesTile head column row) BadTile (check Room BufferTooSmall done)) pass (tile_named h, (room, tt))
+  module _ (before : Checks Status) (Room Fit : Type 0) (pass : Pass before) where
+    pub tile_fits : HasTile rows.canvas rows.first rows.end column row → Room → Pass (followed_by before (check (NamesTile head column row) BadTile (check Room BufferTooSmall done)))
+    tile_fits h room = pass_both before (check (NamesTile head column row) BadTile (check Room BufferTooSmall done)) pass (tile_named h, (room, tt))
 
     -- what does not fit is reported by the first check that fails
     pub tile_fails : (misfit : Misfit) → (Room → Fit) → IsTileMisfit rows.canvas rows.first rows.end column row Fit misfit
-        → FirstIs (followed_by (piece_checks head planes) (check (NamesTile head column row) BadTile (check Room BufferTooSmall done))) (status_for misfit)
+        → FirstIs (followed_by before (check (NamesTile head column row) BadTile (check Room BufferTooSmall done))) (status_for misfit)
     tile_fails misfit into reason =
-        fails_later (piece_checks head planes) (check (NamesTile head column row) BadTile (check Room BufferTooSmall done)) (status_for misfit) pass
+        fails_later before (check (NamesTile head column row) BadTile (check Room BufferTooSmall done)) (status_for misfit) pass
         (elim reason [
           | inl none ↦ inl ((λ named. none.1 (named_tile named)), sym (ap status_for none.0))
           | inr small ↦ inr (tile_named small.1, inl ((λ room. small.2 (into room)), sym (ap status_for small.0)))

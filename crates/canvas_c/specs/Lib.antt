@@ -30,6 +30,8 @@
 --   entries_in_tile: How many entries a tile of the canvas has.
 --   tile_ids_checks: The samples of a tile are read to `size` entries.
 --   tile_store_checks: Colours are stored in a tile: one for each sample, or one for all of them.
+--   tile_blend_checks: Fragments are merged with the samples of a tile by this state.
+--   merge_listed: How a fragment is merged with a sample by this state, on a canvas that has alpha or not.
 --   ids_written: How many ids are written of a tile, by what is said of it.
 --   AreIdsOfTile: The ids of a tile's samples are written, or one if all of its blocks are cleared and have one id, which `uniform` says.
 --   status_for: The status of a call for a tile that does not fit.

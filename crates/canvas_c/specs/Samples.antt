@@ -1,7 +1,8 @@
 -- The checks of calls that read or store the colours of one sample index, and the samples of one tile.
 use Rattle.std.specs.Prelude.{◌≡◌, ◌⊎◌, ℕ, ◌+◌, ◌*◌, ◌/◌, ◌<◌, ◌≤◌, ◌==◌, if◌then◌else◌, List, take, slice_index}
-use Rattle.checks.specs.Checking.{Checks, done, check, followed_by}
+use Rattle.checks.specs.Checking.{Checks, done, check, followed_by, Pass}
 use Rattle.grid.specs.Samples.{count_of, pattern_of}
+use Rattle.shade.specs.declared.sample.Merge.{Merge}
 use Rattle.lanes.specs.declared.block_samples.BlockSamples.{BlockSamples}
 use Rattle.canvas.specs.declared.canvas.Canvas.{Canvas}
 use Rattle.readout.specs.declared.misfit.Misfit.{Misfit}
@@ -9,10 +10,14 @@ use Rattle.readout.specs.declared.misfit.Misfit.TheVariants.{Pixels, Sample, Til
 use Rattle.readout.specs.Pixels.{pixel_bytes}
 use Rattle.canvas.specs.Tiles.{IsUniform}
 use Rattle.readout.specs.Tiles.{tile_entries, AreTileIds}
+use Rattle.batch.specs.declared.draw.BatchDraw.{BatchDraw}
+use Rattle.batch.specs.Listed.{state_listed}
+use Rattle.batch.specs.States.{state_checks}
+use Rattle.tile_blend.specs.Fragments.{AreFragments}
 use Rattle.c_abi.specs.declared.status.Status.{Status}
-use Rattle.c_abi.specs.declared.status.Status.TheVariants.{BufferTooSmall, BadFormat, BadSample, BadTile}
+use Rattle.c_abi.specs.declared.status.Status.TheVariants.{BufferTooSmall, BadBatch, BadFormat, BadSample, BadTile}
 use Rattle.canvas_c.specs.declared.piece.CanvasHead.{CanvasHead}
-use Rattle.canvas_c.specs.Pieces.{HasRoom, IsFormat, format_of, stride_of, piece_checks}
+use Rattle.canvas_c.specs.Pieces.{HasRoom, IsFormat, format_of, has_alpha, stride_of, piece_checks}
 
 -- The colours of one sample index are read or written in `size` bytes, whose rows begin `stride` bytes behind each other.
 abbrev pub colours_checks : CanvasHead → ℕ → ℕ → ℕ → ℕ → ℕ → Checks Status
@@ -48,6 +53,19 @@ tile_store_checks head planes column row size =
     check (NamesTile head column row) BadTile (
     check ((size ≡ 1) ⊎ (size ≡ entries_in_tile head)) BufferTooSmall
     done))
+
+-- Fragments are merged with the samples of a tile by this state.
+abbrev pub tile_blend_checks : CanvasHead → ℕ → ℕ → ℕ → BatchDraw → ℕ → ℕ → ℕ → Checks Status
+tile_blend_checks head planes column row state colours depths kept =
+    followed_by (piece_checks head planes) (
+    check (Pass (state_checks state)) BadBatch (
+    check (NamesTile head column row) BadTile (
+    check (AreFragments (pattern_of head.samples) colours depths kept) BufferTooSmall
+    done)))
+
+-- How a fragment is merged with a sample by this state, on a canvas that has alpha or not.
+abbrev pub merge_listed : CanvasHead → BatchDraw → Merge
+merge_listed head state = (state_listed (has_alpha head) state).merge
 
 -- How many ids are written of a tile, by what is said of it.
 abbrev pub ids_written : Canvas → ℕ → ℕ

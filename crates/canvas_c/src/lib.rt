@@ -13,6 +13,7 @@ mod polygon_batches;
 mod polygon_boxes;
 mod sample_colours;
 mod scratch;
+mod tile_blends;
 mod tiles;
 mod weights;
 
@@ -29,5 +30,6 @@ pub use polygon_batches::{
 pub use polygon_boxes::trirast_proved_polygons_measure;
 pub use sample_colours::{trirast_canvas_colors, trirast_canvas_store};
 pub use scratch::{ScratchLayout, trirast_proved_polygons_scratch};
+pub use tile_blends::trirast_canvas_tile_blend;
 pub use tiles::{trirast_canvas_tile_ids, trirast_canvas_tile_store};
 pub use weights::{Corners, Edges, trirast_edges_at_point};

@@ -12,7 +12,7 @@ use lanes::BlockSamples;
 use readout::{Misfit, View, tile_store};
 
 /// The status of a call for a tile that does not fit.
-fn status_for_tile(misfit: Misfit) -> Status
+pub(crate) fn status_for_tile(misfit: Misfit) -> Status
     ensures { result ≡ status_for misfit }
 {
     match misfit {

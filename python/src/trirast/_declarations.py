@@ -187,6 +187,7 @@ STATUSES: Dict[str, List[Any]] = {
     "trirast_canvas_store": [to(CCanvas), WORD, WORD, POINTER, COUNT, COUNT],
     "trirast_canvas_tile_ids": [to(CCanvas), WORD, WORD, POINTER, COUNT, to(WORD)],
     "trirast_canvas_tile_store": [to(CCanvas), WORD, WORD, POINTER, COUNT],
+    "trirast_canvas_tile_blend": [to(CCanvas), WORD, WORD, to(CDraw), POINTER, COUNT, POINTER, COUNT, POINTER, COUNT],
     "trirast_edges_at_point": [to(CCorners), SIGNED, SIGNED, to(CEdges)],
     "trirast_edges_at": [to(CCorners), POINTER, COUNT, COUNT, POINTER],
     "trirast_list_info": [TEXT, COUNT, to(CImageInfo), to(CError)],

@@ -575,6 +575,18 @@ extern "C" {
         colors: *const u32,
         count: usize,
     ) -> u32;
+    pub fn trirast_canvas_tile_blend(
+        canvas: *mut trirast_canvas,
+        column: u32,
+        row: u32,
+        state: *const trirast_draw,
+        colors: *const u32,
+        color_count: usize,
+        depths: *const u16,
+        depth_count: usize,
+        kept: *const u64,
+        kept_count: usize,
+    ) -> u32;
     pub fn trirast_edges_at_point(corners: *const trirast_corners, x: i32, y: i32, edges: *mut trirast_edges) -> u32;
     pub fn trirast_edges_at(
         corners: *const trirast_corners,

@@ -5,7 +5,7 @@ use trirast_sys as sys;
 use crate::error::done;
 use crate::parts::ROW_PIXELS;
 use crate::values::Values;
-use crate::{Error, ErrorKind, TileRows};
+use crate::{Error, ErrorKind, State, TileRows};
 
 /// The width and height of a tile of a canvas, in pixels.
 pub const CANVAS_TILE_SIZE: u32 = ROW_PIXELS;
@@ -85,6 +85,47 @@ impl TileRows<'_> {
         // SAFETY: as for tile_ids.
         done(unsafe { sys::trirast_canvas_tile_store(&mut self.raw, column, row, colors.as_ptr(), colors.len()) })
             .map_err(|error| self.explain(error, [column, row], colors.len(), true))
+    }
+
+    /// Blends a fragment with each sample of one tile that the masks keep, as drawing does with a sample that a
+    /// triangle covers: by `depth_test`, `depth_write`, `keep` and `blend` of the state. Other samples are unchanged.
+    ///
+    /// Colours are red + 256 * green + 65536 * blue + 16777216 * alpha each. Colours and depths are ordered as
+    /// [`tile_ids`](TileRows::tile_ids) writes ids; bit k of mask n is of entry 64 * n + k. One colour, depth or mask
+    /// stands for all.
+    ///
+    /// # Errors
+    ///
+    /// `BadTile` if these tile rows have no such tile, or `BufferTooSmall` unless there are as many colours and depths
+    /// as a tile has entries, and a mask for 64 of them, or one.
+    pub fn tile_blend(
+        &mut self,
+        column: u32,
+        row: u32,
+        state: State,
+        colors: &[u32],
+        depths: &[u16],
+        kept: &[u64],
+    ) -> Result<(), Error> {
+        let draw = state.raw(0, 0);
+        let entries = self.tile_entries();
+        let wrong = [colors.len(), depths.len()].into_iter().find(|&count| count != 1 && count != entries);
+        // SAFETY: as for tile_ids.
+        done(unsafe {
+            sys::trirast_canvas_tile_blend(
+                &mut self.raw,
+                column,
+                row,
+                &draw,
+                colors.as_ptr(),
+                colors.len(),
+                depths.as_ptr(),
+                depths.len(),
+                kept.as_ptr(),
+                kept.len(),
+            )
+        })
+        .map_err(|error| self.explain(error, [column, row], wrong.unwrap_or(64 * kept.len()), true))
     }
 
     /// An error of a call on a tile and as many entries, with its values.

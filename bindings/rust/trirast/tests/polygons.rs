@@ -159,6 +159,24 @@ fn reads_and_stores_tiles() {
 }
 
 #[test]
+fn blends_kept_samples_of_a_tile() {
+    let mut canvas = cleared();
+    let state = State::new().blend(Blend::OVER);
+    let (mut kept, colors) = (vec![0; canvas.tile_entries() / 64], [0x80ff_0000]);
+    // Sample 3 of pixel 1.
+    kept[3] = 2;
+    canvas.tile_blend(0, 1, state, &colors, &[0], &kept).unwrap();
+    let blended = |sample: u32, pixel: usize| canvas.ids(sample).unwrap()[64 * 4 + pixel];
+    assert_eq!((blended(3, 1), blended(3, 0), blended(2, 1)), (0x00ff_7f7f, WHITE, WHITE));
+    assert_eq!(canvas.tile_blend(1, 0, state, &colors, &[0], &kept).unwrap_err().kind(), ErrorKind::BadTile);
+    for (colors, depths, masks) in [(0, 1, 1), (1, 0, 1), (1, 1, 0), (2, 1, 256), (1, 16_383, 256), (1, 1, 255)] {
+        let (colors, depths) = (vec![0; colors], vec![0; depths]);
+        let error = canvas.tile_blend(0, 0, state, &colors, &depths, &vec![0; masks]).unwrap_err();
+        assert_eq!(error.kind(), ErrorKind::BufferTooSmall);
+    }
+}
+
+#[test]
 fn refuses_tiles_that_there_are_not() {
     let mut canvas = cleared();
     let mut entries = vec![5; canvas.tile_entries() + 1];

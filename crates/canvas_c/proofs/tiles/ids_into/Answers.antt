@@ -25,7 +25,7 @@ returns-in-Ok-clause-judged c =
     let size : ℕ = length c.args.ids.now in
     let judged = c.in_ok-rows.ensures.judged in
     let fits : FitTile rows.canvas rows.first rows.end c.args.column c.args.row size = rw c.of.ensures.rows at c.in-Ok.ensures.fits.0 refl in (
-      tile_fits head rows judged.1 c.args.column c.args.row planes (entries_in_tile head ≤ size) (tile_entries rows.canvas.count ≤ size) judged.0 fits.0 (rw judged.1.count at fits.1),
+      tile_fits head rows judged.1 c.args.column c.args.row (piece_checks head planes) (entries_in_tile head ≤ size) (tile_entries rows.canvas.count ≤ size) judged.0 fits.0 (rw judged.1.count at fits.1),
       record {
         rows = rows;
         are = judged.1;
@@ -43,4 +43,4 @@ returns-in-Err-clause-judged c =
     let judged = c.in_ok-rows.ensures.judged in
     let reason : IsTileMisfit rows.canvas rows.first rows.end c.args.column c.args.row (tile_entries rows.canvas.count ≤ size) c.in-Err.misfit = rw c.of.ensures.rows at c.in-Err.ensures.reason in
     rw c.status_for_tile.ensures
-    (tile_fails head rows judged.1 c.args.column c.args.row planes (entries_in_tile head ≤ size) (tile_entries rows.canvas.count ≤ size) judged.0 c.in-Err.misfit (λ room. rw judged.1.count room) reason)
+    (tile_fails head rows judged.1 c.args.column c.args.row (piece_checks head planes) (entries_in_tile head ≤ size) (tile_entries rows.canvas.count ≤ size) judged.0 c.in-Err.misfit (λ room. rw judged.1.count room) reason)

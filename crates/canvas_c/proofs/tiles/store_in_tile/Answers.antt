@@ -26,7 +26,7 @@ returns-in-Ok-clause-judged c =
     let size : ℕ = length c.args.colours.now in
     let judged = c.in_ok-rows.ensures.judged in
     let fits : FitTileOrOne rows.canvas rows.first rows.end c.args.column c.args.row size = rw c.over-piece.ensures.rows at c.in-Ok.ensures.fits.0 refl in
-    (tile_fits head rows judged.1 c.args.column c.args.row planes ((size ≡ 1) ⊎ (size ≡ entries_in_tile head)) ((size ≡ 1) ⊎ (size ≡ tile_entries rows.canvas.count)) judged.0 fits.0 (rw judged.1.count at fits.1), tt)
+    (tile_fits head rows judged.1 c.args.column c.args.row (piece_checks head planes) ((size ≡ 1) ⊎ (size ≡ entries_in_tile head)) ((size ≡ 1) ⊎ (size ≡ tile_entries rows.canvas.count)) judged.0 fits.0 (rw judged.1.count at fits.1), tt)
 
 pub returns-in-Ok-clause-stored : goal.returns-in-Ok-clause-stored
 returns-in-Ok-clause-stored c =
@@ -46,4 +46,4 @@ returns-in-Err-clause-judged c =
     let judged = c.in_ok-rows.ensures.judged in
     let reason : IsTileMisfit rows.canvas rows.first rows.end c.args.column c.args.row ((size ≡ 1) ⊎ (size ≡ tile_entries rows.canvas.count)) c.in-Err.misfit = rw c.over-piece.ensures.rows at c.in-Err.ensures.reason in
     rw c.status_for_tile.ensures
-    (tile_fails head rows judged.1 c.args.column c.args.row planes ((size ≡ 1) ⊎ (size ≡ entries_in_tile head)) ((size ≡ 1) ⊎ (size ≡ tile_entries rows.canvas.count)) judged.0 c.in-Err.misfit (λ room. rw judged.1.count room) reason)
+    (tile_fails head rows judged.1 c.args.column c.args.row (piece_checks head planes) ((size ≡ 1) ⊎ (size ≡ entries_in_tile head)) ((size ≡ 1) ⊎ (size ≡ tile_entries rows.canvas.count)) judged.0 c.in-Err.misfit (λ room. rw judged.1.count room) reason)

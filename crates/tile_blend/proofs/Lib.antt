@@ -1,0 +1,4 @@
+pub mod Planes
+pub mod Numbered
+pub mod Blocks
+pub mod Rows
