@@ -3,8 +3,8 @@ sample, and mutants of the headers.
 
     python3 -m pytest tests/frame [-m 'long or not long']
 
-It needs g++. clang++, and for ARM64 aarch64-linux-gnu-g++ and qemu-aarch64-static are used if they are there. What it
-builds is left in out/check-frame/.
+It needs g++. clang++ and what builds and runs programs for Windows, ARM64 and RISC-V are used if they are there. What
+it builds is left in out/check-frame/.
 """
 
 from __future__ import annotations
@@ -22,6 +22,7 @@ from tests.cases import Case, MissingError, case, must
 from tests.frame import bsp_map
 from tests.library.arm64 import QEMU
 from tests.library.commands import WARNINGS, need, run
+from tests.library.runners import RUNNERS
 from tests.library.sanitized import SANITIZERS
 from tests.mutants import Mutant
 from tools.places import EXAMPLES, INCLUDE, STATIC_LIBRARY, TOP
@@ -82,8 +83,8 @@ def built(compiler: str, *flags: str, include: str = INCLUDE, name: str = "") ->
     return path
 
 
-def outcome(program: str) -> tuple[int, str]:
-    done = subprocess.run([program], stdout=subprocess.PIPE, text=True, timeout=cases.MAX_SECONDS)
+def outcome(*command: str) -> tuple[int, str]:
+    done = subprocess.run(command, stdout=subprocess.PIPE, text=True, timeout=cases.MAX_SECONDS)
     return done.returncode, done.stdout
 
 
@@ -102,6 +103,17 @@ def check_arm64(*flags: str) -> None:
     """ARM64 draws the frame of x86-64."""
     qemu, program = need(QEMU), built(ARM64, OFF, "-O1", "-static", *flags)
     must(run([qemu, program, "--bytes"]) == run([built(*COMPILERS[0]), "--bytes"]), "other bytes")
+
+
+def check_elsewhere(platform: str) -> None:
+    """Frames and layers are as they have to be over the library of another platform, and have the same bytes."""
+    runner, program = RUNNERS[platform], os.path.join(OUT, f"{platform}.exe")
+    folders = [f"-I{folder}" for folder in (os.path.join(EXAMPLES, "cpp"), SHADE)]
+    runner.build(program, [SOURCE], (*STRICT, OFF, "-O1", *folders))
+    command = runner.command(program)
+    status, text = outcome(*command)
+    must(status == 0 and text == "all hold\n", f"status {status}: {text}")
+    must(run([*command, "--bytes"]) == run([built(*COMPILERS[0]), "--bytes"]), "other bytes")
 
 
 def check_level() -> str:
@@ -167,6 +179,8 @@ CASES = [
     *(case(f"the same bytes: {' '.join(each)}", check_bytes, *each, is_long=k >= SHORT_COMPILERS)
       for k, each in enumerate(COMPILERS) if k > 0),
     case("the same bytes: ARM64", check_arm64, is_long=True),
+    case("frames and layers, by Wine", check_elsewhere, "windows-x86_64"),
+    case("frames and layers, for RISC-V by qemu", check_elsewhere, "linux-riscv64", is_long=True),
     *mutants.cases(mutants.listed("tests", "frame", "mutants.edits"), found_by, SHORT_MUTANTS),
 ]
 

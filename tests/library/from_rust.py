@@ -26,6 +26,8 @@ INPUTS = {
     "TRIRAST_LISTS": os.path.join(OUT, "lists", "all.txt"),
     **{f"TRIRAST_{name}": os.path.join(OUT, name.lower()) for name in ("PYTHON_SCENES", "CLIP_TASKS", "CLIP_ANSWERS")},
 }
+# The case that writes them.
+WRITTEN = "Rust: scenes by Python and clipping in C are written"
 
 
 def check_version() -> None:
@@ -124,9 +126,8 @@ def check_floor() -> str:
 def cases() -> Iterator[Case]:
     yield case("Rust: the crates have the repository's version", check_version)
     yield case("Rust: trirast-sys declares what the header does", check_declared)
-    written = "Rust: scenes by Python and clipping in C are written"
-    yield case(written, write_inputs)
+    yield case(WRITTEN, write_inputs)
     for kind in ("static", "shared"):
-        yield case(f"Rust: cargo test over the {kind} library", check_kind, kind, needs=written)
+        yield case(f"Rust: cargo test over the {kind} library", check_kind, kind, needs=WRITTEN)
     yield case("examples/rust: polygons", check_polygons)
     yield case("examples/rust: floor", check_floor)

@@ -28,19 +28,24 @@ class Runner:
     def static(self) -> str:
         return os.path.join(self.folder, "libtrirast.a")
 
-    def must_be_there(self) -> None:
-        """Raises `MissingError` if the machine lacks the library, a compiler, or what starts a program."""
-        for name in (*self.compilers, *self.starter[-1:]):
+    def compiler_of(self, source: str) -> str:
+        return self.compilers[source.endswith(".cpp")]
+
+    def must_be_there(self, source: str = "") -> None:
+        """Raises `MissingError` if the machine lacks the library, the compiler of a source, or what starts a
+        program."""
+        for name in (self.compiler_of(source), *self.starter[-1:]):
             need(name)
         if not os.path.exists(self.static):
             raise MissingError(os.path.relpath(self.static, TOP))
 
     def build(self, program: str, sources: Sequence[str], flags: Sequence[str], library: str = "") -> None:
         """Builds a program, over the static library if no other is named."""
-        self.must_be_there()
+        self.must_be_there(sources[0])
         os.makedirs(os.path.dirname(program), exist_ok=True)
-        compiler = self.compilers[sources[0].endswith(".cpp")]
-        run([compiler, *flags, "-I", INCLUDE, "-pthread", "-o", program, *sources, *self.more, library or self.static])
+        compiler = self.compiler_of(sources[0])
+        words = ["-I", INCLUDE, "-pthread", "-o", program, *sources, *self.more, library or self.static, "-lm"]
+        run([compiler, *flags, *words])
 
     def command(self, program: str) -> list[str]:
         return [*self.starter, program]
@@ -48,8 +53,8 @@ class Runner:
 
 def under_qemu(processor: str, folder: str) -> Runner:
     """A processor of Linux. Its programs hold the C library too."""
-    gcc = f"{processor}-linux-gnu-gcc"
-    return Runner((gcc, gcc), folder, (f"qemu-{processor}-static",), ("-static",))
+    compilers = f"{processor}-linux-gnu-gcc", f"{processor}-linux-gnu-g++"
+    return Runner(compilers, folder, (f"qemu-{processor}-static",), ("-static",))
 
 
 RUNNERS = {

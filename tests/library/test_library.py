@@ -18,7 +18,9 @@ import pytest
 
 from tests.cases import Case, case
 from tests import cases
-from tests.library import arm64, canvas_examples, elsewhere, examples, from_python, from_rust, in_c, install
+from tests.library import (
+    arm64, canvas_examples, elsewhere, examples, from_python, from_rust, in_c, install, microsoft, rust_on_windows
+)
 from tests.library.commands import OUT
 from tests.library.lists import write_lists
 from tools.places import PROGRAM, SECOND_LEVEL, SHARED_LIBRARY, STATIC_LIBRARY, is_built
@@ -51,7 +53,7 @@ def example_cases() -> Iterator[Case]:
 
 CASES = [
     *in_c.library_cases(), *in_c.c_cases(), *in_c.cpp_cases(), *example_cases(), *from_python.cases(),
-    *from_rust.cases(), *arm64.cases(SEED), *elsewhere.cases(),
+    *from_rust.cases(), *arm64.cases(SEED), *elsewhere.cases(), *microsoft.cases(), *rust_on_windows.cases(),
     case("make install, pkg-config, a program outside, make uninstall", install.check_install),
     case("make install with DESTDIR", install.check_staged_install),
 ]

@@ -108,6 +108,13 @@ def check_metadata(platform: str) -> str:
     return f"{len(extras)} extras"
 
 
+def check_by_twine() -> str:
+    """twine finds nothing wrong with the metadata of any wheel: PyPI would show each description."""
+    paths = [path for path in map(wheel.path_of, wheel.TARGETS) if os.path.exists(path)]
+    run([need("twine"), "check", "--strict", *paths], env=clean_environment())
+    return f"{len(paths)} wheels"
+
+
 def check_install() -> None:
     """pip installs the wheel where nothing is but itself, without an index."""
     if importlib.util.find_spec("ensurepip") is None:
@@ -240,5 +247,6 @@ def cases() -> Iterator[Case]:
         yield case(f"wheel: pip installs that for {platform} in an empty folder", check_unpacked, platform, needs=built)
         if platform in ELSEWHERE:
             yield case(f"wheel: {platform} draws", check_draws_elsewhere, platform, needs=built)
+    yield case("wheel: twine finds nothing wrong", check_by_twine, needs="wheel: linux-x86_64, built twice the same")
     yield case("wheel: import trirast draws", check_draws, needs=installed)
     yield case("wheel: the first level draws", check_first_level, needs=installed)

@@ -267,9 +267,9 @@ CHECKS = (
         name="frame",
         about="frames tile by tile, materials and blended layers against one canvas; a walk through a level, with the "
         "same bytes for each number of threads; mutants",
-        command="pytest tests/frame", seconds=60,
-        long="-m 'long or not long'", long_seconds=420,
-        runs=("library",), needs=(*COMPILER, "g++"),
+        command="pytest tests/frame", seconds=75,
+        long="-m 'long or not long'", long_seconds=460,
+        runs=("library", "platforms"), needs=(*COMPILER, "g++"),
     ),
     Check(
         name="texture",
