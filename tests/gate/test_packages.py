@@ -95,6 +95,6 @@ def test_the_list_is_of_checks() -> None:
 
 
 def test_readme_names_what_is_needed() -> None:
-    (line,) = re.findall(r"`apt-get install (.*?)`", text_of("README.md"))
+    (line,) = re.findall(r"`apt-get install (.*?)`", text_of("README.md"), re.DOTALL)
     names = [package.name for package in (*packages.GOALS["test"].needed, *packages.GOALS["demo"].optional)]
     assert line.split() == ["make", *names]
