@@ -181,5 +181,4 @@ def cases() -> Iterator[Case]:
     windows = RUNNERS["windows-x86_64"].folder
     yield case(shared, build_test, "windows-x86_64", "by_dll", os.path.join(windows, "libtrirast.dll.a"))
     for way, manifest in WAYS:
-        is_long = way not in ("pictures", "canvases")
-        yield case(f"windows-x86_64, by the DLL: {way}", check_by_dll, way, manifest, needs=shared, is_long=is_long)
+        yield case(f"windows-x86_64, by the DLL: {way}", check_by_dll, way, manifest, needs=shared)
