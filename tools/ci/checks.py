@@ -233,8 +233,8 @@ CHECKS = (
         name="check-library",
         about="the library, the header, the packages for Python and Rust, and the examples, against the program, also "
         "with Wine and qemu",
-        command="pytest tests/library", seconds=460,
-        long="-m 'long or not long'", long_seconds=1100,
+        command="pytest tests/library", seconds=515,
+        long="-m 'long or not long'", long_seconds=1150,
         runs=(*INSTALLATION, "platforms"), needs=COMPILER,
     ),
     Check(
