@@ -12,6 +12,7 @@ from tools import places
 from tests.cases import MAX_SECONDS, Case, MissingError, case, must
 from tests.library import sanitized
 from tests.library.commands import OUT, SHARED, WARNINGS, must_be_silent, need, run
+from tools.interface.header import header
 from tools.packaging import sizes
 from tools.places import INCLUDE, LEVEL, LIB, SECOND_LEVEL, SHARED_LIBRARY, STATIC_LIBRARY, TOP
 
@@ -120,13 +121,7 @@ def symbols(path: str, *flags: str, tool: str) -> set[str]:
 
 def declared() -> set[str]:
     """The calls that the header declares, also those that it defines for C."""
-    header = places.text_of(INCLUDE, "trirast.h")
-    return set(
-        re.findall(
-            r"^(?:inline )?(?:trirast_status|trirast_proved_batch|uint32_t|size_t|const char) \*?(trirast_\w+)\(",
-            header, re.MULTILINE,
-        )
-    )
+    return set(header().functions)
 
 
 def check_exports(path: str, *flags: str, tool: str = "nm") -> str:
