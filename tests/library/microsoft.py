@@ -30,7 +30,8 @@ LISTS = ("triangle", "blending", "four_samples", "seam")
 def build() -> None:
     library = built("windows-x86_64/trirast_static.lib")
     make_anew(FOLDER)
-    words = ["/nologo", "/W4", "/WX", "/O2", "/GS-", "/c", f"/I{INCLUDE}", f"/Fo{FOLDER}/program.obj"]
+    warnings = ["/clang:-Wall", "/clang:-Wextra", "/WX"]
+    words = ["/nologo", *warnings, "/O2", "/GS-", "/c", f"/I{INCLUDE}", f"/Fo{FOLDER}/program.obj"]
     source = os.path.join(SOURCES, "microsoft.c")
     run([need("clang"), "--driver-mode=cl", f"--target={TRIPLE}", *words, "--", source])
     listed, imports, probe = (os.path.join(FOLDER, name) for name in ("calls.def", "calls.lib", "probe.obj"))
